@@ -46,9 +46,9 @@ object_of (ChangeChildPosition parent child x y) = Some parent
 object_of (ExecuteMacro id) = Some id
 
 -- the new value of an object pointer
-abbrev pub pointer_value : Option Kind → ℕ → List Target
-pointer_value (Some kinds.ObjectPointer) value = object_or_null (value % 65536) sets.AllButPointers ∷ []
-pointer_value kind value = []
+abbrev pub pointer_targets : Option Kind → ℕ → List Target
+pointer_targets (Some kinds.ObjectPointer) value = object_or_null (value % 65536) sets.AllButPointers ∷ []
+pointer_targets kind value = []
 
 -- the new value of a reference attribute
 abbrev pub referred : Kind → ValueType → ℕ → List Target
@@ -74,7 +74,7 @@ targets kind (SetVolume volume) = []
 targets kind (ChangeChildLocation parent child dx dy) = object parent sets.Parents ∷ object child sets.Drawn ∷ []
 targets kind (ChangeSize id width height) = object id sets.Sized ∷ []
 targets kind (ChangeBackgroundColour id colour) = object id sets.Coloured ∷ []
-targets kind (ChangeNumericValue id value) = object id sets.Numeric ∷ pointer_value kind value
+targets kind (ChangeNumericValue id value) = object id sets.Numeric ∷ pointer_targets kind value
 targets kind (ChangeEndPoint id width height direction) = object id sets.Lines ∷ []
 targets kind (ChangeFontAttributes id colour size type style) = object id sets.Fonts ∷ []
 targets kind (ChangeLineAttributes id colour width art) = object id sets.LineAttributes ∷ []

@@ -2,7 +2,7 @@
 
 ghost use Rattle.std.specs.Prelude.{◌≡◌, ◌++◌, Some};
 ghost use Rattle.std.specs.Option.{option_to_list};
-ghost use Rattle.vt_commands.specs.Targets.{object, object_or_null, object_of, pointer_value, attribute_target, targets};
+ghost use Rattle.vt_commands.specs.Targets.{object, object_or_null, object_of, pointer_targets, attribute_target, targets};
 
 use crate::attributes::attribute;
 use crate::command::Command;
@@ -120,7 +120,7 @@ fn object_or_null(id: ObjectId, kinds: Kinds) -> Option<Target>
 
 /// The new value of an object pointer, in Change Numeric Value.
 fn pointer_value(kind: Option<Kind>, value: u32) -> Option<Target>
-    ensures { option_to_list result ≡ pointer_value kind value }
+    ensures { option_to_list result ≡ pointer_targets kind value }
 {
     match kind? {
         Kind::ObjectPointer => {

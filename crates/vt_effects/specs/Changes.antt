@@ -25,7 +25,7 @@ use Rattle.vt_kinds.specs.Scales.{scale_at}
 use Rattle.vt_kinds.specs.Texts.{filled_up}
 use Rattle.vt_stores.specs.Shapes.{fixed}
 use Rattle.vt_effects.specs.Errors as errors
-use Rattle.vt_effects.specs.Fields.{byte, word, with_field, with_fields}
+use Rattle.vt_effects.specs.Fields.{low_byte, low_word, with_field, with_fields}
 
 -- the error byte with one bit set
 abbrev pub bit : ℕ → ℕ
@@ -82,8 +82,8 @@ fits_record c = is_position c.x && is_position c.y
 abbrev pub moved : ℤ → ℕ → ℤ
 moved x by = x +ℤ pos by -ℤ pos 127
 
-abbrev pub shifted : ℕ → ℕ → Child → Child
-shifted dx dy c = record c { x = moved c.x dx; y = moved c.y dy }
+abbrev pub moved_child : ℕ → ℕ → Child → Child
+moved_child dx dy c = record c { x = moved c.x dx; y = moved c.y dy }
 
 abbrev pub placed : ℤ → ℤ → Child → Child
 placed x y c = record c { x = x; y = y }
@@ -98,7 +98,7 @@ move_child child move children = map (child_at child move) children
 
 -- whether an entry of the child gets a position outside the range of a record
 abbrev pub leaves : ℕ → ℕ → ℕ → List Child → Bool
-leaves child dx dy children = list_any (λ c. c.id == child && not (fits_record (shifted dx dy c))) children
+leaves child dx dy children = list_any (λ c. c.id == child && not (fits_record (moved_child dx dy c))) children
 
 -- The tests after that of the parent, in order: whether the child exists, and whether it is in the parent's list.
 abbrev pub for_child : ℕ → Option Kind → List Child → Result (List Child) ℕ → Result (List Child) ℕ
@@ -107,7 +107,7 @@ for_child child (Some kind) children moved = if stands_in child children then mo
 
 abbrev pub change_location : Option Kind → ℕ → ℕ → ℕ → List Child → Result (List Child) ℕ
 change_location named child dx dy children =
-    for_child child named children (if_passed (not (leaves child dx dy children)) errors.OTHER (move_child child (shifted dx dy) children))
+    for_child child named children (if_passed (not (leaves child dx dy children)) errors.OTHER (move_child child (moved_child dx dy) children))
 
 abbrev pub change_position : Option Kind → ℕ → ℤ → ℤ → List Child → Result (List Child) ℕ
 change_position named child x y children = for_child child named children (Ok (move_child child (placed x y) children))
@@ -147,16 +147,16 @@ abbrev pub is_index : ℕ → ℕ → Bool
 is_index index count = nat_lt index count || (index == 255)
 
 abbrev pub change_value : Option Kind → ℕ → Seen → Result Seen ℕ
-change_value named n (objects.InputBoolean o) = if_passed (nat_le (byte n) 1) errors.VALUE (objects.InputBoolean (record o { value = byte n }))
+change_value named n (objects.InputBoolean o) = if_passed (nat_le (low_byte n) 1) errors.VALUE (objects.InputBoolean (record o { value = low_byte n }))
 change_value named n (objects.InputNumber o) = if_passed (nat_le o.min n && nat_le n o.max) errors.VALUE (objects.InputNumber (record o { value = n }))
-change_value named n (objects.InputList o) = if_passed (is_index (byte n) (length o.items)) errors.VALUE (objects.InputList (record o { value = byte n }))
+change_value named n (objects.InputList o) = if_passed (is_index (low_byte n) (length o.items)) errors.VALUE (objects.InputList (record o { value = low_byte n }))
 change_value named n (objects.OutputNumber o) = Ok (objects.OutputNumber (record o { value = n }))
-change_value named n (objects.Meter o) = Ok (objects.Meter (record o { value = word n }))
-change_value named n (objects.LinearBar o) = Ok (objects.LinearBar (record o { value = word n }))
-change_value named n (objects.ArchedBar o) = Ok (objects.ArchedBar (record o { value = word n }))
+change_value named n (objects.Meter o) = Ok (objects.Meter (record o { value = low_word n }))
+change_value named n (objects.LinearBar o) = Ok (objects.LinearBar (record o { value = low_word n }))
+change_value named n (objects.ArchedBar o) = Ok (objects.ArchedBar (record o { value = low_word n }))
 change_value named n (objects.NumberVariable o) = Ok (objects.NumberVariable (record o { value = n }))
 change_value named n (objects.ObjectPointer o) =
-    if_passed (may_stand kinds.ObjectPointer places.Value (word n) named) errors.VALUE (objects.ObjectPointer (record o { value = word n }))
+    if_passed (may_stand kinds.ObjectPointer places.Value (low_word n) named) errors.VALUE (objects.ObjectPointer (record o { value = low_word n }))
 change_value named n _ = Err errors.OBJECT
 
 -- ---- Change Fill Attributes
@@ -190,10 +190,10 @@ change_soft_key_mask named type keys _ = Err errors.OBJECT
 
 -- whether a field of a type accepts the lowest bytes of a value
 abbrev pub takes : Kind → ValueType → ℕ → Option Kind → Bool
-takes kind (types.Reference place) n named = may_stand kind place (word n) named
-takes kind types.Priority n named = nat_le (byte n) 2
+takes kind (types.Reference place) n named = may_stand kind place (low_word n) named
+takes kind types.Priority n named = nat_le (low_byte n) 2
 takes kind types.Scale n named = is_some (scale_at n)
-takes kind types.Decimals n named = nat_le (byte n) 7
+takes kind types.Decimals n named = nat_le (low_byte n) 7
 takes kind _ n named = true
 
 abbrev pub put_attribute : Option Attribute → Option Kind → ℕ → Seen → Result Seen ℕ
@@ -240,11 +240,11 @@ execute_macro id _ = Err errors.OBJECT_ID
 abbrev pub other_id : Command → Option ℕ
 other_id (ChangeChildLocation parent child dx dy) = Some child
 other_id (ChangeChildPosition parent child x y) = Some child
-other_id (ChangeNumericValue id value) = Some (word value)
+other_id (ChangeNumericValue id value) = Some (low_word value)
 other_id (ChangeFillAttributes id type colour pattern) = Some pattern
 other_id (ChangeActiveMask set mask) = Some mask
 other_id (ChangeSoftKeyMask type mask keys) = Some keys
-other_id (ChangeAttribute id number value) = Some (word value)
+other_id (ChangeAttribute id number value) = Some (low_word value)
 other_id (ChangeListItem id index item) = Some item
 other_id _ = None
 

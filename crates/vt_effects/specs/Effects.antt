@@ -19,7 +19,7 @@ use Rattle.vt_commands.specs.Targets.{object_of}
 use Rattle.vt_chains.specs.Depths.{ids_of, inclusions_of}
 use Rattle.vt_chains.specs.Limits.{terminal}
 use Rattle.vt_effects.specs.Errors as errors
-use Rattle.vt_effects.specs.Fields.{word}
+use Rattle.vt_effects.specs.Fields.{low_word}
 use Rattle.vt_effects.specs.Changes.{if_passed, is_one_of, other_id, changed, left}
 
 -- ---- the object of a command
@@ -31,13 +31,13 @@ missing_error (EnableDisable id state) = errors.OBJECT_ID
 missing_error (ChangeStringValue id count text) = errors.OBJECT_ID
 missing_error _ = errors.OBJECT
 
-abbrev pub put : ObjectMap → ℕ → Result Seen ℕ → Result ObjectMap ℕ
-put store id (Ok o) = Ok (finite.insert store id o)
-put store id (Err error) = Err error
+abbrev pub insert_ok : ObjectMap → ℕ → Result Seen ℕ → Result ObjectMap ℕ
+insert_ok store id (Ok o) = Ok (finite.insert store id o)
+insert_ok store id (Err error) = Err error
 
 abbrev pub changed_at : ObjectMap → ℕ → Command → Option Kind → Option Seen → Result ObjectMap ℕ
 changed_at store id command named None = Err (missing_error command)
-changed_at store id command named (Some o) = put store id (changed command named o)
+changed_at store id command named (Some o) = insert_ok store id (changed command named o)
 
 -- the store after a command has changed the object of an ID, where `named` is the kind of the other object
 abbrev pub changed_in : ObjectMap → ℕ → Command → Option Kind → Result ObjectMap ℕ
@@ -102,8 +102,8 @@ pointer_may store id value (Some before) new = places_allow store id value && ch
 -- order.
 abbrev pub keeps_order : ObjectMap → Command → ObjectMap → Bool
 keeps_order store (ChangeListItem list index item) new = value_drawn store (pointer_value (finite.get store item)) && chains_are_short new
-keeps_order store (ChangeNumericValue id value) new = pointer_may store id (word value) (pointer_value (finite.get store id)) new
-keeps_order store (ChangeAttribute id number value) new = pointer_may store id (word value) (pointer_value (finite.get store id)) new
+keeps_order store (ChangeNumericValue id value) new = pointer_may store id (low_word value) (pointer_value (finite.get store id)) new
+keeps_order store (ChangeAttribute id number value) new = pointer_may store id (low_word value) (pointer_value (finite.get store id)) new
 keeps_order store command new = true
 
 -- ---- the effect of a command

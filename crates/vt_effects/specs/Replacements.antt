@@ -12,7 +12,7 @@ use Rattle.vt_stores.specs.Stores.{ObjectMap}
 use Rattle.vt_effects.specs.declared.pointers.Pointed.{Pointed}
 use Rattle.vt_effects.specs.declared.replacements.Replacement.{Replacement}
 use Rattle.vt_effects.specs.Changes.{is_one_of}
-use Rattle.vt_effects.specs.Fields.{word}
+use Rattle.vt_effects.specs.Fields.{low_word}
 use Rattle.vt_effects.specs.Effects.{kind_in, pointer_value, places_allow, value_drawn}
 
 -- the item at an index of a list; None for other objects
@@ -24,18 +24,18 @@ abbrev pub replacement : ℕ → ℕ → ℕ → Replacement
 replacement holder after before = record { holder = holder; before = before; after = after }
 
 -- the replacement that a command makes, if it makes one
-abbrev pub replaced : ObjectMap → Command → Option Replacement
-replaced store (ChangeNumericValue id value) = option_map (replacement id (word value)) (pointer_value (finite.get store id))
-replaced store (ChangeAttribute id number value) = option_map (replacement id (word value)) (pointer_value (finite.get store id))
-replaced store (ChangeListItem id index item) = option_map (replacement id item) (item_at index (finite.get store id))
-replaced store command = None
+abbrev pub replacement_by : ObjectMap → Command → Option Replacement
+replacement_by store (ChangeNumericValue id value) = option_map (replacement id (low_word value)) (pointer_value (finite.get store id))
+replacement_by store (ChangeAttribute id number value) = option_map (replacement id (low_word value)) (pointer_value (finite.get store id))
+replacement_by store (ChangeListItem id index item) = option_map (replacement id item) (item_at index (finite.get store id))
+replacement_by store command = None
 
 -- the new ID fits: a pointer's value in all references to the pointer, and an item's pointer value in the list
-abbrev pub fits : ObjectMap → Command → Bool
-fits store (ChangeNumericValue id value) = places_allow store id (word value)
-fits store (ChangeAttribute id number value) = places_allow store id (word value)
-fits store (ChangeListItem id index item) = value_drawn store (pointer_value (finite.get store item))
-fits store command = true
+abbrev pub new_id_fits : ObjectMap → Command → Bool
+new_id_fits store (ChangeNumericValue id value) = places_allow store id (low_word value)
+new_id_fits store (ChangeAttribute id number value) = places_allow store id (low_word value)
+new_id_fits store (ChangeListItem id index item) = value_drawn store (pointer_value (finite.get store item))
+new_id_fits store command = true
 
 -- a slot allows a pointer's value, if the slot refers to the pointer
 abbrev pub slot_allows : Pointed → Slot → Bool

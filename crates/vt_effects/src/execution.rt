@@ -52,7 +52,7 @@ fn replace<S: Store>(
     requires levels { AreLevels (S.contents store.old) levels.old }
     requires sound { IsSound (S.contents store.old) }
     requires named { named ≡ effects.other_kind (S.contents store.old) (changes.other_id command.now) }
-    requires replaces { replacements.replaced (S.contents store.old) command.now ≡ Some replacement.now }
+    requires replaces { replacements.replacement_by (S.contents store.old) command.now ≡ Some replacement.now }
     ensures result { HasResult result (effect (S.contents store.old) command.now) }
     ensures objects { S.contents store.new ≡ after (S.contents store.old) command.now }
     ensures levels { AreLevels (S.contents store.new) levels.new }
@@ -93,7 +93,7 @@ fn is_in_order<S: Store>(
 /// list.
 fn fits<S: Store>(store: &S, command: &Command<'_>) -> bool
     requires { IsSound (S.contents store.now) }
-    ensures { result ≡ replacements.fits (S.contents store.now) command.now }
+    ensures { result ≡ replacements.new_id_fits (S.contents store.now) command.now }
 {
     match *command {
         Command::ChangeNumericValue { id: pointer, value } => {

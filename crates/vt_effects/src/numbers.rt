@@ -7,21 +7,21 @@ use vt_kinds::{Decimals, ObjectId, Scale};
 
 /// The lowest byte of a value.
 pub fn byte(value: u32) -> u8
-    ensures { result ≡ fields.byte value }
+    ensures { result ≡ fields.low_byte value }
 {
     (value % 256) as u8
 }
 
 /// The two lowest bytes of a value.
 pub(crate) fn word(value: u32) -> u16
-    ensures { result ≡ fields.word value }
+    ensures { result ≡ fields.low_word value }
 {
     (value % 65_536) as u16
 }
 
 /// The ID in the two lowest bytes of a value.
 pub(crate) fn id(value: u32) -> ObjectId
-    ensures { result ≡ fields.word value }
+    ensures { result ≡ fields.low_word value }
 {
     ObjectId::from_raw(word(value))
 }

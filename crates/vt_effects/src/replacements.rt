@@ -27,7 +27,7 @@ pub(crate) struct Replacement {
 
 /// The replacement that a command makes, if it makes one.
 pub(crate) fn replaced<S: Store>(store: &S, command: &Command<'_>) -> Option<Replacement>
-    ensures { result ≡ replacements.replaced (S.contents store.now) command.now }
+    ensures { result ≡ replacements.replacement_by (S.contents store.now) command.now }
 {
     match *command {
         Command::ChangeNumericValue { id: holder, value }

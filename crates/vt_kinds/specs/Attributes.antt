@@ -157,11 +157,11 @@ attributes_of kinds.ObjectPointer = reference fields.Value places.Value ∷ []
 attributes_of kinds.Macro = []
 
 -- the attribute at a number, counted from 1
-abbrev pub numbered : List Attribute → ℕ → Option Attribute
-numbered list zero = None
-numbered list (suc index) = slice_get list index
+abbrev pub attribute_numbered : List Attribute → ℕ → Option Attribute
+attribute_numbered list zero = None
+attribute_numbered list (suc index) = slice_get list index
 
 -- The attribute of a kind at a number. In an Input List, number 5 is the options, and number 4 is missing.
 abbrev pub attribute_at : Kind → ℕ → Option Attribute
-attribute_at kinds.InputList number = if number == 5 then Some (byte fields.Options) else numbered (attributes_of kinds.InputList) number
-attribute_at kind number = numbered (attributes_of kind) number
+attribute_at kinds.InputList number = if number == 5 then Some (byte fields.Options) else attribute_numbered (attributes_of kinds.InputList) number
+attribute_at kind number = attribute_numbered (attributes_of kind) number

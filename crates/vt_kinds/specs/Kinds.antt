@@ -78,5 +78,5 @@ kind_among [] n = None
 kind_among (k ∷ ks) n = if n == kind_number k then Some k else kind_among ks n
 
 -- the kind of a type number
-abbrev pub kind_at : ℕ → Option Kind
-kind_at n = kind_among every_kind n
+abbrev pub kind_of_type : ℕ → Option Kind
+kind_of_type n = kind_among every_kind n

@@ -125,10 +125,10 @@ field_spelling ScaleBytes (number n) = number_spelling (Unsigned 4) n
 field_spelling DecimalPlaces (number n) = number_spelling (Unsigned 1) n
 field_spelling _ _ = []
 
-abbrev pub spelling : List RecordField → List Value → List ℕ
-spelling [] vs = []
-spelling (f ∷ fs) [] = []
-spelling (f ∷ fs) (v ∷ vs) = field_spelling f v ++ spelling fs vs
+abbrev pub fields_spelling : List RecordField → List Value → List ℕ
+fields_spelling [] vs = []
+fields_spelling (f ∷ fs) [] = []
+fields_spelling (f ∷ fs) (v ∷ vs) = field_spelling f v ++ fields_spelling fs vs
 
 -- ---- the values that have an encoding
 

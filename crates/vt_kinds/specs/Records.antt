@@ -14,7 +14,7 @@ use Rattle.vt_kinds.specs.declared.object.Object.{Object}
 use Rattle.vt_kinds.specs.declared.object.Object.TheVariants as objects
 use Rattle.vt_kinds.specs.declared.fields.Field as names
 use Rattle.vt_kinds.specs.Ids.{null_id}
-use Rattle.vt_kinds.specs.Layout.{RecordField, Value, fields, names_in, values, spelling, FieldsFit, Proper, no_counts}
+use Rattle.vt_kinds.specs.Layout.{RecordField, Value, fields, names_in, values, fields_spelling, FieldsFit, Proper, no_counts}
 use Rattle.vt_kinds.specs.Kinds.{kind_number}
 use Rattle.vt_kinds.specs.Tables.{working_set, data_mask, alarm_mask, container, soft_key_mask, key, button, input_boolean, input_string, input_number, input_list, output_string, output_number, line, rectangle, ellipse, polygon, meter, linear_bar, arched_bar, picture, number_variable, string_variable, font, line_attributes, fill_attributes, input_attributes, object_pointer, macro_object}
 
@@ -266,7 +266,7 @@ values_of (objects.Macro o) = values macro_object o
 
 -- The record of an object under an ID.
 abbrev pub record_of : {B : Type 0} → ℕ → Object B → List ℕ
-record_of id o = little_bytes 2 id ++ kind_number (kind_of o) ∷ spelling (fields_of (kind_of o)) (values_of o)
+record_of id o = little_bytes 2 id ++ kind_number (kind_of o) ∷ fields_spelling (fields_of (kind_of o)) (values_of o)
 
 -- An object has a record under an ID: the ID is not NULL, numbers fit their fields, lists fit their counts,
 -- scales are valid, and decimals are at most 7.

@@ -139,12 +139,12 @@ abbrev pub slot : Kind → Place → ℕ → Slot
 slot kind place id = record { place = place; id = id; null = may_be_null place; kinds = allowed kind place }
 
 -- the slots of a list of IDs, with their indices
-abbrev pub listed : Kind → (ℕ → Place) → ℕ → List ℕ → List Slot
-listed kind place index [] = []
-listed kind place index (id ∷ ids) = slot kind (place index) id ∷ listed kind place (suc index) ids
+abbrev pub slots_listed : Kind → (ℕ → Place) → ℕ → List ℕ → List Slot
+slots_listed kind place index [] = []
+slots_listed kind place index (id ∷ ids) = slot kind (place index) id ∷ slots_listed kind place (suc index) ids
 
 abbrev pub children_of : Kind → List Child → List Slot
-children_of kind children = listed kind places.Child 0 (map (λ c. c.id) children)
+children_of kind children = slots_listed kind places.Child 0 (map (λ c. c.id) children)
 
 -- The slots of an object: the references in its fields, then those in its list entries, in order.
 abbrev pub slots_of : {B : Type 0} → Object B → List Slot
@@ -152,7 +152,7 @@ slots_of (objects.WorkingSet o) = slot kinds.WorkingSet places.ActiveMask o.acti
 slots_of (objects.DataMask o) = slot kinds.DataMask places.SoftKeyMask o.soft_key_mask ∷ children_of kinds.DataMask o.children
 slots_of (objects.AlarmMask o) = slot kinds.AlarmMask places.SoftKeyMask o.soft_key_mask ∷ children_of kinds.AlarmMask o.children
 slots_of (objects.Container o) = children_of kinds.Container o.children
-slots_of (objects.SoftKeyMask o) = listed kinds.SoftKeyMask places.Key 0 o.keys
+slots_of (objects.SoftKeyMask o) = slots_listed kinds.SoftKeyMask places.Key 0 o.keys
 slots_of (objects.Key o) = children_of kinds.Key o.children
 slots_of (objects.Button o) = children_of kinds.Button o.children
 slots_of (objects.InputBoolean o) = slot kinds.InputBoolean places.Font o.font ∷ slot kinds.InputBoolean places.Variable o.variable ∷ []
@@ -160,7 +160,7 @@ slots_of (objects.InputString o) =
     slot kinds.InputString places.Font o.font ∷ slot kinds.InputString places.InputAttributes o.input_attributes
     ∷ slot kinds.InputString places.Variable o.variable ∷ []
 slots_of (objects.InputNumber o) = slot kinds.InputNumber places.Font o.font ∷ slot kinds.InputNumber places.Variable o.variable ∷ []
-slots_of (objects.InputList o) = slot kinds.InputList places.Variable o.variable ∷ listed kinds.InputList places.Item 0 o.items
+slots_of (objects.InputList o) = slot kinds.InputList places.Variable o.variable ∷ slots_listed kinds.InputList places.Item 0 o.items
 slots_of (objects.OutputString o) = slot kinds.OutputString places.Font o.font ∷ slot kinds.OutputString places.Variable o.variable ∷ []
 slots_of (objects.OutputNumber o) = slot kinds.OutputNumber places.Font o.font ∷ slot kinds.OutputNumber places.Variable o.variable ∷ []
 slots_of (objects.Line o) = slot kinds.Line places.LineAttributes o.line_attributes ∷ []

@@ -1,7 +1,7 @@
 //! The kinds of objects.
 
 ghost use Rattle.std.specs.Prelude.{◌≡◌, Some};
-ghost use Rattle.vt_kinds.specs.Kinds.{kind_number, kind_at, kind_name};
+ghost use Rattle.vt_kinds.specs.Kinds.{kind_number, kind_of_type, kind_name};
 
 use std::fmt;
 
@@ -79,7 +79,7 @@ impl Kind {
 
     /// The kind of a type number, or `None` if no kind has it.
     pub fn from_number(number: u8) -> Option<Kind>
-        ensures { result ≡ kind_at number }
+        ensures { result ≡ kind_of_type number }
     {
         match number {
             0 => Some(Kind::WorkingSet),

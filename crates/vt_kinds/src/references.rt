@@ -2,7 +2,7 @@
 
 ghost use Rattle.std.specs.Prelude.{◌≡◌, ◌≤◌, Some, []};
 ghost use Rattle.vt_kinds.specs.References.{slot, slots_of};
-ghost use Rattle.vt_kinds.specs.RemainingSlots.{before, listed_from, entries_left};
+ghost use Rattle.vt_kinds.specs.RemainingSlots.{prepended, listed_from, entries_left};
 
 use crate::id::ObjectId;
 use crate::kind::Kind;
@@ -133,14 +133,14 @@ fn fields<'a>(
     second: Option<Slot>,
     third: Option<Slot>,
 ) -> Slots<'a>
-    ensures { result ≡ before first (before second (before third [])) }
+    ensures { result ≡ prepended first (prepended second (prepended third [])) }
 {
     Slots::new(kind, first, second, third, Listed::Keys(&[]))
 }
 
 fn with_list(kind: Kind, first: Option<Slot>, listed: Listed<'_>) -> Slots<'_>
     requires { entries_left listed ≤ 255 }
-    ensures { result ≡ before first (listed_from kind 0 listed.entry) }
+    ensures { result ≡ prepended first (listed_from kind 0 listed.entry) }
 {
     Slots::new(kind, first, None, None, listed)
 }

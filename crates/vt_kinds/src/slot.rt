@@ -2,7 +2,7 @@
 
 ghost use Rattle.std.specs.Prelude.{◌≡◌, ◌≤◌};
 ghost use Rattle.vt_kinds.specs.References.{slot};
-ghost use Rattle.vt_kinds.specs.RemainingSlots.{before, listed_from, entries_left};
+ghost use Rattle.vt_kinds.specs.RemainingSlots.{prepended, listed_from, entries_left};
 
 use crate::entries::Child;
 use crate::id::ObjectId;
@@ -60,11 +60,11 @@ pub struct Slots<'a> {
 impl<'a> Model for Slots<'a> {
     ghost use Rattle.std.specs.Prelude.{List, ◌+◌, ◌≤◌};
     ghost use Rattle.vt_kinds.specs.declared.slot.Slot.{Slot};
-    ghost use Rattle.vt_kinds.specs.RemainingSlots.{before, listed_from, entries_left};
+    ghost use Rattle.vt_kinds.specs.RemainingSlots.{prepended, listed_from, entries_left};
 
     ghost Value = { List Slot };
 
-    ghost view = { λ s. before s.first (before s.second (before s.third (listed_from s.kind s.index s.listed))) };
+    ghost view = { λ s. prepended s.first (prepended s.second (prepended s.third (listed_from s.kind s.index s.listed))) };
 
     ghost invariant = { λ s. s.index + entries_left s.listed ≤ 255 };
 }
@@ -79,7 +79,7 @@ impl<'a> Slots<'a> {
         listed: Listed<'a>,
     ) -> Slots<'a>
         requires { entries_left listed ≤ 255 }
-        ensures { result ≡ before first (before second (before third (listed_from kind 0 listed.entry))) }
+        ensures { result ≡ prepended first (prepended second (prepended third (listed_from kind 0 listed.entry))) }
     {
         Slots {
             kind,

@@ -33,14 +33,14 @@ abbrev pub steps_in : State → JudgedInput → ℕ
 steps_in s e = sum_by steps_of (runs s e)
 
 -- the bound on these steps: the budgets of the events of the input's command or action, and of a change of the shown set
-abbrev pub cost_of : Pools → State → JudgedInput → ℕ
-cost_of pools s e = sum_by (budget_of pools) (runs s e)
+abbrev pub input_cost : Pools → State → JudgedInput → ℕ
+input_cost pools s e = sum_by (budget_of pools) (runs s e)
 
 -- No run takes more steps than its budgets, so none sticks. All runs of an input take no more than the sum of the budgets. The
 -- budgets are those of the pool accepted last at each address, also during the input.
 pub record IsWithinCosts (pools : Pools) (s : State) (e : JudgedInput) : Type 0 where
   pub each : AllByRecursion (λ run. steps_of run ≤ budget_of pools run) (runs s e)
-  pub whole : steps_in s e ≤ cost_of pools s e
+  pub whole : steps_in s e ≤ input_cost pools s e
 
 abbrev pub CostsAreWithin : Type 0
 CostsAreWithin = (pools : Pools) (s : State) (e : JudgedInput) → ArePoolsInForce pools s → IsFound s e → IsWithinCosts (accepted_after s e pools) s e

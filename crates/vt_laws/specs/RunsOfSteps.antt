@@ -18,13 +18,13 @@ use Rattle.vt_server.specs.Terminals.{State, pool_of}
 use Rattle.vt_laws.specs.Headline.{Pools, Run, accepted_after, runs}
 
 -- the objects after a run
-abbrev pub left_by : Run → ObjectMap
-left_by run = store_of (run_of run.objects run.raised)
+abbrev pub objects_after_run : Run → ObjectMap
+objects_after_run run = store_of (run_of run.objects run.raised)
 
 -- Runs in sequence: the first starts from the objects before, and each other one from the objects after its predecessor.
 abbrev pub Lead : ObjectMap → List Run → ObjectMap → Type 0
 Lead old [] new = new ≡ old
-Lead old (run ∷ runs) new = (run.before ≡ old) × Lead (left_by run) runs new
+Lead old (run ∷ runs) new = (run.before ≡ old) × Lead (objects_after_run run) runs new
 
 abbrev pub runs_there : ℕ → List Run → List Run
 runs_there address runs = filter (λ run. run.address == address) runs

@@ -6,7 +6,7 @@ use Rattle.vt_stores.specs.Stores.{ObjectMap}
 use Rattle.vt_node.specs.Bus.{notice_of}
 use Rattle.vt_laws.specs.Happenings.{loses, SetsAreHeld}
 use Rattle.vt_server.specs.state.StateInvariants.{IsOrderly}
-use Rattle.vt_server.specs.frame.TimeoutActs.{at_time, silent}
+use Rattle.vt_server.specs.frame.TimeoutActs.{at_time, set_is_silent}
 use Rattle.vt_server.specs.state.AddressViews.{stays_under, with_holder_name}
 use Rattle.vt_server.specs.Steps.{JudgedInput, FrameAt, ActionAt, step, preloading}
 use Rattle.vt_server.specs.Terminals.{State, holder}
@@ -15,7 +15,7 @@ use Rattle.vt_node.specs.declared.bus.FrameMeaning.TheVariants.{Claim, Master, M
 
 -- the sets that are not silent at the time of a frame, in their order
 abbrev pub heard_sets : State → ℕ → List Set
-heard_sets s time = filter (λ set. not (silent (at_time s time) set)) s.sets
+heard_sets s time = filter (λ set. not (set_is_silent (at_time s time) set)) s.sets
 
 -- whether a set has no NAME or the NAME of its address's holder
 abbrev pub stays : State → Set → Bool

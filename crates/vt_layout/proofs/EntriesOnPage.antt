@@ -25,7 +25,7 @@ use Rattle.vt_layout.specs.declared.element.Element.{Element}
 use Rattle.vt_layout.specs.declared.element.Position.{Position}
 use Rattle.vt_layout.specs.Drawings.{origin, shifted, unmoved, element, entries_in}
 use Rattle.vt_layout.specs.Lines.{line, escaped, quoted}
-use Rattle.vt_layout.specs.Screens.{cut, heading, GainsScreen}
+use Rattle.vt_layout.specs.Screens.{shortened, heading, GainsScreen}
 use Rattle.vt_layout.specs.PageTexts.{Sheet, with_line, with_elements, finished}
 use Rattle.vt_layout.specs.Walks.{Draws, with_drawn, each_from, elements, drawing}
 use Rattle.vt_layout.proofs.PageLines.{elements_append, full_stays, longer, next_line, last_line, page_text, screen_is}
@@ -156,14 +156,14 @@ mask_drawn store mask keys o old mid new there is first second =
 -- ---- a screen
 
 pub screen_text : (store : ObjectMap) (address mask : ℕ) (first text : List ℕ) (page drawn : Sheet) → text ≡ finished drawn → drawn ≡ with_elements store (drawing store mask) page
-    → page ≡ record { text = first; count = 0 } → first ≡ heading address mask → text ≡ heading address mask ++ cut (map (line store) (drawing store mask))
+    → page ≡ record { text = first; count = 0 } → first ≡ heading address mask → text ≡ heading address mask ++ shortened (map (line store) (drawing store mask))
 screen_text store address mask first text page drawn last lines start head =
     last ∙ ap finished (lines ∙ ap (with_elements store (drawing store mask)) start)
     ∙ page_text first (map (line store) (drawing store mask))
-    ∙ ap (λ t. t ++ cut (map (line store) (drawing store mask))) head
+    ∙ ap (λ t. t ++ shortened (map (line store) (drawing store mask))) head
 
 pub gains : (address : ℕ) (store : ObjectMap) (mask : ℕ) (old new text : List ℕ) → IsSound store → finite.get store null_id ≡ None → IsActive store mask
-    → text ≡ heading address mask ++ cut (map (line store) (drawing store mask)) → new ≡ old ++ text → GainsScreen address store old new
+    → text ≡ heading address mask ++ shortened (map (line store) (drawing store mask)) → new ≡ old ++ text → GainsScreen address store old new
 gains address store mask old new text sound null active is gained = record { text = text; is_screen = screen_is address store mask text sound null active is; gained = gained }
 
 -- ---- keys

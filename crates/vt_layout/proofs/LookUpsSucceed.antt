@@ -17,7 +17,7 @@ use Rattle.vt_kinds.specs.declared.slot.Slot.{Slot}
 use Rattle.vt_kinds.specs.declared.variables.ObjectPointer.{ObjectPointer}
 use Rattle.vt_kinds.specs.Ids.{null_id}
 use Rattle.vt_kinds.specs.Records.{Seen, kind_of}
-use Rattle.vt_kinds.specs.References.{allowed, may_be_null, is_member, is_pointer, slot, listed, children_of}
+use Rattle.vt_kinds.specs.References.{allowed, may_be_null, is_member, is_pointer, slot, slots_listed, children_of}
 use Rattle.vt_stores.specs.Stores.{ObjectMap}
 use Rattle.vt_effects.specs.Changes.{is_one_of}
 use Rattle.vt_effects.specs.Effects.{kind_in, pointer_value, allows}
@@ -27,7 +27,7 @@ use Rattle.vt_macros.specs.Machines.{mask_of}
 use Rattle.vt_shown.specs.ShownElements.{behind, is_element, number_in, number_shown, ids_in, item_of, drawn_in, soft_key_mask_of, keys_of}
 use Rattle.vt_shown.proofs.MarksByLevel.{shown_element}
 use Rattle.vt_layout.specs.Drawings.{entries_in, key_entries}
-use Rattle.vt_layout.specs.Lines.{text_in}
+use Rattle.vt_layout.specs.Lines.{variable_text}
 use Rattle.vt_layout.specs.LookUps.{kinds_listed, null_listed, Resolves, AllResolveIn, HasNumber, HasText, HasLineValues, DrawingsFindAll}
 use Rattle.vt_layout.specs.LookUps.Resolves.{Null, NullPointer, StandsFor}
 use Rattle.vt_layout.proofs.ShownAreDrawn.{names_of, names_of_keys}
@@ -85,7 +85,7 @@ slot_found store s sound right =
 
 -- each ID of a list of slots is found
 listed_found : (store : ObjectMap) (kind : Kind) (place : ℕ → Place) (may_stand : Kinds) (null : Bool) (index : ℕ) (names : List ℕ) → IsSound store
-    → ((i : ℕ) → allowed kind (place i) ≡ may_stand) → ((i : ℕ) → may_be_null (place i) ≡ null) → AllByRecursion (IsRight store) (listed kind place index names)
+    → ((i : ℕ) → allowed kind (place i) ≡ may_stand) → ((i : ℕ) → may_be_null (place i) ≡ null) → AllByRecursion (IsRight store) (slots_listed kind place index names)
     → AllByRecursion (Resolves store may_stand null) names
 listed_found store kind place may_stand null index [] sound are nulls right = tt
 listed_found store kind place may_stand null index (name ∷ names) sound are nulls right = (
@@ -212,9 +212,9 @@ has_number = has_value number_in sets.NumberVariables reads
 
 -- a slot for a string variable has a text
 has_text : (store : ObjectMap) (s : Slot) (own : List ℕ) → s.kinds ≡ sets.StringVariables → IsRight store s → HasText store s.id own
-has_text = has_value text_in sets.StringVariables reads
+has_text = has_value variable_text sets.StringVariables reads
   where
-    reads : (o : Option Seen) → IsTrue (is_one_of sets.StringVariables (option_map kind_of o)) → (text : List ℕ) × (text_in o ≡ Some text)
+    reads : (o : Option Seen) → IsTrue (is_one_of sets.StringVariables (option_map kind_of o)) → (text : List ℕ) × (variable_text o ≡ Some text)
     reads (Some (objects.StringVariable o)) is = (o.text, refl)
     reads _ is = absurd cc
 

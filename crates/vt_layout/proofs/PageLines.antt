@@ -16,7 +16,7 @@ use Rattle.vt_machine.proofs.OneSet.{masks_are_one}
 use Rattle.vt_layout.specs.declared.element.Element.{Element}
 use Rattle.vt_layout.specs.Drawings.{Placed, origin, at_path, mask_entries, key_entries, AreAll, IsDrawing, DrawingsAreOne}
 use Rattle.vt_layout.specs.Lines.{line}
-use Rattle.vt_layout.specs.Screens.{cut, heading, IsScreen, ScreensAreOne}
+use Rattle.vt_layout.specs.Screens.{shortened, heading, IsScreen, ScreensAreOne}
 use Rattle.vt_layout.specs.PageTexts.{Sheet, with_line, with_lines, with_elements, finished}
 use Rattle.vt_layout.specs.Walks.{elements, drawing}
 use Rattle.vt_layout.proofs.EntryWalk.{all_placed, bare, bare_all, placed_at, all_met}
@@ -98,7 +98,7 @@ room_left n (suc room) is t (l ∷ lines) =
     ∙ ap (λ text. t ++ text) (sym (append_assoc l more (end (nat_lt room (length lines)))))
     ∙ ap (λ (b : Bool). t ++ ((l ++ more) ++ end b)) (less_both room (length lines))
 
-pub page_text : (t : List ℕ) (lines : List (List ℕ)) → finished (with_lines lines (record { text = t; count = 0 })) ≡ t ++ cut lines
+pub page_text : (t : List ℕ) (lines : List (List ℕ)) → finished (with_lines lines (record { text = t; count = 0 })) ≡ t ++ shortened lines
 page_text t lines = room_left 0 2000 refl t lines
 
 -- ---- the drawing of a store in order
@@ -134,13 +134,13 @@ whole_bare store mask =
     ∙ ap (λ es. elements 32 store (mask_entries store mask) origin ++ es) (bare_all 32 store (key_entries store mask) origin)
 
 pub screen_is : (address : ℕ) (store : ObjectMap) (mask : ℕ) (text : List ℕ) → IsSound store → finite.get store null_id ≡ None → IsActive store mask
-    → text ≡ heading address mask ++ cut (map (line store) (drawing store mask)) → IsScreen address store text
+    → text ≡ heading address mask ++ shortened (map (line store) (drawing store mask)) → IsScreen address store text
 screen_is address store mask text sound null active is = record {
   mask = mask;
   active = active;
   drawing = whole store mask;
   drawn = whole_drawing store mask sound null;
-  is = is ∙ ap (λ lines. heading address mask ++ cut lines) (sym (lines_of store (whole store mask) ∙ ap (map (line store)) (whole_bare store mask)));
+  is = is ∙ ap (λ lines. heading address mask ++ shortened lines) (sym (lines_of store (whole store mask) ∙ ap (map (line store)) (whole_bare store mask)));
 }
 
 -- ---- the screen is unique
@@ -149,8 +149,8 @@ screens_once : (address : ℕ) (store : ObjectMap) (one other : List ℕ) → wo
 screens_once address store one other sets first second =
     let mask = masks_are_one store first.mask second.mask sets first.active second.active in
     first.is
-    ∙ ap (λ (m : ℕ). heading address m ++ cut (map (λ p. line store p.element) first.drawing)) mask
-    ∙ ap (λ (ps : List Placed). heading address second.mask ++ cut (map (λ p. line store p.element) ps))
+    ∙ ap (λ (m : ℕ). heading address m ++ shortened (map (λ p. line store p.element) first.drawing)) mask
+    ∙ ap (λ (ps : List Placed). heading address second.mask ++ shortened (map (λ p. line store p.element) ps))
     (drawings_once store second.mask first.drawing second.drawing (subst (λ (m : ℕ). IsDrawing store m first.drawing) mask first.drawn) second.drawn)
     ∙ sym second.is
 
@@ -163,6 +163,6 @@ one_drawing = record {
 pub one_screen : ScreensAreOne
 one_screen = record {
   there = λ address store mask sound null active.
-      (heading address mask ++ cut (map (line store) (drawing store mask)), screen_is address store mask (heading address mask ++ cut (map (line store) (drawing store mask))) sound null active refl);
+      (heading address mask ++ shortened (map (line store) (drawing store mask)), screen_is address store mask (heading address mask ++ shortened (map (line store) (drawing store mask))) sound null active refl);
   one = screens_once;
 }

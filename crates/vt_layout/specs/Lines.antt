@@ -22,12 +22,12 @@ standing name e =
     name ++ (codes " " ++ (decimal e.id ++ (codes " " ++ (signed_decimal e.at.x ++ (codes " " ++ signed_decimal e.at.y)))))
 
 -- a size as text
-abbrev pub sized : ℕ → ℕ → List ℕ
-sized width height = codes " " ++ (decimal width ++ (codes "x" ++ decimal height))
+abbrev pub size_text : ℕ → ℕ → List ℕ
+size_text width height = codes " " ++ (decimal width ++ (codes "x" ++ decimal height))
 
 -- a number as text
-abbrev pub numbered : ℕ → List ℕ
-numbered n = codes " " ++ decimal n
+abbrev pub number_text : ℕ → List ℕ
+number_text n = codes " " ++ decimal n
 
 -- the key code of a key or button
 abbrev pub coded : ℕ → List ℕ
@@ -36,16 +36,16 @@ coded code = codes " code " ++ decimal code
 -- a value as text; empty if its variable is missing, where a drawing gets stuck
 abbrev pub valued : Option ℕ → List ℕ
 valued None = []
-valued (Some n) = numbered n
+valued (Some n) = number_text n
 
 abbrev pub decided : Option ℕ → List ℕ
 decided None = []
 decided (Some n) = if n == 0 then codes " false" else codes " true"
 
 -- a number with its offset, scale and decimals
-abbrev pub shown : ℤ → ℕ → ℕ → Option ℕ → List ℕ
-shown offset places decimals None = []
-shown offset places decimals (Some n) = codes " " ++ shown_text (pos n +ℤ offset) places decimals
+abbrev pub scaled_text : ℤ → ℕ → ℕ → Option ℕ → List ℕ
+scaled_text offset places decimals None = []
+scaled_text offset places decimals (Some n) = codes " " ++ shown_text (pos n +ℤ offset) places decimals
 
 -- a byte from 20 to 7E, except `"` and `\`
 abbrev pub is_plain : ℕ → Bool
@@ -60,13 +60,13 @@ quoted None = []
 quoted (Some text) = codes " \"" ++ (flat_map escaped (take 64 text) ++ codes "\"")
 
 -- the text of a string variable, or None
-abbrev pub text_in : Option Seen → Option (List ℕ)
-text_in (Some (objects.StringVariable o)) = Some o.text
-text_in _ = None
+abbrev pub variable_text : Option Seen → Option (List ℕ)
+variable_text (Some (objects.StringVariable o)) = Some o.text
+variable_text _ = None
 
 -- the text that an object shows: its variable's text, if it has a variable
 abbrev pub text_shown : ObjectMap → ℕ → List ℕ → Option (List ℕ)
-text_shown store variable own = if variable == null_id then Some own else text_in (finite.get store variable)
+text_shown store variable own = if variable == null_id then Some own else variable_text (finite.get store variable)
 
 -- the mark of a disabled input
 abbrev pub switched : Option Bool → List ℕ
@@ -77,29 +77,29 @@ switched _ = []
 
 abbrev pub described : ObjectMap → Element → Option Seen → List ℕ
 described store e (Some (objects.WorkingSet o)) = standing (codes "workset") e
-described store e (Some (objects.Container o)) = standing (codes "container") e ++ sized o.width o.height
-described store e (Some (objects.Key o)) = codes "key " ++ (decimal e.id ++ (numbered e.place ++ coded o.key_code))
-described store e (Some (objects.Button o)) = standing (codes "button") e ++ (sized o.width o.height ++ coded o.key_code)
+described store e (Some (objects.Container o)) = standing (codes "container") e ++ size_text o.width o.height
+described store e (Some (objects.Key o)) = codes "key " ++ (decimal e.id ++ (number_text e.place ++ coded o.key_code))
+described store e (Some (objects.Button o)) = standing (codes "button") e ++ (size_text o.width o.height ++ coded o.key_code)
 described store e (Some (objects.InputBoolean o)) = standing (codes "boolean") e ++ decided (number_shown store o.variable o.value)
 described store e (Some (objects.InputString o)) = standing (codes "input") e ++ quoted (text_shown store o.variable o.text)
 described store e (Some (objects.InputNumber o)) =
-    standing (codes "number") e ++ shown o.offset (scale_places o.scale) o.decimals (number_shown store o.variable o.value)
+    standing (codes "number") e ++ scaled_text o.offset (scale_places o.scale) o.decimals (number_shown store o.variable o.value)
 described store e (Some (objects.InputList o)) = standing (codes "list") e ++ valued (number_shown store o.variable o.value)
 described store e (Some (objects.OutputString o)) = standing (codes "text") e ++ quoted (text_shown store o.variable o.text)
 described store e (Some (objects.OutputNumber o)) =
-    standing (codes "value") e ++ shown o.offset (scale_places o.scale) o.decimals (number_shown store o.variable o.value)
-described store e (Some (objects.Line o)) = standing (codes "line") e ++ (sized o.width o.height ++ numbered o.direction)
-described store e (Some (objects.Rectangle o)) = standing (codes "rectangle") e ++ sized o.width o.height
-described store e (Some (objects.Ellipse o)) = standing (codes "ellipse") e ++ sized o.width o.height
-described store e (Some (objects.Polygon o)) = standing (codes "polygon") e ++ sized o.width o.height
+    standing (codes "value") e ++ scaled_text o.offset (scale_places o.scale) o.decimals (number_shown store o.variable o.value)
+described store e (Some (objects.Line o)) = standing (codes "line") e ++ (size_text o.width o.height ++ number_text o.direction)
+described store e (Some (objects.Rectangle o)) = standing (codes "rectangle") e ++ size_text o.width o.height
+described store e (Some (objects.Ellipse o)) = standing (codes "ellipse") e ++ size_text o.width o.height
+described store e (Some (objects.Polygon o)) = standing (codes "polygon") e ++ size_text o.width o.height
 described store e (Some (objects.Meter o)) = standing (codes "meter") e ++ valued (number_shown store o.variable o.value)
 described store e (Some (objects.LinearBar o)) =
-    standing (codes "bar") e ++ (sized o.width o.height
+    standing (codes "bar") e ++ (size_text o.width o.height
     ++ (valued (number_shown store o.variable o.value) ++ valued (number_shown store o.target_variable o.target)))
 described store e (Some (objects.ArchedBar o)) =
-    standing (codes "arch") e ++ (sized o.width o.height
+    standing (codes "arch") e ++ (size_text o.width o.height
     ++ (valued (number_shown store o.variable o.value) ++ valued (number_shown store o.target_variable o.target)))
-described store e (Some (objects.Picture o)) = standing (codes "picture") e ++ numbered o.width
+described store e (Some (objects.Picture o)) = standing (codes "picture") e ++ number_text o.width
 described store e _ = []
 
 -- the line of an element, with its newline

@@ -18,8 +18,8 @@ abbrev pub most_lines : ℕ
 most_lines = 2000
 
 -- all lines, or the first of them and a last line `more`
-abbrev pub cut : List (List ℕ) → List ℕ
-cut lines = flat_map (λ line. line) (take most_lines lines) ++ (if nat_lt most_lines (length lines) then codes "more\n" else [])
+abbrev pub shortened : List (List ℕ) → List ℕ
+shortened lines = flat_map (λ line. line) (take most_lines lines) ++ (if nat_lt most_lines (length lines) then codes "more\n" else [])
 
 abbrev pub mask_name : ℕ → List ℕ
 mask_name mask = if mask == null_id then codes "none" else decimal mask
@@ -34,7 +34,7 @@ pub record IsScreen (address : ℕ) (store : ObjectMap) (text : List ℕ) : Type
   pub active : IsActive store mask
   pub drawing : List Placed
   pub drawn : IsDrawing store mask drawing
-  pub is : text ≡ heading address mask ++ cut (map (λ p. line store p.element) drawing)
+  pub is : text ≡ heading address mask ++ shortened (map (λ p. line store p.element) drawing)
 
 -- The screen has been appended to a vector.
 pub record GainsScreen (address : ℕ) (store : ObjectMap) (old new : List ℕ) : Type 0 where

@@ -4,7 +4,7 @@ ghost use Rattle.std.specs.Prelude.{◌≡◌, ◌++◌, [], if◌then◌else◌
 ghost use Rattle.std.specs.Fmt.{decimal};
 ghost use Rattle.vt_kinds.specs.declared.object.Object.TheVariants as objects;
 ghost use Rattle.vt_kinds.specs.Records.{seen};
-ghost use Rattle.vt_layout.specs.Lines.{line_of, described, switched, standing, sized, numbered, coded};
+ghost use Rattle.vt_layout.specs.Lines.{line_of, described, switched, standing, size_text, number_text, coded};
 ghost use Rattle.vt_machine.specs.OperatorActions.{is_enabled};
 
 use crate::element::Element;
@@ -88,7 +88,7 @@ fn describe_box(
     width: u16,
     height: u16,
 ) -> Result<(), AllocError>
-    ensures { OnOk result (string_bytes text.new ≡ string_bytes text.old ++ (standing name.now element ++ sized width height)) }
+    ensures { OnOk result (string_bytes text.new ≡ string_bytes text.old ++ (standing name.now element ++ size_text width height)) }
 {
     write_standing(text, name, element)?;
     write_size(text, width, height)
@@ -96,7 +96,7 @@ fn describe_box(
 
 /// Writes the line of a key. A key's position is the index in its soft key mask.
 fn describe_key(text: &mut String, element: Element, o: &Key) -> Result<(), AllocError>
-    ensures { OnOk result (string_bytes text.new ≡ string_bytes text.old ++ (codes "key " ++ (decimal element.id ++ (numbered element.place ++ coded o.now.key_code)))) }
+    ensures { OnOk result (string_bytes text.new ≡ string_bytes text.old ++ (codes "key " ++ (decimal element.id ++ (number_text element.place ++ coded o.now.key_code)))) }
 {
     let id = element.id.raw();
     let place = element.place;
@@ -106,7 +106,7 @@ fn describe_key(text: &mut String, element: Element, o: &Key) -> Result<(), Allo
 
 /// Writes the line of a button, with its key code.
 fn describe_button(text: &mut String, element: Element, o: &Button) -> Result<(), AllocError>
-    ensures { OnOk result (string_bytes text.new ≡ string_bytes text.old ++ (standing (codes "button") element ++ (sized o.now.width o.now.height ++ coded o.now.key_code))) }
+    ensures { OnOk result (string_bytes text.new ≡ string_bytes text.old ++ (standing (codes "button") element ++ (size_text o.now.width o.now.height ++ coded o.now.key_code))) }
 {
     describe_box(text, "button", element, o.width, o.height)?;
     write_code(text, o.key_code)
@@ -114,7 +114,7 @@ fn describe_button(text: &mut String, element: Element, o: &Button) -> Result<()
 
 /// Writes the line of a Line object, with its direction.
 fn describe_direction(text: &mut String, element: Element, o: &Line) -> Result<(), AllocError>
-    ensures { OnOk result (string_bytes text.new ≡ string_bytes text.old ++ (standing (codes "line") element ++ (sized o.now.width o.now.height ++ numbered o.now.direction))) }
+    ensures { OnOk result (string_bytes text.new ≡ string_bytes text.old ++ (standing (codes "line") element ++ (size_text o.now.width o.now.height ++ number_text o.now.direction))) }
 {
     describe_box(text, "line", element, o.width, o.height)?;
     write_number(text, u32::from(o.direction))
@@ -122,7 +122,7 @@ fn describe_direction(text: &mut String, element: Element, o: &Line) -> Result<(
 
 /// Writes the line of a picture, with its displayed width.
 fn describe_picture(text: &mut String, element: Element, width: u16) -> Result<(), AllocError>
-    ensures { OnOk result (string_bytes text.new ≡ string_bytes text.old ++ (standing (codes "picture") element ++ numbered width)) }
+    ensures { OnOk result (string_bytes text.new ≡ string_bytes text.old ++ (standing (codes "picture") element ++ number_text width)) }
 {
     write_standing(text, "picture", element)?;
     write_number(text, u32::from(width))

@@ -4,7 +4,7 @@ ghost use Rattle.std.specs.Prelude.{◌≡◌, ◌++◌, None, OnOk, OnErr, IfOk
 ghost use Rattle.std.specs.FinMap as finite;
 ghost use Rattle.vt_kinds.specs.Ids.{null_id};
 ghost use Rattle.vt_layout.specs.Lines.{line};
-ghost use Rattle.vt_layout.specs.Screens.{heading, mask_name, cut, GainsScreen};
+ghost use Rattle.vt_layout.specs.Screens.{heading, mask_name, shortened, GainsScreen};
 ghost use Rattle.vt_layout.specs.Walks.{drawing};
 
 use crate::drawing::draw_mask;
@@ -40,7 +40,7 @@ fn screen<S: Store>(
     store: &S,
     mask: ObjectId,
 ) -> Result<String, AllocError>
-    ensures text { IfOk result (λ text. string_bytes text ≡ heading address mask ++ cut (map (line (S.contents store.now)) (drawing (S.contents store.now) mask))) }
+    ensures text { IfOk result (λ text. string_bytes text ≡ heading address mask ++ shortened (map (line (S.contents store.now)) (drawing (S.contents store.now) mask))) }
     ensures named { IfOk result (λ text. finite.get (S.contents store.now) null_id ≡ None) }
 {
     let mut page = Page::new(heading(alloc, address, mask)?);

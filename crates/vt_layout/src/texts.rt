@@ -29,14 +29,14 @@ pub(crate) fn write_standing(
 
 /// Writes a size in pixels.
 pub(crate) fn write_size(text: &mut String, width: u16, height: u16) -> Result<(), AllocError>
-    ensures { OnOk result (string_bytes text.new ≡ string_bytes text.old ++ parts.sized width height) }
+    ensures { OnOk result (string_bytes text.new ≡ string_bytes text.old ++ parts.size_text width height) }
 {
     write!(text, " {width}x{height}")
 }
 
 /// Writes a number.
 pub(crate) fn write_number(text: &mut String, number: u32) -> Result<(), AllocError>
-    ensures { OnOk result (string_bytes text.new ≡ string_bytes text.old ++ parts.numbered number) }
+    ensures { OnOk result (string_bytes text.new ≡ string_bytes text.old ++ parts.number_text number) }
 {
     write!(text, " {number}")
 }
@@ -77,7 +77,7 @@ pub(crate) fn write_shown(
     scale: Scale,
     decimals: Decimals,
 ) -> Result<(), AllocError>
-    ensures { OnOk result (string_bytes text.new ≡ string_bytes text.old ++ parts.shown offset (scale_places scale) decimals value) }
+    ensures { OnOk result (string_bytes text.new ≡ string_bytes text.old ++ parts.scaled_text offset (scale_places scale) decimals value) }
 {
     let Some(value) = value else {
         return Ok(());

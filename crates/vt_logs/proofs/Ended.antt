@@ -13,7 +13,7 @@ use Rattle.vt_logs.specs.Lines.{lines_of}
 use Rattle.vt_logs.specs.Progress.{ReplayPoint, Takes, TakesBytes, IsLineFault}
 use Rattle.vt_logs.specs.Replays.{HasLongLine, MayEndWith}
 use Rattle.vt_logs.specs.Taken.{TakesReadings}
-use Rattle.vt_logs.specs.Texts.{no_counts, counts_text, with_lines}
+use Rattle.vt_logs.specs.Texts.{no_counts, counts_text, with_lines_counted}
 use Rattle.vt_logs.proofs.Begun.{stops_none, later_bytes}
 use Rattle.vt_logs.proofs.LongLines.{begun}
 use Rattle.vt_logs.proofs.Midway.{IsUnderWay}
@@ -102,7 +102,7 @@ counting a b c old held pending input none drawn first taken last counted =
     let all = takes_more a b c taken.lines (lines_of pending) taken.takes last in
     let lines : lines_of input ≡ taken.lines ++ lines_of pending =
     ap lines_of (sym (append-nil input)) ∙ taken.split [] ∙ ap (λ (text : List ℕ). taken.lines ++ lines_of text) (append-nil pending) in
-    let counts : c.counts ≡ with_lines no_counts all.readings = all.counts ∙ ap (λ (k : Counts). with_lines k all.readings) none in
+    let counts : c.counts ≡ with_lines_counted no_counts all.readings = all.counts ∙ ap (λ (k : Counts). with_lines_counted k all.readings) none in
     inr (record {
       front = taken.lines ++ lines_of pending;
       back = [];

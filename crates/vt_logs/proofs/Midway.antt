@@ -9,7 +9,7 @@ use Rattle.vt_can.specs.lines.Line.{ReadsAs}
 use Rattle.vt_logs.specs.declared.counts.Counts.{Counts}
 use Rattle.vt_logs.specs.Lines.{lines_of}
 use Rattle.vt_logs.specs.Taken.{ReplayState, TakesReadings}
-use Rattle.vt_logs.specs.Texts.{no_counts, with_lines, counts_text}
+use Rattle.vt_logs.specs.Texts.{no_counts, with_lines_counted, counts_text}
 use Rattle.vt_logs.specs.Replays.{IsReplay}
 use Rattle.vt_logs.specs.Progress.{AtMost, ReplayPoint, Takes, HasNoNewline, TakesBytes}
 use Rattle.vt_logs.proofs.Taking.{bytes_none, bytes_kept, bytes_line, bytes_more, bytes-AtMost, lines_of-last, HasNoNewline-append, AtMost-more, takes_drawn, takes_more}
@@ -159,7 +159,7 @@ replayed a b c pending input none drawn taken at_end =
         shown = drawn;
         takes = subst (λ (k : ℕ). TakesReadings a.scene k all.readings c.scene all.printed) n all.takes;
         text_is = ap (λ (t : List ℕ). a.scene.screen ++ all.printed ++ t) is;
-        counts_are = all.counts ∙ ap (λ (k : Counts). with_lines k all.readings) none;
+        counts_are = all.counts ∙ ap (λ (k : Counts). with_lines_counted k all.readings) none;
         now_is = refl;
       },
     )

@@ -10,7 +10,7 @@ use Rattle.vt_can.specs.lines.Readings.{FrameAt, OperatorAction}
 use Rattle.vt_logs.specs.Begun.{Begins, BreaksOff, IsFrontOfPrint}
 use Rattle.vt_logs.specs.Progress.{Writes}
 use Rattle.vt_logs.specs.Taken.{ReplayState, Follows, FollowsInput, IsInputOfLine, TakesInputLine, TakesReading, input_line}
-use Rattle.vt_logs.specs.Texts.{fault_text, new_screen, output_text}
+use Rattle.vt_logs.specs.Texts.{line_fault_text, new_screen, output_text}
 use Rattle.vt_logs.proofs.Begun.{begins_later, begins_more}
 use Rattle.vt_server.specs.Findings.{IsEventOf}
 use Rattle.vt_server.specs.Outputs.{outputs_of}
@@ -136,13 +136,13 @@ action_off s n action t old new w = record {
 
 -- ---- a faulty line
 
-pub fault_begun : (s : ReplayState) (n : ℕ) (fault : LineFault) (old new : Option (List ℕ)) → Begins old new (fault_text n fault)
+pub fault_begun : (s : ReplayState) (n : ℕ) (fault : LineFault) (old new : Option (List ℕ)) → Begins old new (line_fault_text n fault)
     → Writes (BreaksOff s.state (Follows s.state (Err fault)) (TakesReading s n (Err fault)) s.state) old new
 fault_begun s n fault old new begun = record {
   text = begun.front;
   text_is = inr (record {
     done = refl;
-    printed = inr (record { to = s; text = fault_text n fault; rest = begun.rest; takes = (refl, refl); now_is = refl; parts = begun.parts });
+    printed = inr (record { to = s; text = line_fault_text n fault; rest = begun.rest; takes = (refl, refl); now_is = refl; parts = begun.parts });
   });
   written = begun.written;
 }

@@ -10,7 +10,7 @@ use Rattle.vt_can.specs.lines.Readings.{FrameAt, OperatorAction, SkippedFrame, C
 use Rattle.vt_logs.specs.declared.counts.Counts.{Counts}
 use Rattle.vt_logs.specs.Lines.{lines_of}
 use Rattle.vt_logs.specs.Taken.{ReplayState, TakesReading, TakesReadings}
-use Rattle.vt_logs.specs.Texts.{LineReading, with_line, with_lines}
+use Rattle.vt_logs.specs.Texts.{LineReading, with_line_counted, with_lines_counted}
 use Rattle.vt_logs.specs.Progress.{AtMost, ReplayPoint, Takes, TakesOne, HasNoNewline, TakesBytes}
 use Rattle.vt_server.specs.shown.Screens.{IsScreenOf}
 
@@ -26,21 +26,21 @@ pub All-joined : {A : Type 0} (P : A → Type 0) (xs bs : List A) → AllByRecur
 All-joined P [] bs p q = q
 All-joined P (a ∷ xs) bs p q = (p.0, All-joined P xs bs p.1 q)
 
-with_lines-append : (c : Counts) (rs qs : List LineReading) → with_lines c (rs ++ qs) ≡ with_lines (with_lines c rs) qs
+with_lines-append : (c : Counts) (rs qs : List LineReading) → with_lines_counted c (rs ++ qs) ≡ with_lines_counted (with_lines_counted c rs) qs
 with_lines-append c [] qs = refl
-with_lines-append c (r ∷ rs) qs = with_lines-append (with_line c r) rs qs
+with_lines-append c (r ∷ rs) qs = with_lines-append (with_line_counted c r) rs qs
 
-with_line-lines : (c : Counts) (r : LineReading) → (with_line c r).lines ≡ c.lines + 1
+with_line-lines : (c : Counts) (r : LineReading) → (with_line_counted c r).lines ≡ c.lines + 1
 with_line-lines c (Ok (FrameAt time frame)) = refl
 with_line-lines c (Ok (OperatorAction action)) = refl
 with_line-lines c (Ok (SkippedFrame why)) = refl
 with_line-lines c (Ok CommentLine) = refl
 with_line-lines c (Err fault) = refl
 
-with_lines-lines : (c : Counts) (rs : List LineReading) → (with_lines c rs).lines ≡ c.lines + length rs
+with_lines-lines : (c : Counts) (rs : List LineReading) → (with_lines_counted c rs).lines ≡ c.lines + length rs
 with_lines-lines c [] = omega arith
 with_lines-lines c (r ∷ rs) =
-    let rest = with_lines-lines (with_line c r) rs in
+    let rest = with_lines-lines (with_line_counted c r) rs in
     let first = with_line-lines c r in
     omega arith
 
@@ -105,7 +105,7 @@ takes_more a b c xs ys p q =
       short = All-joined (λ line. length line ≤ 4096) xs ys p.short q.short;
       printed = p.printed ++ q.printed;
       takes = readings-append a.scene b.scene c.scene a.counts.lines b.counts.lines p.readings q.readings p.printed q.printed p.takes n q.takes;
-      counts = q.counts ∙ ap (λ (k : Counts). with_lines k q.readings) p.counts ∙ sym (with_lines-append a.counts p.readings q.readings);
+      counts = q.counts ∙ ap (λ (k : Counts). with_lines_counted k q.readings) p.counts ∙ sym (with_lines-append a.counts p.readings q.readings);
       text = Appends-trans a.held b.held c.held p.printed q.printed p.text q.text;
     }
 
@@ -182,18 +182,18 @@ bytes_more a b c before xs pending ys left p q = record {
 
 -- ---- how high the counts are
 
-AtMost-line : (n : ℕ) (c : Counts) (r : LineReading) → AtMost n c → AtMost (n + 1) (with_line c r)
+AtMost-line : (n : ℕ) (c : Counts) (r : LineReading) → AtMost n c → AtMost (n + 1) (with_line_counted c r)
 AtMost-line n c (Ok (FrameAt time frame)) most = record { lines = omega (arith, most.lines); frames = omega (arith, most.frames); operator = omega (arith, most.operator); skipped = omega (arith, most.skipped); comments = omega (arith, most.comments); faults = omega (arith, most.faults) }
 AtMost-line n c (Ok (OperatorAction action)) most = record { lines = omega (arith, most.lines); frames = omega (arith, most.frames); operator = omega (arith, most.operator); skipped = omega (arith, most.skipped); comments = omega (arith, most.comments); faults = omega (arith, most.faults) }
 AtMost-line n c (Ok (SkippedFrame why)) most = record { lines = omega (arith, most.lines); frames = omega (arith, most.frames); operator = omega (arith, most.operator); skipped = omega (arith, most.skipped); comments = omega (arith, most.comments); faults = omega (arith, most.faults) }
 AtMost-line n c (Ok CommentLine) most = record { lines = omega (arith, most.lines); frames = omega (arith, most.frames); operator = omega (arith, most.operator); skipped = omega (arith, most.skipped); comments = omega (arith, most.comments); faults = omega (arith, most.faults) }
 AtMost-line n c (Err fault) most = record { lines = omega (arith, most.lines); frames = omega (arith, most.frames); operator = omega (arith, most.operator); skipped = omega (arith, most.skipped); comments = omega (arith, most.comments); faults = omega (arith, most.faults) }
 
-AtMost-lines : (n : ℕ) (c : Counts) (rs : List LineReading) → AtMost n c → AtMost (n + length rs) (with_lines c rs)
+AtMost-lines : (n : ℕ) (c : Counts) (rs : List LineReading) → AtMost n c → AtMost (n + length rs) (with_lines_counted c rs)
 AtMost-lines n c [] most = subst (λ (k : ℕ). AtMost k c) (sym (add-zero n)) most
 AtMost-lines n c (r ∷ rs) most =
     let place : n + 1 + length rs ≡ n + suc (length rs) = omega arith in
-    subst (λ (k : ℕ). AtMost k (with_lines c (r ∷ rs))) place (AtMost-lines (n + 1) (with_line c r) rs (AtMost-line n c r most))
+    subst (λ (k : ℕ). AtMost k (with_lines_counted c (r ∷ rs))) place (AtMost-lines (n + 1) (with_line_counted c r) rs (AtMost-line n c r most))
 
 pub AtMost-more : (m n : ℕ) (c : Counts) → m ≤ n → AtMost m c → AtMost n c
 AtMost-more m n c le most = record { lines = omega (arith, most.lines); frames = omega (arith, most.frames); operator = omega (arith, most.operator); skipped = omega (arith, most.skipped); comments = omega (arith, most.comments); faults = omega (arith, most.faults) }
@@ -207,7 +207,7 @@ length-zip R (a ∷ xs) (b ∷ bs) p = ap suc (length-zip R xs bs p.1)
 pub takes-AtMost : (n : ℕ) (a b : ReplayPoint) (ls : List (List ℕ)) → Takes a ls b → AtMost n a.counts → AtMost (n + length ls) b.counts
 takes-AtMost n a b ls takes most =
     subst (AtMost (n + length ls)) (sym takes.counts)
-    (subst (λ (k : ℕ). AtMost (n + k) (with_lines a.counts takes.readings)) (sym (length-zip ReadsAs ls takes.readings takes.read)) (AtMost-lines n a.counts takes.readings most))
+    (subst (λ (k : ℕ). AtMost (n + k) (with_lines_counted a.counts takes.readings)) (sym (length-zip ReadsAs ls takes.readings takes.read)) (AtMost-lines n a.counts takes.readings most))
 
 -- Taking bytes adds at most one to each count for each byte.
 pub bytes-AtMost : (n k : ℕ) (a b : ReplayPoint) (before bytes pending : List ℕ) → TakesBytes a before bytes b pending → AtMost n a.counts → length bytes ≤ k → AtMost (n + k) b.counts

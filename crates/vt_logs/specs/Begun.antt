@@ -7,7 +7,7 @@ use Rattle.vt_logs.specs.Lines.{lines_of}
 use Rattle.vt_logs.specs.Progress.{ReplayPoint, Takes}
 use Rattle.vt_logs.specs.Replays.{HasLong, HasLongLine}
 use Rattle.vt_logs.specs.Taken.{ReplayState, Follows, TakesReading, TakesReadings}
-use Rattle.vt_logs.specs.Texts.{LineReading, with_lines, no_counts, counts_text}
+use Rattle.vt_logs.specs.Texts.{LineReading, with_lines_counted, no_counts, counts_text}
 use Rattle.vt_server.specs.shown.Screens.{IsScreenOf}
 use Rattle.vt_server.specs.Terminals.{State}
 
@@ -84,7 +84,7 @@ pub record BeginsCounts (last : ReplayState) (readings : List LineReading) (line
   pub none_left : lines ≡ []
   pub now_is : now ≡ last.state
   pub rest : List ℕ
-  pub parts : counts_text (with_lines no_counts readings) ≡ text ++ rest
+  pub parts : counts_text (with_lines_counted no_counts readings) ≡ text ++ rest
 
 -- A replay ended early, after its first screen. The terminal has taken the first lines (none, some or all), and the first screen and the
 -- text of these lines are written. Either at most one more line is taken, with its text written in part, or all lines are taken, and the

@@ -8,7 +8,7 @@ use Rattle.vt_logs.specs.declared.fault.ReplayFault.{ReplayFault}
 use Rattle.vt_logs.specs.declared.fault.ReplayFault.TheVariants.{Memory, TooLong, Write}
 use Rattle.vt_logs.specs.Lines.{lines_of}
 use Rattle.vt_logs.specs.Taken.{ReplayState, TakesReading, TakesReadings}
-use Rattle.vt_logs.specs.Texts.{LineReading, with_line, with_lines}
+use Rattle.vt_logs.specs.Texts.{LineReading, with_line_counted, with_lines_counted}
 use Rattle.vt_server.specs.declared.terminal.Terminal.{Terminal}
 use Rattle.vt_server.specs.States.{state_of}
 
@@ -43,7 +43,7 @@ pub record Writes (Is : List ℕ → Type 0) (old new : Option (List ℕ)) : Typ
 pub record TakesOne (from : ReplayPoint) (reading : LineReading) (to : ReplayPoint) : Type 0 where
   pub printed : List ℕ
   pub takes : TakesReading from.scene (from.counts.lines + 1) reading to.scene printed
-  pub counts : to.counts ≡ with_line from.counts reading
+  pub counts : to.counts ≡ with_line_counted from.counts reading
   pub text : Appends from.held to.held printed
 
 -- Lines are taken, one after the other.
@@ -53,7 +53,7 @@ pub record Takes (from : ReplayPoint) (lines : List (List ℕ)) (to : ReplayPoin
   pub short : AllByRecursion (λ line. length line ≤ 4096) lines
   pub printed : List ℕ
   pub takes : TakesReadings from.scene from.counts.lines readings to.scene printed
-  pub counts : to.counts ≡ with_lines from.counts readings
+  pub counts : to.counts ≡ with_lines_counted from.counts readings
   pub text : Appends from.held to.held printed
 
 -- The faults at the input of a line: Memory, and Write where the sink is not steady.

@@ -7,7 +7,7 @@ use Rattle.vt_logs.specs.declared.fault.ReplayFault.{ReplayFault}
 use Rattle.vt_logs.specs.declared.fault.ReplayFault.TheVariants.{Memory, Read, TooLong, Write}
 use Rattle.vt_logs.specs.Lines.{lines_of}
 use Rattle.vt_logs.specs.Taken.{ReplayState, TakesReadings}
-use Rattle.vt_logs.specs.Texts.{LineReading, with_lines, no_counts, counts_text}
+use Rattle.vt_logs.specs.Texts.{LineReading, with_lines_counted, no_counts, counts_text}
 use Rattle.vt_server.specs.shown.Screens.{IsScreenOf}
 use Rattle.vt_server.specs.Terminals.{State}
 
@@ -24,7 +24,7 @@ pub record IsReplay (start : State) (input : List ℕ) (text : List ℕ) (counts
   pub shown : IsScreenOf start first.screen
   pub takes : TakesReadings first 0 readings last printed
   pub text_is : text ≡ first.screen ++ printed ++ counts_text counts
-  pub counts_are : counts ≡ with_lines no_counts readings
+  pub counts_are : counts ≡ with_lines_counted no_counts readings
   pub now_is : now ≡ last.state
 
 -- One of these lines is longer than 4,096 bytes.

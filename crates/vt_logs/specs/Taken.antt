@@ -3,7 +3,7 @@ use Rattle.std.specs.Prelude.{◌≡◌, ℕ, ◌+◌, List, [], ◌∷◌, ◌+
 use Rattle.std.specs.List.{flat_map}
 use Rattle.vt_can.specs.lines.Actions.{action_value}
 use Rattle.vt_can.specs.lines.Readings.{ParsedLine, FrameAt, OperatorAction, SkippedFrame, CommentLine}
-use Rattle.vt_logs.specs.Texts.{LineReading, output_text, fault_text, new_screen}
+use Rattle.vt_logs.specs.Texts.{LineReading, output_text, line_fault_text, new_screen}
 use Rattle.vt_server.specs.Findings.{IsFound}
 use Rattle.vt_server.specs.Outputs.{outputs_of}
 use Rattle.vt_server.specs.shown.Screens.{IsScreenOf}
@@ -54,7 +54,7 @@ TakesReading from n (Ok (FrameAt time frame)) to text = TakesInputLine from (Fra
 TakesReading from n (Ok (OperatorAction action)) to text = TakesInputLine from (OperatorAction action) to text
 TakesReading from n (Ok (SkippedFrame why)) to text = OnlyPrints from to [] text
 TakesReading from n (Ok CommentLine) to text = OnlyPrints from to [] text
-TakesReading from n (Err fault) to text = OnlyPrints from to (fault_text n fault) text
+TakesReading from n (Err fault) to text = OnlyPrints from to (line_fault_text n fault) text
 
 -- A line is taken after n others, and the lines after it follow.
 pub record TakesFirst (from : ReplayState) (n : ℕ) (reading : LineReading) (Then : ReplayState → List ℕ → Type 0) (text : List ℕ) : Type 0 where

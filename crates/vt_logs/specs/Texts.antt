@@ -48,23 +48,23 @@ abbrev pub new_screen : List ℕ → List ℕ → List ℕ
 new_screen last screen = if bytes_eq screen last then [] else screen
 
 -- The text of the fault of line n.
-abbrev pub fault_text : ℕ → LineFault → List ℕ
-fault_text n fault = codes "line " ++ decimal n ++ codes " " ++ fault_name fault ++ newline
+abbrev pub line_fault_text : ℕ → LineFault → List ℕ
+line_fault_text n fault = codes "line " ++ decimal n ++ codes " " ++ fault_name fault ++ newline
 
 abbrev pub no_counts : Counts
 no_counts = record { lines = 0; frames = 0; operator = 0; skipped = 0; comments = 0; faults = 0 }
 
 -- The counts after one more line, which is of one of the five sorts.
-abbrev pub with_line : Counts → LineReading → Counts
-with_line c (Ok (FrameAt time frame)) = record c { lines = c.lines + 1; frames = c.frames + 1 }
-with_line c (Ok (OperatorAction action)) = record c { lines = c.lines + 1; operator = c.operator + 1 }
-with_line c (Ok (SkippedFrame why)) = record c { lines = c.lines + 1; skipped = c.skipped + 1 }
-with_line c (Ok CommentLine) = record c { lines = c.lines + 1; comments = c.comments + 1 }
-with_line c (Err fault) = record c { lines = c.lines + 1; faults = c.faults + 1 }
+abbrev pub with_line_counted : Counts → LineReading → Counts
+with_line_counted c (Ok (FrameAt time frame)) = record c { lines = c.lines + 1; frames = c.frames + 1 }
+with_line_counted c (Ok (OperatorAction action)) = record c { lines = c.lines + 1; operator = c.operator + 1 }
+with_line_counted c (Ok (SkippedFrame why)) = record c { lines = c.lines + 1; skipped = c.skipped + 1 }
+with_line_counted c (Ok CommentLine) = record c { lines = c.lines + 1; comments = c.comments + 1 }
+with_line_counted c (Err fault) = record c { lines = c.lines + 1; faults = c.faults + 1 }
 
-abbrev pub with_lines : Counts → List LineReading → Counts
-with_lines c [] = c
-with_lines c (r ∷ rs) = with_lines (with_line c r) rs
+abbrev pub with_lines_counted : Counts → List LineReading → Counts
+with_lines_counted c [] = c
+with_lines_counted c (r ∷ rs) = with_lines_counted (with_line_counted c r) rs
 
 abbrev pub count_text : List ℕ → ℕ → List ℕ
 count_text label n = label ++ decimal n

@@ -6,7 +6,7 @@ ghost use Rattle.std.specs.List.{flat_map};
 ghost use Rattle.std.specs.Io.KnownBytes.{Appends, Keeps};
 ghost use Rattle.vt_logs.specs.Begun.{Begins};
 ghost use Rattle.vt_logs.specs.Progress.{IsStepFault};
-ghost use Rattle.vt_logs.specs.Texts.{output_text, refusal_name, fault_text, fault_name, counts_text};
+ghost use Rattle.vt_logs.specs.Texts.{output_text, refusal_name, line_fault_text, fault_name, counts_text};
 
 use crate::counts::Counts;
 use crate::fault::ReplayFault;
@@ -69,8 +69,8 @@ fn refusal_name(fault: OperatorFault) -> &'static str
 
 /// Writes the fault of line `number`.
 pub fn put_fault<W: Sink>(number: u64, fault: LineFault, writer: &mut W) -> Result<(), ReplayFault>
-    ensures text { OnOk result (Appends (W.contents writer.old) (W.contents writer.new) (fault_text number fault)) }
-    ensures front { OnErr result (Begins (W.contents writer.old) (W.contents writer.new) (fault_text number fault)) }
+    ensures text { OnOk result (Appends (W.contents writer.old) (W.contents writer.new) (line_fault_text number fault)) }
+    ensures front { OnErr result (Begins (W.contents writer.old) (W.contents writer.new) (line_fault_text number fault)) }
     ensures fault { IfErr result (IsStepFault W.steady) }
 {
     put(b"line ", writer)?;

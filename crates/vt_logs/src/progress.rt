@@ -6,7 +6,7 @@ ghost use Rattle.vt_can.specs.lines.Readings.{reading_of};
 ghost use Rattle.vt_logs.specs.Lines.{lines_of};
 ghost use Rattle.vt_logs.specs.Begun.{BreaksOff, MayBegin, Stops, StopsAtLong};
 ghost use Rattle.vt_logs.specs.Taken.{Follows, FollowsInput, TakesInputLine, TakesReading, input_line};
-ghost use Rattle.vt_logs.specs.Texts.{with_line, no_counts, new_screen};
+ghost use Rattle.vt_logs.specs.Texts.{with_line_counted, no_counts, new_screen};
 ghost use Rattle.vt_logs.specs.Progress.{AtMost, HasNoNewline, IsLineFault, IsStepFault, Takes, TakesBytes, TakesOne, Writes, scene, stand};
 ghost use Rattle.vt_server.specs.shown.Screens.{IsScreenOf, redraws};
 ghost use Rattle.vt_server.specs.States.{state_of};
@@ -219,7 +219,7 @@ impl Progress {
         ensures stopped { OnErr result (Writes (BreaksOff (state_of terminal.old) (Follows (state_of terminal.old) (reading_of reading.entry))
             (TakesReading (scene terminal.old self.old.screen.items) (self.old.counts.lines + 1) (reading_of reading.entry)) (state_of terminal.new))
             (W.contents writer.old) (W.contents writer.new)) }
-        ensures counts { self.new.counts ≡ with_line self.old.counts (reading_of reading.entry) }
+        ensures counts { self.new.counts ≡ with_line_counted self.old.counts (reading_of reading.entry) }
         ensures pending { self.new.pending ≡ self.old.pending }
         ensures fault { IfErr result (IsStepFault W.steady) }
     {

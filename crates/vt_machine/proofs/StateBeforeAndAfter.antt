@@ -12,7 +12,7 @@ use Rattle.vt_kinds.specs.declared.object.Object.{Object}
 use Rattle.vt_kinds.specs.declared.object.Object.TheVariants as objects
 use Rattle.vt_commands.specs.declared.raising.Raised.{Raised}
 use Rattle.vt_kinds.specs.Records.{Seen, seen, kind_of}
-use Rattle.vt_stores.specs.Stores.{ObjectMap, Objects, AreStored, shown, object_at, map_of, contents_of}
+use Rattle.vt_stores.specs.Stores.{ObjectMap, Objects, AreStored, seen_entry, object_at, map_of, contents_of}
 use Rattle.vt_stores.proofs.StoreMethods.{get_from}
 use Rattle.vt_verify.specs.Macros.{commands}
 use Rattle.vt_stores.specs.Shapes.{Shape, shape_of, kind_at}
@@ -48,7 +48,7 @@ use Rattle.vt_machine.proofs.OneSet.{set_kind}
 
 -- ---- the store of an accepted pool
 
-pub stored_is : {B : Type 0} (es : List (ℕ × Object B)) (pool : Objects) → map shown es ≡ pool → AreStored pool → contents_of es ≡ map_of pool
+pub stored_is : {B : Type 0} (es : List (ℕ × Object B)) (pool : Objects) → map seen_entry es ≡ pool → AreStored pool → contents_of es ≡ map_of pool
 stored_is es pool is stored =
     ap (λ (s : Objects). finite.from_entries s) is
     ∙ finite.same_map nat_cmp_total finite.nat_cmp-IsAntisymmetric (finite.from_entries pool) (map_of pool)
@@ -166,18 +166,18 @@ key_kept old new (Some key) is = by (same_kind (kind_in old key.id) (kind_in new
     by false same = refl
 
 placed_at : {B : Type 0} (es : List (ℕ × Object B)) (place : ℕ) (e d : ℕ × Object B) → e ≡ slice_index_or es place d → place < length es
-    → slice_get (map shown es) place ≡ Some (shown e)
+    → slice_get (map seen_entry es) place ≡ Some (seen_entry e)
 placed_at [] place e d is lt = absurd (omega (arith, lt))
-placed_at (x ∷ es) zero e d is lt = ap (λ y. Some (shown y)) (sym is)
+placed_at (x ∷ es) zero e d is lt = ap (λ y. Some (seen_entry y)) (sym is)
 placed_at (x ∷ es) (suc place) e d is lt = placed_at es place e d is (omega (arith, lt))
 
-pub set_found : {B : Type 0} (es : List (ℕ × Object B)) (place : ℕ) (e d : ℕ × Object B) → e ≡ slice_index_or es place d → place < length es → AreStored (map shown es)
-    → is_working_set (kind_of e.1) ≡ true → option_map kind_of (object_at (map shown es) e.0) ≡ Some kinds.WorkingSet
+pub set_found : {B : Type 0} (es : List (ℕ × Object B)) (place : ℕ) (e d : ℕ × Object B) → e ≡ slice_index_or es place d → place < length es → AreStored (map seen_entry es)
+    → is_working_set (kind_of e.1) ≡ true → option_map kind_of (object_at (map seen_entry es) e.0) ≡ Some kinds.WorkingSet
 set_found es place e d is lt stored set =
-    ap (option_map kind_of) (found_at (map shown es) place e.0 (seen e.1) stored.rising (placed_at es place e d is lt)) ∙ ap Some (seen_kind e.1 ∙ set_kind (kind_of e.1) set)
+    ap (option_map kind_of) (found_at (map seen_entry es) place e.0 (seen e.1) stored.rising (placed_at es place e d is lt)) ∙ ap Some (seen_kind e.1 ∙ set_kind (kind_of e.1) set)
 
-pub stored_set : {B : Type 0} (m : ObjectMap) (es : List (ℕ × Object B)) (pool : Objects) (id : ℕ) → m ≡ map_of pool → map shown es ≡ pool → AreStored pool
-    → option_map kind_of (object_at (map shown es) id) ≡ Some kinds.WorkingSet → kind_in m id ≡ Some kinds.WorkingSet
+pub stored_set : {B : Type 0} (m : ObjectMap) (es : List (ℕ × Object B)) (pool : Objects) (id : ℕ) → m ≡ map_of pool → map seen_entry es ≡ pool → AreStored pool
+    → option_map kind_of (object_at (map seen_entry es) id) ≡ Some kinds.WorkingSet → kind_in m id ≡ Some kinds.WorkingSet
 stored_set m es pool id is all stored set =
     ap (λ (n : ObjectMap). kind_in n id) is ∙ ap (option_map kind_of) (get_from pool id stored.rising)
     ∙ ap (λ (s : Objects). option_map kind_of (object_at s id)) (sym all) ∙ set

@@ -75,8 +75,8 @@ is_enabled (Some (objects.InputNumber o)) = Some (o.options_two % 2 == 1)
 is_enabled (Some (objects.InputList o)) = Some (o.options % 2 == 1)
 is_enabled _ = None
 
-abbrev pub selecting : SetState → ℕ → SetState
-selecting state id = record state { input = Some id }
+abbrev pub selecting_input : SetState → ℕ → SetState
+selecting_input state id = record state { input = Some id }
 
 -- the former input is deselected first; no events if the same input is selected again
 abbrev pub select_events : ℕ → Option ℕ → List Raised
@@ -87,7 +87,7 @@ select_events id (Some old) =
 abbrev pub select_if : SetState → ℕ → Option Bool → ActionResult
 select_if state id None = Refused refusals.WrongKind
 select_if state id (Some false) = Refused refusals.Disabled
-select_if state id (Some true) = Acts [] (selecting state id) (select_events id state.input)
+select_if state id (Some true) = Acts [] (selecting_input state id) (select_events id state.input)
 
 abbrev pub select : Bool → SetState → ℕ → ActionResult
 select false state id = Refused refusals.NotShown

@@ -14,7 +14,7 @@ use Rattle.vt_stores.specs.Stores.{ObjectMap}
 use Rattle.vt_kinds.specs.Texts.{filled_up}
 use Rattle.vt_machine.specs.declared.operator.OperatorRefusal.{OperatorRefusal}
 use Rattle.vt_machine.specs.declared.operator.OperatorRefusal.TheVariants as refusals
-use Rattle.vt_effects.specs.Fields.{byte}
+use Rattle.vt_effects.specs.Fields.{low_byte}
 use Rattle.vt_machine.specs.SetStates.{SetState, with_objects}
 use Rattle.vt_effects.specs.Soundness.{shape_in}
 use Rattle.vt_machine.specs.OperatorActions.{ActionResult, Refused, Acts}
@@ -45,9 +45,9 @@ number_of (objects.NumberVariable o) = Some o.value
 number_of _ = None
 
 abbrev pub with_number : ℕ → Seen → Seen
-with_number n (objects.InputBoolean o) = objects.InputBoolean (record o { value = byte n })
+with_number n (objects.InputBoolean o) = objects.InputBoolean (record o { value = low_byte n })
 with_number n (objects.InputNumber o) = objects.InputNumber (record o { value = n })
-with_number n (objects.InputList o) = objects.InputList (record o { value = byte n })
+with_number n (objects.InputList o) = objects.InputList (record o { value = low_byte n })
 with_number n (objects.NumberVariable o) = objects.NumberVariable (record o { value = n })
 with_number n o = o
 

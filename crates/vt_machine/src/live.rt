@@ -10,7 +10,7 @@ ghost use Rattle.vt_verify.specs.Budgets.{budget};
 ghost use Rattle.vt_verify.specs.Rules.{working_sets};
 ghost use Rattle.vt_verify.specs.Triggers.{listing};
 ghost use Rattle.vt_effects.specs.Effects.{kind_in};
-ghost use Rattle.vt_macros.specs.Machines.{joined};
+ghost use Rattle.vt_macros.specs.Machines.{event_commands};
 ghost use Rattle.vt_effects.specs.Soundness.{shape_in};
 ghost use Rattle.vt_macros.specs.NestedRuns.{CanRun};
 ghost use Rattle.vt_machine.specs.OperatorActions.{HasActed};
@@ -204,7 +204,7 @@ impl<S: Store> Live<S> {
     /// commands raise. Returns the number of steps: 0 for a missing object, and for a number above 26. Event 0 of a macro
     /// runs the macro itself.
     pub fn raise(&mut self, id: ObjectId, event: u8) -> u32
-        ensures run { HasRun self.old.objects (joined (shape_in self.old.objects) (listing id event)) (budget (shape_in self.old.objects) id event) result self.new.objects }
+        ensures run { HasRun self.old.objects (event_commands (shape_in self.old.objects) (listing id event)) (budget (shape_in self.old.objects) id event) result self.new.objects }
         ensures kept { self.new ≡ with_objects self.old self.new.objects }
     {
         raise(&self.index, &mut self.store, &mut self.levels, id, event)

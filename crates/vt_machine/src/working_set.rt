@@ -4,7 +4,7 @@ ghost use Rattle.std.specs.Prelude.{◌≡◌, Some, IfSome, IfNone, map};
 ghost use Rattle.std.specs.Option.{option_map};
 ghost use Rattle.vt_kinds.specs.declared.kind.Kind.TheVariants as kinds;
 ghost use Rattle.vt_kinds.specs.Records.{kind_of};
-ghost use Rattle.vt_stores.specs.Stores.{AreStored, shown, object_at};
+ghost use Rattle.vt_stores.specs.Stores.{AreStored, seen_entry, object_at};
 ghost use Rattle.vt_verify.specs.Rules as rules;
 ghost use Rattle.vt_verify.specs.Rules.{working_sets};
 ghost use Rattle.vt_stores.specs.Shapes.{shape_of};
@@ -13,9 +13,9 @@ use vt_objects::{Kind, Object, ObjectId};
 
 /// The first Working Set of some objects, or `None`.
 pub(crate) fn working_set(objects: &[(ObjectId, Object<Vec<u8>>)]) -> Option<ObjectId>
-    requires { AreStored (map shown objects.now) }
-    ensures some { IfSome result (λ id. option_map kind_of (object_at (map shown objects.now) id) ≡ Some kinds.WorkingSet) }
-    ensures none { IfNone result (working_sets (shape_of (map shown objects.now)) ≡ 0) }
+    requires { AreStored (map seen_entry objects.now) }
+    ensures some { IfSome result (λ id. option_map kind_of (object_at (map seen_entry objects.now) id) ≡ Some kinds.WorkingSet) }
+    ensures none { IfNone result (working_sets (shape_of (map seen_entry objects.now)) ≡ 0) }
 {
     for (id, object) in objects {
         if is_working_set(object) {

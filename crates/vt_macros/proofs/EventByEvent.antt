@@ -11,7 +11,7 @@ use Rattle.vt_verify.specs.Budgets.{MacroCostsAreTotals, budget}
 use Rattle.vt_verify.specs.Rules.{IsAcceptable}
 use Rattle.vt_chains.specs.Limits.{terminal}
 use Rattle.vt_effects.specs.Effects.{after}
-use Rattle.vt_macros.specs.Machines.{joined, joined_all, Stuck, Spent, fault, End, Ended, Sticks, or_sticks, follow_ups, run, total_budget, run_of}
+use Rattle.vt_macros.specs.Machines.{event_commands, joined_all, Stuck, Spent, fault, End, Ended, Sticks, or_sticks, follow_ups, run, total_budget, run_of}
 use Rattle.vt_effects.specs.Soundness.{shape_in}
 use Rattle.vt_macros.specs.Runs.{EndInTurn, EndsBefore}
 use Rattle.vt_effects.specs.Soundness.{IsSound}
@@ -68,7 +68,7 @@ both_run s m middle new r rs left rest first second =
     let cost : Raised → ℕ = λ x. budget s (listing_of x).id (listing_of x).event in
     let budgets : total_budget s (r ∷ rs) ≡ total_budget s (r ∷ []) + total_budget s rs = omega (arith, sum_by-cons cost r rs, sum_by-cons cost r []) in
     let fronts : joined_all s (r ∷ rs) ≡ joined_all s (r ∷ []) ++ joined_all s rs =
-    ap (λ (front : List Command). front ++ joined_all s rs) (sym (append-nil (joined s (listing_of r)))) in
+    ap (λ (front : List Command). front ++ joined_all s rs) (sym (append-nil (event_commands s (listing_of r)))) in
     ap (λ (n : ℕ). run n m (joined_all s (r ∷ rs))) budgets
     ∙ ap (run (total_budget s (r ∷ []) + total_budget s rs) m) fronts
     ∙ run_on (total_budget s (r ∷ [])) left m middle (joined_all s (r ∷ [])) (joined_all s rs) (total_budget s rs) first
@@ -100,6 +100,6 @@ events_end_before_pending pool m r pending more acceptable totals is sound =
     let own = runs_end pool m (r ∷ []) acceptable totals is sound in
     let steps = total_budget (shape_in m) (r ∷ []) in record {
       own = own;
-      goes_on = ap (λ (front : List Command). run (steps + more) m (front ++ pending)) (sym (append-nil (joined (shape_in m) (listing_of r))))
+      goes_on = ap (λ (front : List Command). run (steps + more) m (front ++ pending)) (sym (append-nil (event_commands (shape_in m) (listing_of r))))
           ∙ run_on steps own.left m own.new (joined_all (shape_in m) (r ∷ [])) pending more own.ended;
     }

@@ -10,18 +10,18 @@ use Rattle.vt_commands.specs.declared.command.Command.{Command}
 use Rattle.vt_commands.specs.Commands.{command_at}
 use Rattle.vt_macros.specs.declared.index.Index.{Index}
 use Rattle.vt_macros.specs.declared.index.Span.{Span}
-use Rattle.vt_macros.specs.Indexes.{part, no_span, command_in, HasSpansInBounds}
+use Rattle.vt_macros.specs.Indexes.{in_span, no_span, command_in, HasSpansInBounds}
 
 -- ---- spans of growing lists
 
-pub no_part : {A : Type 0} (xs : List A) (s : Span) → xs ≡ [] → part xs s ≡ []
-no_part xs s is = ap (λ xs. part xs s) is ∙ ap (drop s.start) (take_all s.end [] (omega arith)) ∙ drop_all s.start [] (omega arith)
+pub no_part : {A : Type 0} (xs : List A) (s : Span) → xs ≡ [] → in_span xs s ≡ []
+no_part xs s is = ap (λ xs. in_span xs s) is ∙ ap (drop s.start) (take_all s.end [] (omega arith)) ∙ drop_all s.start [] (omega arith)
 
-pub part_stays : {A : Type 0} (xs more : List A) (s : Span) → s.end ≤ length xs → part (xs ++ more) s ≡ part xs s
+pub part_stays : {A : Type 0} (xs more : List A) (s : Span) → s.end ≤ length xs → in_span (xs ++ more) s ≡ in_span xs s
 part_stays xs more s le = ap (drop s.start) (take-append-le s.end xs more le)
 
 -- the span of the elements appended last
-pub part_added : {A : Type 0} (xs more : List A) (s : Span) → s.start ≡ length xs → s.end ≡ length xs + length more → part (xs ++ more) s ≡ more
+pub part_added : {A : Type 0} (xs more : List A) (s : Span) → s.start ≡ length xs → s.end ≡ length xs + length more → in_span (xs ++ more) s ≡ more
 part_added xs more s start end =
     let all = length-append xs more in
     ap (drop s.start) (take_all s.end (xs ++ more) (omega (arith, all, end)))
@@ -53,7 +53,7 @@ ends_taken n (suc k) (s ∷ spans) all = (all.0, ends_taken n k spans all.1)
 -- ---- the commands at spans
 
 abbrev pub reads : List ℕ → List Span → List (Option Command)
-reads bytes spans = map (λ s. command_at (part bytes s)) spans
+reads bytes spans = map (λ s. command_at (in_span bytes s)) spans
 
 pub reads_stay : (bytes more : List ℕ) (spans : List Span) → EndBy (length bytes) spans → reads (bytes ++ more) spans ≡ reads bytes spans
 reads_stay bytes more [] all = refl
@@ -66,22 +66,22 @@ pub reads_added : (bytes piece : List ℕ) (spans : List Span) (k : ℕ) (s : Sp
     → reads (bytes ++ piece) (drop k (spans ++ s ∷ [])) ≡ reads bytes (drop k spans) ++ command_at piece ∷ []
 reads_added bytes piece spans k s le all start end =
     ap (reads (bytes ++ piece)) (drop-append-le k spans (s ∷ []) le)
-    ∙ map-append (λ (s : Span). command_at (part (bytes ++ piece) s)) (drop k spans) (s ∷ [])
+    ∙ map-append (λ (s : Span). command_at (in_span (bytes ++ piece) s)) (drop k spans) (s ∷ [])
     ∙ ap₂ (λ (cs : List (Option Command)) (c : Option Command). cs ++ c ∷ [])
     (reads_stay bytes piece (drop k spans) (ends_left (length bytes) k spans all))
     (ap command_at (part_added bytes piece s start end))
 
 -- an earlier macro reads as before
 pub macro_stays : (bytes bytes' : List ℕ) (spans spans' : List Span) (s : Span) → take (length bytes) bytes' ≡ bytes → take (length spans) spans' ≡ spans
-    → s.end ≤ length spans → EndBy (length bytes) spans → reads bytes' (part spans' s) ≡ reads bytes (part spans s)
+    → s.end ≤ length spans → EndBy (length bytes) spans → reads bytes' (in_span spans' s) ≡ reads bytes (in_span spans s)
 macro_stays bytes bytes' spans spans' s front fronts le all =
     let more = drop (length bytes) bytes' in
     let grown : bytes' ≡ bytes ++ more = sym (take-append-drop (length bytes) bytes') ∙ ap (λ (f : List ℕ). f ++ more) front in
     let after = drop (length spans) spans' in
     let grown_spans : spans' ≡ spans ++ after = sym (take-append-drop (length spans) spans') ∙ ap (λ (f : List Span). f ++ after) fronts in
-    ap₂ (λ (bs : List ℕ) (ss : List Span). reads bs (part ss s)) grown grown_spans
+    ap₂ (λ (bs : List ℕ) (ss : List Span). reads bs (in_span ss s)) grown grown_spans
     ∙ ap (reads (bytes ++ more)) (part_stays spans after s le)
-    ∙ reads_stay bytes more (part spans s) (ends_left (length bytes) s.start (take s.end spans) (ends_taken (length bytes) s.end spans all))
+    ∙ reads_stay bytes more (in_span spans s) (ends_left (length bytes) s.start (take s.end spans) (ends_taken (length bytes) s.end spans all))
 
 -- ---- a macro that is appended command by command
 
@@ -195,24 +195,24 @@ module _ (first now next : Index) (id : ℕ) (all : List (Option Command)) (low 
   }
 
   read_case : (other : ℕ) (b : Bool) → nat_eq other id ≡ b
-      → reads next.bytes.items (part next.pieces.items (get_or next.macros.items other no_span))
-      ≡ cond b all (reads first.bytes.items (part first.pieces.items (get_or first.macros.items other no_span)))
+      → reads next.bytes.items (in_span next.pieces.items (get_or next.macros.items other no_span))
+      ≡ cond b all (reads first.bytes.items (in_span first.pieces.items (get_or first.macros.items other no_span)))
   unfolding put
   read_case other true is =
       ap₂ (λ (bs : List ℕ) (ss : List Span). reads bs ss) bytes
-      (ap₂ (λ (ss : List Span) (s : Span). part ss s) pieces (placed other (eqb-true other id is))
+      (ap₂ (λ (ss : List Span) (s : Span). in_span ss s) pieces (placed other (eqb-true other id is))
       ∙ ap (drop (length first.pieces.items)) (take_all (length now.pieces.items) now.pieces.items (omega arith)))
       ∙ sym (append-nil (reads now.bytes.items (drop (length first.pieces.items) now.pieces.items)))
       ∙ grown.read
   read_case other false is =
       ap₂ (λ (bs : List ℕ) (ss : List Span). reads bs ss) bytes
-      (ap₂ (λ (ss : List Span) (s : Span). part ss s) pieces
+      (ap₂ (λ (ss : List Span) (s : Span). in_span ss s) pieces
       (not_placed other (λ e. let never : false ≡ true = sym is ∙ eq-eqb other id e in absurd cc)))
       ∙ macro_stays first.bytes.items now.bytes.items first.pieces.items now.pieces.items (get_or first.macros.items other no_span)
       grown.bytes_stay grown.pieces_stay (within.of_pieces other) within.of_bytes
 
-  pub put_read : (other : ℕ) → reads next.bytes.items (part next.pieces.items (get_or next.macros.items other no_span))
-      ≡ cond (nat_eq other id) all (reads first.bytes.items (part first.pieces.items (get_or first.macros.items other no_span)))
+  pub put_read : (other : ℕ) → reads next.bytes.items (in_span next.pieces.items (get_or next.macros.items other no_span))
+      ≡ cond (nat_eq other id) all (reads first.bytes.items (in_span first.pieces.items (get_or first.macros.items other no_span)))
   put_read other = read_case other (nat_eq other id) refl
 
 -- ---- the index before any macro

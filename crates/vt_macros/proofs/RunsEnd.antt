@@ -34,7 +34,7 @@ use Rattle.vt_chains.specs.Limits.{terminal}
 use Rattle.vt_effects.specs.Changes.{is_one_of}
 use Rattle.vt_effects.specs.Effects.{kind_in, pointer_value, effect, after}
 use Rattle.vt_effects.specs.Soundness.{IsSound, value_fits}
-use Rattle.vt_macros.specs.Machines.{mask_of, hide, events_of, raised, joined, joined_all, fault, End, Ended, or_sticks, follow_ups, run, total_budget, run_of}
+use Rattle.vt_macros.specs.Machines.{mask_of, hide, events_of, raised, event_commands, joined_all, fault, End, Ended, or_sticks, follow_ups, run, total_budget, run_of}
 use Rattle.vt_effects.specs.Soundness.{shape_in}
 use Rattle.vt_macros.specs.Runs.{Ends}
 use Rattle.vt_effects.proofs.lemmas.stores.OneChangedObject.{first_of}
@@ -55,8 +55,8 @@ sum_mapped f g (x ∷ xs) = sum_by-cons f (g x) (map g xs) ∙ ap (λ n. f (g x)
 abbrev pub raised_cost : Shape → Raised → ℕ
 raised_cost shape r = total (cost shape) shape (listing_of r)
 
-joined_cost : (shape : Shape) (event : Listing) → MacroCostsAreTotals shape → sum_by (command_cost (cost shape) shape) (joined shape event) ≡ total (cost shape) shape event
-unfolding joined
+joined_cost : (shape : Shape) (event : Listing) → MacroCostsAreTotals shape → sum_by (command_cost (cost shape) shape) (event_commands shape event) ≡ total (cost shape) shape event
+unfolding event_commands
 joined_cost shape event totals =
     sums_of_sums (command_cost (cost shape) shape) (commands shape) (listed shape event)
     ∙ same_sums (macro_cost (cost shape) shape) (cost shape) (listed shape event) (λ id. sym (totals id))
@@ -64,8 +64,8 @@ joined_cost shape event totals =
 pub joined_costs : (shape : Shape) (rs : List Raised) → MacroCostsAreTotals shape
     → sum_by (command_cost (cost shape) shape) (joined_all shape rs) ≡ sum_by (raised_cost shape) rs
 joined_costs shape rs totals =
-    sums_of_sums (command_cost (cost shape) shape) (λ r. joined shape (listing_of r)) rs
-    ∙ same_sums (λ r. sum_by (command_cost (cost shape) shape) (joined shape (listing_of r))) (raised_cost shape) rs (λ r. joined_cost shape (listing_of r) totals)
+    sums_of_sums (command_cost (cost shape) shape) (λ r. event_commands shape (listing_of r)) rs
+    ∙ same_sums (λ r. sum_by (command_cost (cost shape) shape) (event_commands shape (listing_of r))) (raised_cost shape) rs (λ r. joined_cost shape (listing_of r) totals)
 
 -- ---- the hidden mask
 
@@ -193,15 +193,15 @@ follow_bound m shape command sound is totals =
 abbrev NoFault : Shape → List Command → Type 0
 NoFault shape cs = AllByRecursion (λ c. fault shape c ≡ None) cs
 
-joined_faultless : (shape : Shape) (event : Listing) → ((id : ℕ) → NoFault shape (commands shape id)) → NoFault shape (joined shape event)
-unfolding joined
+joined_faultless : (shape : Shape) (event : Listing) → ((id : ℕ) → NoFault shape (commands shape id)) → NoFault shape (event_commands shape event)
+unfolding event_commands
 joined_faultless shape event none =
     all_flat (λ c. fault shape c ≡ None) (commands shape) (listed shape event) (all_of (λ id. NoFault shape (commands shape id)) (listed shape event) none)
 
 all_faultless : (shape : Shape) (rs : List Raised) → ((id : ℕ) → NoFault shape (commands shape id)) → NoFault shape (joined_all shape rs)
 all_faultless shape rs none =
-    all_flat (λ c. fault shape c ≡ None) (λ r. joined shape (listing_of r)) rs
-    (all_of (λ r. NoFault shape (joined shape (listing_of r))) rs (λ r. joined_faultless shape (listing_of r) none))
+    all_flat (λ c. fault shape c ≡ None) (λ r. event_commands shape (listing_of r)) rs
+    (all_of (λ r. NoFault shape (event_commands shape (listing_of r))) rs (λ r. joined_faultless shape (listing_of r) none))
 
 follow_faultless : (m : ObjectMap) (shape : Shape) (command : Command) → shape_in m ≡ shape → ((id : ℕ) → NoFault shape (commands shape id))
     → NoFault shape (follow_ups m command)

@@ -22,7 +22,7 @@ use Rattle.vt_kinds.specs.References.{slot, slots_of, is_member}
 use Rattle.vt_stores.specs.Stores.{Objects, AreStored, object_at, map_of}
 use Rattle.vt_verify.specs.Lists.{first_failing}
 use Rattle.vt_stores.specs.Shapes.{Shape, Fixed, fixed, shape_of, fixed_at, kind_at}
-use Rattle.vt_verify.specs.References.{is_there, may_stand, fits, of_slot, slot_references, references, pointed, with_value, values_of}
+use Rattle.vt_verify.specs.References.{is_there, may_stand, fits, of_slot, slot_references, references, pointed, with_value, slot_values}
 use Rattle.vt_verify.specs.References as references
 use Rattle.vt_chains.specs.Inclusions.{included, IsShallow}
 use Rattle.vt_verify.specs.Rules.{IsAcceptable, working_sets}
@@ -152,13 +152,13 @@ slots_by pool parent (s ∷ slots) stored all there fit =
 sound_of : (pool : Objects) → AreStored pool → IsAcceptable terminal pool → IsSound (map_of pool)
 sound_of pool stored acceptable =
     let there = each_passes (is_there (shape_of pool)) slot_references pool (IsAcceptable.references_there acceptable) in
-    let fit = each_passes (fits (shape_of pool)) (values_of pool) pool (IsAcceptable.references_fit acceptable) in
+    let fit = each_passes (fits (shape_of pool)) (slot_values pool) pool (IsAcceptable.references_fit acceptable) in
     record {
       slots = λ id o at.
           let found : object_at pool id ≡ Some o = sym (get_is pool id stored) ∙ at in
           slots_by pool id (slots_of o) stored there
           (found_entry (λ e. first_failing (is_there (shape_of pool)) (slot_references e) ≡ None) pool id o found there)
-          (found_entry (λ e. first_failing (fits (shape_of pool)) (values_of pool e) ≡ None) pool id o found fit);
+          (found_entry (λ e. first_failing (fits (shape_of pool)) (slot_values pool e) ≡ None) pool id o found fit);
       shallow = subst (λ (es : Objects). IsShallow terminal.inclusions (included es)) (sym (entries_are pool stored)) (IsAcceptable.chains_short acceptable);
     }
 

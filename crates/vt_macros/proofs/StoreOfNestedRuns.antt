@@ -21,9 +21,9 @@ use Rattle.vt_chains.specs.Certificates.{AreLevels}
 use Rattle.vt_effects.specs.Changes.{HasResult, left}
 use Rattle.vt_effects.specs.Effects.{effect, after}
 use Rattle.vt_macros.specs.Indexes.{IsIndexOf, command_in}
-use Rattle.vt_macros.specs.Machines.{events_of, raised, joined, joined_all, total_budget, fault, run, follow_ups}
+use Rattle.vt_macros.specs.Machines.{events_of, raised, event_commands, joined_all, total_budget, fault, run, follow_ups}
 use Rattle.vt_effects.specs.Soundness.{shape_in}
-use Rattle.vt_macros.specs.NestedRuns.{CanRun, StepsLead, HaveRun, AreRunning, commands_at, cost_of}
+use Rattle.vt_macros.specs.NestedRuns.{CanRun, StepsLead, HaveRun, AreRunning, commands_at, cost_on_store}
 use Rattle.vt_effects.specs.Soundness.{IsSound}
 use Rattle.vt_effects.proofs.lemmas.order.OrderAfterCommand.{commands_keep_order}
 use Rattle.vt_macros.proofs.RunsEnd.{raised_cost, raised_bound, budget_is, run_step, no_fault_runs}
@@ -32,7 +32,7 @@ use Rattle.vt_verify.proofs.lemmas.graphs.SameCosts.{sums_of_sums, same_sums}
 
 -- the commands of an event, and the most that they cost
 abbrev pub event_front : Shape → Raised → List Command
-event_front shape r = joined shape (listing_of r)
+event_front shape r = event_commands shape (listing_of r)
 
 abbrev pub event_most : Shape → Raised → ℕ
 event_most shape r = budget shape (listing_of r).id (listing_of r).event
@@ -112,8 +112,8 @@ budget_total : (shape : Shape) (id event : ℕ) (items : List ℕ) → items ≡
 unfolding budget
 budget_total shape id event items is = ap (sum_by (cost shape)) is
 
-joined_is : (shape : Shape) (id event : ℕ) (items : List ℕ) → items ≡ listed shape (listing id event) → flat_map (commands shape) items ≡ joined shape (listing id event)
-unfolding joined
+joined_is : (shape : Shape) (id event : ℕ) (items : List ℕ) → items ≡ listed shape (listing id event) → flat_map (commands shape) items ≡ event_commands shape (listing id event)
+unfolding event_commands
 joined_is shape id event items is = ap (flat_map (commands shape)) is
 
 -- a run under an unchanged shape
@@ -131,7 +131,7 @@ module _ (index : Index) (old : ObjectMap) (items : List ℕ) (id event : ℕ) (
       omega (arith, le, all, same)
 
   pub macros_end : (i j : ℕ) (now : ObjectMap) (levels : Levels) → AreRunning index old (commands (shape_in old)) (cost (shape_in old)) items i j now levels → length items ≤ i
-      → HaveRun index old (joined (shape_in old) (listing id event)) (budget (shape_in old) id event) j now levels
+      → HaveRun index old (event_commands (shape_in old) (listing id event)) (budget (shape_in old) id event) j now levels
   macros_end i j now levels running le =
       subst (λ (front : List Command). HaveRun index old front (budget (shape_in old) id event) j now levels) (joined_is (shape_in old) id event items is)
       (subst (λ (most : ℕ). HaveRun index old (flat_map (commands (shape_in old)) items) most j now levels) (budget_total (shape_in old) id event items is)
@@ -150,12 +150,12 @@ macro_ran index old items i j k next d now new levels then running lt ran is =
 pub event_ran : (index : Index) (old : ObjectMap) (raised : List Raised) (i j k next number : ℕ) (d : Raised) (now new : ObjectMap) (levels then : Levels)
     → AreRunning index old (event_front (shape_in old)) (event_most (shape_in old)) raised i j now levels → i < length raised
     → number ≡ event_number (slice_index_or raised i d).event
-    → HaveRun index now (joined (shape_in now) (listing (slice_index_or raised i d).id number)) (budget (shape_in now) (slice_index_or raised i d).id number) k new then
+    → HaveRun index now (event_commands (shape_in now) (listing (slice_index_or raised i d).id number)) (budget (shape_in now) (slice_index_or raised i d).id number) k new then
     → next ≡ suc i → AreRunning index old (event_front (shape_in old)) (event_most (shape_in old)) raised next (j + k) new then
 event_ran index old raised i j k next number d now new levels then running lt is ran more =
     next_part index old (event_front (shape_in old)) (event_most (shape_in old)) raised i j k next d now new levels then running lt
     (at_shape event_front event_most index old now new (slice_index_or raised i d) k then running.shape
-    (subst (λ (n : ℕ). HaveRun index now (joined (shape_in now) (listing (slice_index_or raised i d).id n)) (budget (shape_in now) (slice_index_or raised i d).id n) k new then) is ran))
+    (subst (λ (n : ℕ). HaveRun index now (event_commands (shape_in now) (listing (slice_index_or raised i d).id n)) (budget (shape_in now) (slice_index_or raised i d).id n) k new then) is ran))
     more
 
 pub event_within : (index : Index) (old : ObjectMap) (raised : List Raised) (i j number : ℕ) (d : Raised) (now : ObjectMap) (levels : Levels)
@@ -199,13 +199,13 @@ part_of P h (x ∷ xs) (suc i) d lt all = part_of P h xs i d (omega (arith, lt))
 
 -- the most that the command at a span costs
 abbrev pub piece_most : Index → ObjectMap → Span → ℕ
-piece_most index store piece = sum_by (cost_of store) (commands_at index piece)
+piece_most index store piece = sum_by (cost_on_store store) (commands_at index piece)
 
 module _ (index : Index) (old : ObjectMap) (levels : Levels) (can : CanRun index old levels) (id : ℕ) (pieces : List Span)
     (are : map (command_in index) pieces ≡ map Some (commands (shape_in old) id)) where
   pub pieces_cost : sum_by (piece_most index old) pieces ≡ cost (shape_in old) id
   pieces_cost =
-      sym (sums_of_sums (cost_of old) (commands_at index) pieces) ∙ ap (sum_by (cost_of old)) (all_some index pieces (commands (shape_in old) id) are) ∙ sym (can.totals id)
+      sym (sums_of_sums (cost_on_store old) (commands_at index) pieces) ∙ ap (sum_by (cost_on_store old)) (all_some index pieces (commands (shape_in old) id) are) ∙ sym (can.totals id)
 
   pub piece_within : (i j : ℕ) (d : Span) (now : ObjectMap) (later : Levels) → AreRunning index old (commands_at index) (piece_most index old) pieces i j now later → i < length pieces
       → j + piece_most index now (slice_index_or pieces i d) ≤ cost (shape_in old) id
@@ -277,7 +277,7 @@ module _ (index : Index) (m : ObjectMap) (levels : Levels) (command : Command) (
   pub new_shape : shape_in new ≡ shape_in m
   new_shape = ap shape_in is ∙ shapes_stay m command
 
-  pub events_within : total_budget (shape_in new) events + 1 ≤ cost_of m command
+  pub events_within : total_budget (shape_in new) events + 1 ≤ cost_on_store m command
   events_within =
       let bound = raised_bound m (shape_in m) command can.sound (shape_entries m) in
       let same = ap (λ (s : Shape). total_budget s events) new_shape ∙ events_cost (shape_in m) events
@@ -295,7 +295,7 @@ module _ (index : Index) (m : ObjectMap) (levels : Levels) (command : Command) (
 
   pub command_ran : (k : ℕ) (last : ObjectMap) (later : Levels) → fault (shape_in m) command ≡ None
       → HaveRun index new (joined_all (shape_in new) events) (total_budget (shape_in new) events) k last later
-      → HaveRun index m (command ∷ []) (cost_of m command) (k + 1) last later
+      → HaveRun index m (command ∷ []) (cost_on_store m command) (k + 1) last later
   command_ran k last later none ran =
       let one = ran.within in
       let all = events_within in
@@ -320,7 +320,7 @@ unfolding follow_ups
 none_follow m command error failed = ap (joined_all (shape_in (after m command))) (none_raised m command (refused_by error (effect m command) failed))
 
 pub command_refused : (index : Index) (m new : ObjectMap) (levels then : Levels) (command : Command) (error : ℕ) → CanRun index m levels → fault (shape_in m) command ≡ None
-    → HasResult (Err error) (effect m command) → new ≡ after m command → AreLevels new then → HaveRun index m (command ∷ []) (cost_of m command) 1 new then
+    → HasResult (Err error) (effect m command) → new ≡ after m command → AreLevels new then → HaveRun index m (command ∷ []) (cost_on_store m command) 1 new then
 command_refused index m new levels then command error can none failed is are =
     record {
       can = after_can index m levels then command new can is are;
@@ -338,11 +338,11 @@ command_refused index m new levels then command error can none failed is are =
 pub item_ran : (index : Index) (old : ObjectMap) (raised : List Raised) (i j k next number : ℕ) (x d : Raised) (now new : ObjectMap) (levels then : Levels)
     → AreRunning index old (event_front (shape_in old)) (event_most (shape_in old)) raised i j now levels → i < length raised
     → x ≡ slice_index_or raised i d → number ≡ event_number x.event
-    → HaveRun index now (joined (shape_in now) (listing x.id number)) (budget (shape_in now) x.id number) k new then
+    → HaveRun index now (event_commands (shape_in now) (listing x.id number)) (budget (shape_in now) x.id number) k new then
     → next ≡ suc i → AreRunning index old (event_front (shape_in old)) (event_most (shape_in old)) raised next (j + k) new then
 item_ran index old raised i j k next number x d now new levels then running lt at is ran more =
     event_ran index old raised i j k next number d now new levels then running lt (is ∙ ap (λ (r : Raised). event_number r.event) at)
-    (subst (λ (r : Raised). HaveRun index now (joined (shape_in now) (listing r.id number)) (budget (shape_in now) r.id number) k new then) at ran) more
+    (subst (λ (r : Raised). HaveRun index now (event_commands (shape_in now) (listing r.id number)) (budget (shape_in now) r.id number) k new then) at ran) more
 
 pub item_within : (index : Index) (old : ObjectMap) (raised : List Raised) (i j number : ℕ) (x d : Raised) (now : ObjectMap) (levels : Levels)
     → AreRunning index old (event_front (shape_in old)) (event_most (shape_in old)) raised i j now levels → i < length raised

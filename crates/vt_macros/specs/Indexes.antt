@@ -10,19 +10,19 @@ use Rattle.vt_macros.specs.declared.index.Index.{Index}
 use Rattle.vt_macros.specs.declared.index.Span.{Span}
 
 -- the elements from the start of a span to its end
-abbrev pub part : {A : Type 0} → List A → Span → List A
-part xs span = drop span.start (take span.end xs)
+abbrev pub in_span : {A : Type 0} → List A → Span → List A
+in_span xs span = drop span.start (take span.end xs)
 
 abbrev pub no_span : Span
 no_span = record { start = 0; end = 0 }
 
 -- the command at a span of the macros' bytes
 abbrev pub command_in : Index → Span → Option Command
-command_in index span = command_at (part index.bytes.items span)
+command_in index span = command_at (in_span index.bytes.items span)
 
 -- the spans of the commands of a macro
 abbrev pub pieces_in : Index → ℕ → List Span
-pieces_in index id = part index.pieces.items (slice_index_or index.macros.items id no_span)
+pieces_in index id = in_span index.pieces.items (slice_index_or index.macros.items id no_span)
 
 -- The index has the listed macros of each event, and the commands of each macro.
 pub record IsIndexOf (shape : Shape) (index : Index) : Type 0 where

@@ -48,11 +48,11 @@ raised store command = if is_ok (effect store command) then events_of store comm
 -- ---- the machine
 
 -- the commands of the macros that run at an event, in the order of its list
-unfoldable pub joined : Shape → Listing → List Command
-joined shape event = flat_map (commands shape) (listed shape event)
+unfoldable pub event_commands : Shape → Listing → List Command
+event_commands shape event = flat_map (commands shape) (listed shape event)
 
 abbrev pub joined_all : Shape → List Raised → List Command
-joined_all shape raised = flat_map (λ r. joined shape (listing_of r)) raised
+joined_all shape raised = flat_map (λ r. event_commands shape (listing_of r)) raised
 
 -- the reasons why the machine is stuck
 pub data Stuck : Type 0 where

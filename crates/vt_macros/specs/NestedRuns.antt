@@ -43,8 +43,8 @@ abbrev pub commands_at : Index → Span → List Command
 commands_at index piece = option_to_list (command_in index piece)
 
 -- the most that a command costs on a store
-abbrev pub cost_of : ObjectMap → Command → ℕ
-cost_of store command = command_cost (cost (shape_in store)) (shape_in store) command
+abbrev pub cost_on_store : ObjectMap → Command → ℕ
+cost_on_store store command = command_cost (cost (shape_in store)) (shape_in store) command
 
 -- ---- a loop that runs the parts of a list one after the other, from an index on
 

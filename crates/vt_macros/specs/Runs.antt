@@ -10,7 +10,7 @@ use Rattle.vt_verify.specs.Budgets.{MacroCostsAreTotals}
 use Rattle.vt_verify.specs.Triggers.{listing_of}
 use Rattle.vt_verify.specs.Rules.{IsAcceptable, working_sets}
 use Rattle.vt_chains.specs.Limits.{terminal}
-use Rattle.vt_macros.specs.Machines.{End, Ended, joined, run, total_budget, run_of}
+use Rattle.vt_macros.specs.Machines.{End, Ended, event_commands, run, total_budget, run_of}
 use Rattle.vt_effects.specs.Soundness.{shape_in}
 use Rattle.vt_effects.specs.Soundness.{IsSound}
 
@@ -46,7 +46,7 @@ EventsEndInTurn = (pool : Objects) (store new : ObjectMap) (left : ℕ) (raised 
 -- the remaining steps.
 pub record EndsBefore (store : ObjectMap) (r : Raised) (pending : List Command) (more : ℕ) : Type 0 where
   pub own : Ends store (total_budget (shape_in store) (r ∷ [])) (run_of store (r ∷ []))
-  pub goes_on : run (total_budget (shape_in store) (r ∷ []) + more) store (joined (shape_in store) (listing_of r) ++ pending) ≡ run (own.left + more) own.new pending
+  pub goes_on : run (total_budget (shape_in store) (r ∷ []) + more) store (event_commands (shape_in store) (listing_of r) ++ pending) ≡ run (own.left + more) own.new pending
 
 -- Every event raised before pending commands ends within its own budget, also one raised by a command of a macro: the
 -- store is in order then too, by the laws `commands_keep_order` and `commands_keep_shapes` of vt_effects.

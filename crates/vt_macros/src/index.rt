@@ -6,7 +6,7 @@ ghost use Rattle.vt_commands.specs.Pieces.{cut};
 ghost use Rattle.vt_stores.specs.Shapes.{Shape, shape_of};
 ghost use Rattle.vt_verify.specs.Macros.{cut_or_none, commands};
 ghost use Rattle.vt_verify.specs.Triggers.{listing, listed};
-ghost use Rattle.vt_macros.specs.Indexes.{part, command_in, pieces_in, IsIndexOf, HasSpansInBounds};
+ghost use Rattle.vt_macros.specs.Indexes.{in_span, command_in, pieces_in, IsIndexOf, HasSpansInBounds};
 
 use std::alloc::{AllocError, Global};
 use vt_objects::laws::cut_is_one;
@@ -152,7 +152,7 @@ impl Index {
 
 /// The elements of a span, from its start to its end.
 fn part<T>(all: &[T], span: Span) -> &[T]
-    ensures { result.now ≡ part all.now span }
+    ensures { result.now ≡ in_span all.now span }
 {
     let front = all.get(..span.end).unwrap_or(all);
     front.get(span.start..).unwrap_or(&[])

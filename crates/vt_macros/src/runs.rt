@@ -5,9 +5,9 @@ ghost use Rattle.std.specs.List.{AllByRecursion};
 ghost use Rattle.vt_verify.specs.Budgets.{budget, cost};
 ghost use Rattle.vt_verify.specs.Macros.{commands};
 ghost use Rattle.vt_verify.specs.Triggers.{listing};
-ghost use Rattle.vt_macros.specs.Machines.{fault, joined, joined_all, total_budget};
+ghost use Rattle.vt_macros.specs.Machines.{fault, event_commands, joined_all, total_budget};
 ghost use Rattle.vt_effects.specs.Soundness.{shape_in};
-ghost use Rattle.vt_macros.specs.NestedRuns.{CanRun, HaveRun, commands_at, cost_of};
+ghost use Rattle.vt_macros.specs.NestedRuns.{CanRun, HaveRun, commands_at, cost_on_store};
 
 use crate::index::{Index, Span};
 use crate::raising::events_of;
@@ -44,7 +44,7 @@ pub fn raise<S: Store>(
     event: u8,
 ) -> u32
     requires { CanRun index.now (S.contents store.old) levels.old }
-    ensures { HaveRun index.now (S.contents store.old) (joined (shape_in (S.contents store.old)) (listing id event)) (budget (shape_in (S.contents store.old)) id event) result (S.contents store.new) levels.new }
+    ensures { HaveRun index.now (S.contents store.old) (event_commands (shape_in (S.contents store.old)) (listing id event)) (budget (shape_in (S.contents store.old)) id event) result (S.contents store.new) levels.new }
 {
     let mut steps = 0u32;
     for macro_id in index.macros_at(id, event) {
@@ -71,8 +71,8 @@ fn run_macro<S: Store>(index: &Index, store: &mut S, levels: &mut Levels, id: u8
 fn run_piece<S: Store>(index: &Index, store: &mut S, levels: &mut Levels, piece: &Span) -> u32
     requires can { CanRun index.now (S.contents store.old) levels.old }
     requires fault { AllByRecursion (λ command. fault (shape_in (S.contents store.old)) command ≡ None) (commands_at index.now piece.now) }
-    requires small { sum_by (cost_of (S.contents store.old)) (commands_at index.now piece.now) < 2 ^ 32 }
-    ensures { HaveRun index.now (S.contents store.old) (commands_at index.now piece.now) (sum_by (cost_of (S.contents store.old)) (commands_at index.now piece.now)) result (S.contents store.new) levels.new }
+    requires small { sum_by (cost_on_store (S.contents store.old)) (commands_at index.now piece.now) < 2 ^ 32 }
+    ensures { HaveRun index.now (S.contents store.old) (commands_at index.now piece.now) (sum_by (cost_on_store (S.contents store.old)) (commands_at index.now piece.now)) result (S.contents store.new) levels.new }
 {
     match index.command(piece) {
         Some(command) => take(index, store, levels, &command),
@@ -85,8 +85,8 @@ fn run_piece<S: Store>(index: &Index, store: &mut S, levels: &mut Levels, piece:
 fn take<S: Store>(index: &Index, store: &mut S, levels: &mut Levels, command: &Command<'_>) -> u32
     requires can { CanRun index.now (S.contents store.old) levels.old }
     requires fault { fault (shape_in (S.contents store.old)) command.now ≡ None }
-    requires small { cost_of (S.contents store.old) command.now < 2 ^ 32 }
-    ensures { HaveRun index.now (S.contents store.old) (command.now ∷ []) (cost_of (S.contents store.old) command.now) result (S.contents store.new) levels.new }
+    requires small { cost_on_store (S.contents store.old) command.now < 2 ^ 32 }
+    ensures { HaveRun index.now (S.contents store.old) (command.now ∷ []) (cost_on_store (S.contents store.old) command.now) result (S.contents store.new) levels.new }
 {
     let raised = events_of(store, command);
     match execute(store, levels, command) {

@@ -2,7 +2,7 @@
 use Rattle.std.proofs.Common.{◌≡◌, ◌≢◌, ℕ, zero, suc, ◌-◌, ◌<◌, ◌≤◌, inl, inr, Bool, true, false, cond, ◌||◌, nat_lt, List, [], ◌∷◌, ◌++◌, length, take, Option, Some, None, refl, sym, ap, ◌∙◌, arith, eq-eqb, ne_eqb, append-nil, subst}
 use Rattle.std.proofs.lemmas.Option.{same_Some}
 use Rattle.std.proofs.lemmas.Bool.{lt-ltb, le-ltb, cases_lt}
-use Rattle.vt_names.specs.Registry.{Set, set_at, with_set, joining, binding, preloaded, mastered, joined, bound, has_place}
+use Rattle.vt_names.specs.Registry.{Set, set_at, with_set, joining, binding, preloaded, mastered, with_member, bound, has_place}
 use Rattle.vt_names.specs.Registrations.{RegistryInput, Masters, Joins, Closes, Preloads, Binds, registers, closes, registration_name, registration_count, bound_name, member_names, IsOfLast, after_events}
 use Rattle.vt_names.proofs.AddressesAfterClaim.{by_eq, none-some}
 use Rattle.vt_names.proofs.SetsByAddress.{set_at-address, at-with, at-without}
@@ -66,7 +66,7 @@ one-more (suc k) (x ∷ l) n =
     ∙ ap (λ b. cond b (x ∷ take k l ++ n ∷ []) (x ∷ take k l)) (sym (below (length (take k l)) k (suc (length (take k l))) (suc k) (λ h. omega arith) (λ h. omega arith)))
 
 joined-last : (q n : ℕ) (earlier : List RegistryInput) (s : Set) (b : Bool) → has_place s ≡ b → IsOfLast earlier q s
-    → IsOfLast (Joins q n ∷ earlier) q (cond b (joined s n) s)
+    → IsOfLast (Joins q n ∷ earlier) q (cond b (with_member s n) s)
 joined-last q n earlier s b has is = record {
   since = Joins q n ∷ is.since;
   registration = is.registration;
@@ -79,11 +79,11 @@ joined-last q n earlier s b has is = record {
   members = members b (sym (sym has ∙ place s.count (length s.members) ∙ ap (λ l. nat_lt (length l) (s.count - 1)) is.members)) ∙ ap (λ (c : ℕ). take (c - 1) (member_names q (Joins q n ∷ is.since))) (sym (count b));
 }
   where
-    name : (b : Bool) → (cond b (joined s n) s).name ≡ s.name
+    name : (b : Bool) → (cond b (with_member s n) s).name ≡ s.name
     name true = refl
     name false = refl
 
-    count : (b : Bool) → (cond b (joined s n) s).count ≡ s.count
+    count : (b : Bool) → (cond b (with_member s n) s).count ≡ s.count
     count true = refl
     count false = refl
 
@@ -93,7 +93,7 @@ joined-last q n earlier s b has is = record {
     more : take (s.count - 1) (member_names q (Joins q n ∷ is.since)) ≡ cond (nat_lt (length taken) (s.count - 1)) (taken ++ n ∷ []) taken
     more = ap (λ c. take (s.count - 1) (member_names q is.since ++ cond c (n ∷ []) [])) (eq-eqb q q refl) ∙ one-more (s.count - 1) (member_names q is.since) n
 
-    members : (b : Bool) → nat_lt (length taken) (s.count - 1) ≡ b → (cond b (joined s n) s).members ≡ take (s.count - 1) (member_names q (Joins q n ∷ is.since))
+    members : (b : Bool) → nat_lt (length taken) (s.count - 1) ≡ b → (cond b (with_member s n) s).members ≡ take (s.count - 1) (member_names q (Joins q n ∷ is.since))
     members true e = ap (λ l. l ++ n ∷ []) is.members ∙ sym (more ∙ ap (λ c. cond c (taken ++ n ∷ []) taken) e)
     members false e = is.members ∙ sym (more ∙ ap (λ c. cond c (taken ++ n ∷ []) taken) e)
 
@@ -134,16 +134,16 @@ module _ (a n q : ℕ) (earlier : List RegistryInput) (s : Set) (rest : (t : Set
       by_eq a q (λ own. none-some (sym was ∙ ap (λ x. set_at x (after_events earlier)) own ∙ there)) (λ ne. joins-elsewhere ne there)
   joins-last (Some t) was there = place_cases (has_place t) refl there
     where
-      own-place : (b : Bool) → has_place t ≡ b → a ≡ q → s ≡ cond b (joined t n) t → IsOfLast (Joins a n ∷ earlier) q s
+      own-place : (b : Bool) → has_place t ≡ b → a ≡ q → s ≡ cond b (with_member t n) t → IsOfLast (Joins a n ∷ earlier) q s
       own-place b has own is =
           subst (IsOfLast (Joins a n ∷ earlier) q) (sym is)
-          (subst (λ x. IsOfLast (Joins x n ∷ earlier) q (cond b (joined t n) t)) (sym own)
+          (subst (λ x. IsOfLast (Joins x n ∷ earlier) q (cond b (with_member t n) t)) (sym own)
           (joined-last q n earlier t b has (rest t (ap (λ x. set_at x (after_events earlier)) (sym own) ∙ was))))
 
-      place_cases : (b : Bool) → has_place t ≡ b → set_at q (cond b (with_set (joined t n) (after_events earlier)) (after_events earlier)) ≡ Some s
+      place_cases : (b : Bool) → has_place t ≡ b → set_at q (cond b (with_set (with_member t n) (after_events earlier)) (after_events earlier)) ≡ Some s
           → IsOfLast (Joins a n ∷ earlier) q s
       place_cases true has there =
-          written a q (Joins a n) earlier (joined t n) s (after_events earlier) (sym (set_at-address a t (after_events earlier) was)) there
+          written a q (Joins a n) earlier (with_member t n) s (after_events earlier) (sym (set_at-address a t (after_events earlier) was)) there
           (own-place true has) joins-elsewhere
       place_cases false has there =
           by_eq a q

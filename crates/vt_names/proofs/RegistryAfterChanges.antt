@@ -3,7 +3,7 @@ use Rattle.std.proofs.Common.{◌≡◌, ◌≢◌, ℕ, zero, suc, ◌<◌, ◌
 use Rattle.std.proofs.lemmas.Option.{same_Some}
 use Rattle.std.proofs.lemmas.Bool.{ltb-true}
 use Rattle.std.proofs.lemmas.List.{length-append}
-use Rattle.vt_names.specs.Registry.{Set, set_at, with_set, without, joining, binding, preloaded, mastered, joined, bound, has_place}
+use Rattle.vt_names.specs.Registry.{Set, set_at, with_set, without, joining, binding, preloaded, mastered, with_member, bound, has_place}
 use Rattle.vt_names.specs.Registrations.{RegistryInput, Masters, Joins, Closes, Preloads, Binds, registers, closes, since, registered_at, AreRising, after_events, times_of, AreWithin, SetsAreRegistered}
 use Rattle.vt_names.proofs.AddressesAfterClaim.{by_eq, none-some}
 use Rattle.vt_names.proofs.LastRegistration.{are-last}
@@ -46,8 +46,8 @@ joined-within s name e = subst (λ n. n < s.count) (sym (length-append s.members
     plus : length s.members + 1 ≡ suc (length s.members)
     plus = (grind (arith))
 
-within-joining : (b : Bool) (s : Set) (name : ℕ) (sets : List Set) → has_place s ≡ b → AreWithin sets → AreWithin (cond b (with_set (joined s name) sets) sets)
-within-joining true s name sets e w = within-with (joined s name) sets (joined-within s name e) w
+within-joining : (b : Bool) (s : Set) (name : ℕ) (sets : List Set) → has_place s ≡ b → AreWithin sets → AreWithin (cond b (with_set (with_member s name) sets) sets)
+within-joining true s name sets e w = within-with (with_member s name) sets (joined-within s name e) w
 within-joining false s name sets e w = w
 
 within-joined : (o : Option Set) (name : ℕ) (sets : List Set) → AreWithin sets → AreWithin (joining o name sets)
@@ -89,8 +89,8 @@ is-same a q s new sets there same =
     (λ other. ap (λ b. is_some (cond b (Some new) (set_at q sets))) (ne_eqb new.address q other))
 
 is-joining : (b : Bool) (a q n : ℕ) (s : Set) (sets : List Set) → set_at a sets ≡ Some s
-    → is_some (set_at q (cond b (with_set (joined s n) sets) sets)) ≡ is_some (set_at q sets)
-is-joining true a q n s sets there = is-same a q s (joined s n) sets there (set_at-address a s sets there)
+    → is_some (set_at q (cond b (with_set (with_member s n) sets) sets)) ≡ is_some (set_at q sets)
+is-joining true a q n s sets there = is-same a q s (with_member s n) sets there (set_at-address a s sets there)
 is-joining false a q n s sets there = refl
 
 is-joined : (a q n : ℕ) (o : Option Set) (sets : List Set) → set_at a sets ≡ o → is_some (set_at q (joining o n sets)) ≡ is_some (set_at q sets)
@@ -239,8 +239,8 @@ module _ (earlier : List RegistryInput) (new : Set) (at : ℕ → Option ℕ)
       rising-cases (set_at new.address (after_events earlier)) (registered_at earlier new.address) refl refl (are-there earlier new.address)
 
 rising-joining : (b : Bool) (at : ℕ → Option ℕ) (a n : ℕ) (s : Set) (sets : List Set) → set_at a sets ≡ Some s
-    → times_of at (cond b (with_set (joined s n) sets) sets) ≡ times_of at sets
-rising-joining true at a n s sets there = times-same at a s (joined s n) sets there (set_at-address a s sets there)
+    → times_of at (cond b (with_set (with_member s n) sets) sets) ≡ times_of at sets
+rising-joining true at a n s sets there = times-same at a s (with_member s n) sets there (set_at-address a s sets there)
 rising-joining false at a n s sets there = refl
 
 rising-joined : (at : ℕ → Option ℕ) (a n : ℕ) (o : Option Set) (sets : List Set) → set_at a sets ≡ o → times_of at (joining o n sets) ≡ times_of at sets

@@ -5,7 +5,7 @@ use Rattle.std.specs.Map.{lookup, remove_entry, set_value, keys_of, values_of}
 use Rattle.indexmap.specs.IndexMap.{insert_entry}
 use Rattle.std.specs.List.{AllByRecursion, IsDistinct}
 use Rattle.std.proofs.lemmas.Map.Keys.{IsDistinct-head, IsDistinct-tail}
-use Rattle.vt_names.specs.Registry.{Set, Registered, AreApart, AreFiled, set_at, with_set, without, has_place, joined, joining, bound, binding}
+use Rattle.vt_names.specs.Registry.{Set, Registered, AreApart, AreFiled, set_at, with_set, without, has_place, with_member, joining, bound, binding}
 use Rattle.vt_names.proofs.AddressesAfterClaim.{by_eq, none-some}
 
 -- ---- the first set, and the sets after it
@@ -144,14 +144,14 @@ with_set-same a s (t ∷ sets) there =
     (λ ne. with_set-later s t sets (λ h. ne (h ∙ own)) ∙ ap (λ l. t ∷ l) (rest (sym (set_at-later a t sets ne) ∙ there)))
 
 abbrev pub after_join : Set → ℕ → Set
-after_join s name = if has_place s then joined s name else s
+after_join s name = if has_place s then with_member s name else s
 
-after_join-address : (b : Bool) (s : Set) (name : ℕ) → (cond b (joined s name) s).address ≡ s.address
+after_join-address : (b : Bool) (s : Set) (name : ℕ) → (cond b (with_member s name) s).address ≡ s.address
 after_join-address true s name = refl
 after_join-address false s name = refl
 
 join_cases : (b : Bool) (a name : ℕ) (s : Set) (sets : List Set) → set_at a sets ≡ Some s
-    → with_set (cond b (joined s name) s) sets ≡ cond b (with_set (joined s name) sets) sets
+    → with_set (cond b (with_member s name) s) sets ≡ cond b (with_set (with_member s name) sets) sets
 join_cases true a name s sets there = refl
 join_cases false a name s sets there = with_set-same a s sets there
 

@@ -35,8 +35,8 @@ raw_of f =
     + f.device_class_instance * 2 ^ 56 + f.industry_group * 2 ^ 60 + f.self_configurable * 2 ^ 63
 
 -- the ten numbers of a NAME
-abbrev pub fields_of : ℕ → Fields
-fields_of raw = record {
+abbrev pub name_fields : ℕ → Fields
+name_fields raw = record {
   identity = raw % 2 ^ 21;
   manufacturer = raw / 2 ^ 21 % 2 ^ 11;
   ecu_instance = raw / 2 ^ 32 % 2 ^ 3;
@@ -51,7 +51,7 @@ fields_of raw = record {
 
 -- The ten numbers of a NAME and the NAME determine each other.
 pub record FieldsAreNames : Type 0 where
-  pub fields_again : (f : Fields) → AreFields f → fields_of (raw_of f) ≡ f
-  pub raw_again : (raw : ℕ) → raw < 2 ^ 64 → raw_of (fields_of raw) ≡ raw
-  pub fit : (raw : ℕ) → AreFields (fields_of raw)
+  pub fields_again : (f : Fields) → AreFields f → name_fields (raw_of f) ≡ f
+  pub raw_again : (raw : ℕ) → raw < 2 ^ 64 → raw_of (name_fields raw) ≡ raw
+  pub fit : (raw : ℕ) → AreFields (name_fields raw)
   pub small : (f : Fields) → AreFields f → raw_of f < 2 ^ 64

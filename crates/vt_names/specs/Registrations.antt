@@ -1,7 +1,7 @@
 -- The working sets after all changes of the registry, and their order (ISO 11783-6; docs/PROFILE.md, "Working sets").
 use Rattle.std.specs.Prelude.{◌≡◌, ◌<◌, ◌≤◌, ℕ, suc, ◌-◌, ◌==◌, Bool, true, false, ◌||◌, if◌then◌else◌, List, [], ◌∷◌, ◌++◌, length, map, take, Option, Some, None, is_some}
 use Rattle.std.specs.List.{AllByRecursion}
-use Rattle.vt_names.specs.Registry.{Set, set_at, with_set, without, registering, joining, binding, preloaded, counted}
+use Rattle.vt_names.specs.Registry.{Set, set_at, with_set, without, registering, joining, binding, preloaded, member_count}
 
 -- A change of the registry: a master message, with the holder of its address and its count; a member message, with
 -- its NAME; a closing; a preloading; or a NAME for the set of an address.
@@ -50,7 +50,7 @@ registration_name (Masters address holder count) = holder
 registration_name _ = None
 
 abbrev pub registration_count : RegistryInput → ℕ
-registration_count (Masters address holder count) = counted count
+registration_count (Masters address holder count) = member_count count
 registration_count _ = 1
 
 -- the last NAME bound to an address, or `first` if there is none

@@ -43,13 +43,13 @@ abbrev pub without : ℕ → List Set → List Set
 without address sets = filter (λ set. not (is_of address set)) sets
 
 -- the number of members for a count, where 0 means 1
-abbrev pub counted : ℕ → ℕ
-counted count = if count == 0 then 1 else count
+abbrev pub member_count : ℕ → ℕ
+member_count count = if count == 0 then 1 else count
 
 -- ---- changes of the registry
 
 abbrev pub mastered : ℕ → ℕ → ℕ → Set
-mastered address name count = record { address = address; name = Some name; count = counted count; members = [] }
+mastered address name count = record { address = address; name = Some name; count = member_count count; members = [] }
 
 -- the sets after a master message, with the holder of its address
 abbrev pub registering : ℕ → Option ℕ → ℕ → List Set → List Set
@@ -60,13 +60,13 @@ registering address (Some holder) count sets = with_set (mastered address holder
 abbrev pub has_place : Set → Bool
 has_place set = nat_lt (suc (length set.members)) set.count
 
-abbrev pub joined : Set → ℕ → Set
-joined set name = record set { members = set.members ++ name ∷ [] }
+abbrev pub with_member : Set → ℕ → Set
+with_member set name = record set { members = set.members ++ name ∷ [] }
 
 -- the sets after a member message, with the set of its address
 abbrev pub joining : Option Set → ℕ → List Set → List Set
 joining None name sets = sets
-joining (Some set) name sets = if has_place set then with_set (joined set name) sets else sets
+joining (Some set) name sets = if has_place set then with_set (with_member set name) sets else sets
 
 abbrev pub preloaded : ℕ → Set
 preloaded address = record { address = address; name = None; count = 1; members = [] }

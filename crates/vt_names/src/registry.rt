@@ -2,7 +2,7 @@
 
 ghost use Rattle.std.specs.Prelude.{◌≡◌, ◌≢◌, ◌<◌, ◌≤◌, None, Some, Ok, Err, [], length, slice_get, is_some, IsOk, IfErr, IfSome, IfNone, OnOk, OnErr, ◌==◌, if◌then◌else◌};
 ghost use Rattle.std.specs.Option.{option_copied};
-ghost use Rattle.vt_names.specs.Registry.{counted, set_at, with_set, without, registering, joining, binding, preloaded, has_place, AreApart, IsUnnamed};
+ghost use Rattle.vt_names.specs.Registry.{member_count, set_at, with_set, without, registering, joining, binding, preloaded, has_place, AreApart, IsUnnamed};
 ghost use Rattle.vt_names.specs.declared.registry.RegistryFault.TheVariants as declared;
 
 use crate::OutOfMemory;
@@ -205,7 +205,7 @@ impl Registry {
 
     // Inserts a set without members under its address.
     fn add(&mut self, address: u8, name: Option<Name>, count: u8) -> Result<(), OutOfMemory>
-        ensures ok { OnOk result (self.new.sets ≡ with_set (record { address = address; name = name; count = counted count; members = [] }) self.old.sets) }
+        ensures ok { OnOk result (self.new.sets ≡ with_set (record { address = address; name = name; count = member_count count; members = [] }) self.old.sets) }
         ensures err { OnErr result (self.new.sets ≡ self.old.sets) }
         ensures room { 0 < self.old.room → IsOk result }
     {

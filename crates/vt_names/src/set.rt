@@ -1,7 +1,7 @@
 //! A working set (ISO 11783-6).
 
 ghost use Rattle.std.specs.Prelude.{◌≡◌, ◌<◌, [], length, if◌then◌else◌};
-ghost use Rattle.vt_names.specs.Registry.{counted, has_place, joined, bound, mastered};
+ghost use Rattle.vt_names.specs.Registry.{member_count, has_place, with_member, bound, mastered};
 
 use crate::name::Name;
 use arrayvec::ArrayVec;
@@ -36,7 +36,7 @@ impl Model for Set {
 impl Set {
     /// Creates a set without members, in the given memory for members. A count of 0 means 1.
     pub(crate) fn new(address: u8, name: Option<Name>, count: u8, mut members: Members) -> Set
-        ensures { result ≡ record { address = address; name = name; count = counted count; members = [] } }
+        ensures { result ≡ record { address = address; name = name; count = member_count count; members = [] } }
     {
         members.clear();
         Set {
@@ -93,7 +93,7 @@ impl Set {
     /// Adds a member. Returns false if the set has all its members.
     pub(crate) fn join(&mut self, name: Name) -> bool
         ensures place { result ≡ has_place self.old }
-        ensures set { self.new ≡ if has_place self.old then joined self.old name else self.old }
+        ensures set { self.new ≡ if has_place self.old then with_member self.old name else self.old }
     {
         if self.members.len() + 1 >= usize::from(self.count) {
             return false;

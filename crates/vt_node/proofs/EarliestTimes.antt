@@ -3,7 +3,7 @@ use Rattle.std.proofs.Common.{◌≡◌, ◌≢◌, ◌≤◌, ◌-◌, ℕ, suc
 use Rattle.std.proofs.lemmas.Option.{same_Some}
 use Rattle.std.proofs.lemmas.Bool.{le-ltb}
 use Rattle.std.specs.List.{slice_get}
-use Rattle.vt_names.specs.Registry.{Set, is_of, set_at, with_set, without, registering, joining, binding, mastered, joined, bound, preloaded, has_place}
+use Rattle.vt_names.specs.Registry.{Set, is_of, set_at, with_set, without, registering, joining, binding, mastered, with_member, bound, preloaded, has_place}
 use Rattle.vt_names.specs.declared.registry.RegistryFault.{RegistryFault}
 use Rattle.vt_names.specs.declared.registry.RegistryFault.TheVariants.{OutOfMemory}
 use Rattle.vt_node.specs.Watches.{is_silent, first_silent_of}
@@ -68,8 +68,8 @@ module _ (e : ℕ) (heard : ℕ → Option ℕ) where
 
   pub since-joining : (a name : ℕ) (sets : List Set) (o : Option Set) → set_at a sets ≡ o → AreHeardSince e heard sets → AreHeardSince e heard (joining o name sets)
   since-joining a name sets None there all = all
-  since-joining a name sets (Some set) there all = elim (has_place set) as (λ b. AreHeardSince e heard (cond b (with_set (joined set name) sets) sets)) [
-    | true ↦ since-with_set (joined set name) sets (since-at a sets set there all) all
+  since-joining a name sets (Some set) there all = elim (has_place set) as (λ b. AreHeardSince e heard (cond b (with_set (with_member set name) sets) sets)) [
+    | true ↦ since-with_set (with_member set name) sets (since-at a sets set there all) all
     | false ↦ all
   ]
 

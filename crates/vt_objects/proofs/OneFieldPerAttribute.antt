@@ -14,9 +14,9 @@ use Rattle.vt_kinds.specs.declared.fields.Field.TheVariants as names
 use Rattle.vt_kinds.specs.declared.fields.ValueType.{ValueType}
 use Rattle.vt_kinds.specs.declared.fields.ValueType.TheVariants as types
 use Rattle.vt_kinds.specs.Layout.{field_spelling}
-use Rattle.vt_kinds.specs.Attributes.{attributes_of, attribute_at, numbered, byte, width}
+use Rattle.vt_kinds.specs.Attributes.{attributes_of, attribute_at, attribute_numbered, byte, width}
 use Rattle.vt_kinds.specs.Records.{fields_of, names_of}
-use Rattle.vt_objects.specs.AttributeFields.{IsFieldNamed, IsField, field_of, written, AttributesAreFields}
+use Rattle.vt_objects.specs.AttributeFields.{IsFieldNamed, IsField, field_of, changed_value, AttributesAreFields}
 
 -- ---- each attribute is a field
 
@@ -63,7 +63,7 @@ all_at P [] all place x e = absurd cc
 all_at P (y ∷ ys) all zero x e = subst P (same_Some y x e) all.0
 all_at P (y ∷ ys) all (suc place) x e = all_at P ys all.1 place x e
 
-by_number : (kind : Kind) (number : ℕ) (attribute : Attribute) → numbered (attributes_of kind) number ≡ Some attribute → Stands kind attribute
+by_number : (kind : Kind) (number : ℕ) (attribute : Attribute) → attribute_numbered (attributes_of kind) number ≡ Some attribute → Stands kind attribute
 by_number kind zero attribute e = absurd cc
 by_number kind (suc index) attribute e = all_at (Stands kind) (attributes_of kind) (each kind) index attribute e
 
@@ -71,7 +71,7 @@ options_of_a_list : Stands kinds.InputList (byte names.Options)
 options_of_a_list = field _ _ 5 refl refl
 
 stand_in_list : (number : ℕ) (attribute : Attribute) → attribute_at kinds.InputList number ≡ Some attribute → Stands kinds.InputList attribute
-stand_in_list number attribute = elim (number == 5) as (λ (b : Bool). (if b then Some (byte names.Options) else numbered (attributes_of kinds.InputList) number) ≡ Some attribute → Stands kinds.InputList attribute)
+stand_in_list number attribute = elim (number == 5) as (λ (b : Bool). (if b then Some (byte names.Options) else attribute_numbered (attributes_of kinds.InputList) number) ≡ Some attribute → Stands kinds.InputList attribute)
     [ true ↦ (λ e. subst (Stands kinds.InputList) (same_Some (byte names.Options) attribute e) options_of_a_list) | false ↦ (λ e. by_number kinds.InputList number attribute e) ]
 
 stand : (kind : Kind) (number : ℕ) (attribute : Attribute) → attribute_at kind number ≡ Some attribute → Stands kind attribute
@@ -238,7 +238,7 @@ four v = ap₂ (λ (a : ℕ) (t : List ℕ). a ∷ t) (omega arith) (ap₂ (λ (
 signed_four : (v : ℕ) → little_bytes 4 (cast_unsigned w32 (cast_signed w32 (v % 256 ^ 4))) ≡ little_bytes 4 v
 signed_four v = ap (little_bytes 4) (of_z-to_z w32 (v % 256 ^ 4) (record { fits = omega arith })) ∙ four v
 
-bytes : (sort : ValueType) (v : ℕ) → field_spelling (field_of sort) (written sort v) ≡ take (width sort) (little_bytes 4 v)
+bytes : (sort : ValueType) (v : ℕ) → field_spelling (field_of sort) (changed_value sort v) ≡ take (width sort) (little_bytes 4 v)
 bytes types.Byte v = one v
 bytes types.Word v = two v
 bytes types.Long v = four v

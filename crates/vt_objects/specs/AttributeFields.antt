@@ -20,9 +20,9 @@ field_of types.Decimals = DecimalPlaces
 field_of type = Number (Unsigned (width type))
 
 -- the field's value after the change
-abbrev pub written : ValueType → ℕ → Value
-written types.SignedLong value = number (integer (cast_signed w32 (lowest types.SignedLong value)))
-written type value = number (natural (lowest type value))
+abbrev pub changed_value : ValueType → ℕ → Value
+changed_value types.SignedLong value = number (integer (cast_signed w32 (lowest types.SignedLong value)))
+changed_value type value = number (natural (lowest type value))
 
 -- the field at this index in the record of a kind has this name
 abbrev pub IsFieldNamed : Kind → names.Field → ℕ → Type 0
@@ -39,4 +39,4 @@ pub record AttributesAreFields : Type 0 where
   -- Names are unique in a record.
   pub once : (kind : Kind) (name : names.Field) (place other : ℕ) → IsFieldNamed kind name place → IsFieldNamed kind name other → place ≡ other
   -- A field stores the lowest bytes of the value, unchanged.
-  pub bytes : (type : ValueType) (value : ℕ) → field_spelling (field_of type) (written type value) ≡ take (width type) (little_bytes 4 value)
+  pub bytes : (type : ValueType) (value : ℕ) → field_spelling (field_of type) (changed_value type value) ≡ take (width type) (little_bytes 4 value)

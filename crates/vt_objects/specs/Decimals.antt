@@ -10,12 +10,12 @@ pub record IsRounded (n : ℤ) (places decimals : ℕ) (r : ℤ) : Type 0 where
       → nat_abs (n *ℤ pos (10 ^ decimals)) ≤ nat_abs (r *ℤ pos (10 ^ places))
 
 -- a number in decimal, padded with zeros to a number of digits
-abbrev pub filled : ℕ → ℕ → List ℕ
-filled digits n = replicate (digits - length (decimal n)) 48 ++ decimal n
+abbrev pub zero_padded : ℕ → ℕ → List ℕ
+zero_padded digits n = replicate (digits - length (decimal n)) 48 ++ decimal n
 
 -- the decimal point and the digits after it; empty for no decimals
 abbrev pub fraction_text : ℕ → ℕ → List ℕ
-fraction_text decimals n = if decimals == 0 then [] else codes "." ++ filled decimals (n % 10 ^ decimals)
+fraction_text decimals n = if decimals == 0 then [] else codes "." ++ zero_padded decimals (n % 10 ^ decimals)
 
 -- a whole number of units, in decimal with this many decimals
 abbrev pub decimal_text : ℕ → ℤ → List ℕ

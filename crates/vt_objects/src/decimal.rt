@@ -4,7 +4,7 @@ ghost use Rattle.std.specs.Prelude.{◌≡◌, ◌<◌, ◌≤◌, ◌+◌, ◌*
 ghost use Rattle.std.specs.Fmt.{decimal};
 ghost use Rattle.arrayvec.specs.ArrayString.{array_string_len};
 ghost use Rattle.vt_kinds.specs.Scales.{scale_places};
-ghost use Rattle.vt_objects.specs.Decimals.{IsShownText, shown_text, filled, fraction_text};
+ghost use Rattle.vt_objects.specs.Decimals.{IsShownText, shown_text, zero_padded, fraction_text};
 
 use arrayvec::ArrayString;
 use itoa::Buffer;
@@ -116,7 +116,7 @@ fn push_fraction(text: &mut ArrayString<20>, decimals: u8, fraction: u64)
     requires decimals { decimals ≤ 7 }
     requires fraction { fraction < 10 ^ decimals }
     requires room { array_string_len text.old ≤ 11 }
-    ensures text { text.new.bytes ≡ text.old.bytes ++ codes "." ++ filled decimals fraction }
+    ensures text { text.new.bytes ≡ text.old.bytes ++ codes "." ++ zero_padded decimals fraction }
     ensures len { array_string_len text.new ≡ array_string_len text.old + 1 + decimals }
 {
     let mut buffer = Buffer::new();

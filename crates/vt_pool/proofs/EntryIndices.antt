@@ -8,7 +8,7 @@ use Rattle.std.specs.Cmp.{unsigned_tied, nat_cmp_total}
 use Rattle.std.specs.FinMap as finite
 use Rattle.vt_kinds.specs.declared.object.Object.{Object}
 use Rattle.vt_kinds.specs.Records.{Seen, seen}
-use Rattle.vt_stores.specs.Stores.{shown}
+use Rattle.vt_stores.specs.Stores.{seen_entry}
 use Rattle.vt_pool.specs.Pools.{PoolEntry, ids, contents}
 use Rattle.vt_pool.specs.EntryWrites.{with_entry}
 
@@ -68,26 +68,26 @@ position_some p xs i e = some_place (ltb (position_or_len p xs) (length xs)) (po
 
 -- ---- the result of a lookup
 
-pub got_none : {B : Type 0} (q : ℕ) (items : List (ℕ × Object B)) (keys : List ℕ) → keys ≡ ids (map shown items) → position (eqb q) keys ≡ None
-    → ◌≡◌ {A = Option Seen} None (finite.get (contents (map shown items)) q)
+pub got_none : {B : Type 0} (q : ℕ) (items : List (ℕ × Object B)) (keys : List ℕ) → keys ≡ ids (map seen_entry items) → position (eqb q) keys ≡ None
+    → ◌≡◌ {A = Option Seen} None (finite.get (contents (map seen_entry items)) q)
 got_none q items keys same none =
-    let es = map shown items in
+    let es = map seen_entry items in
     let past : length keys ≤ position_or_len (eqb q) keys = no_place _ _ _ refl none in
     let moved : length (ids es) ≤ place_of q es = subst (λ (l : List ℕ). length l ≤ position_or_len (eqb q) l) same past in
     sym (get-contents es q ∙ entry_nowhere q es (omega (arith, length-map es (λ e. e.0))))
 
-pub got_some : {B : Type 0} (q : ℕ) (items : List (ℕ × Object B)) (keys : List ℕ) (place : ℕ) (x : ℕ × Object B) → keys ≡ ids (map shown items) → position (eqb q) keys ≡ Some place
-    → x ≡ get_or items place x → Some (seen x.1) ≡ finite.get (contents (map shown items)) q
+pub got_some : {B : Type 0} (q : ℕ) (items : List (ℕ × Object B)) (keys : List ℕ) (place : ℕ) (x : ℕ × Object B) → keys ≡ ids (map seen_entry items) → position (eqb q) keys ≡ Some place
+    → x ≡ get_or items place x → Some (seen x.1) ≡ finite.get (contents (map seen_entry items)) q
 got_some q items keys place x same found is =
-    let es = map shown items in
+    let es = map seen_entry items in
     let f = position_some (eqb q) keys place found in
     let there : place_of q es ≡ place = ap (λ (l : List ℕ). position_or_len (eqb q) l) (sym same) ∙ f.0 in
     let within : place < length (ids es) = subst (λ (l : List ℕ). place < length l) same f.1 in
     let in_es : place < length es = omega (arith, length-map es (λ e. e.0)) in
-    let in_items : place < length items = omega (arith, length-map items shown) in
-    let got : entry_at es q ≡ Some (get_or es place (shown x)).1 =
-    subst (λ (k : ℕ). entry_at es q ≡ Some (get_or es k (shown x)).1) there (entry_there q es (shown x) (omega arith)) in
-    let shows : get_or es place (shown x) ≡ shown x = get_or-map shown items place x (shown x) in_items ∙ ap shown (sym is) in
+    let in_items : place < length items = omega (arith, length-map items seen_entry) in
+    let got : entry_at es q ≡ Some (get_or es place (seen_entry x)).1 =
+    subst (λ (k : ℕ). entry_at es q ≡ Some (get_or es k (seen_entry x)).1) there (entry_there q es (seen_entry x) (omega arith)) in
+    let shows : get_or es place (seen_entry x) ≡ seen_entry x = get_or-map seen_entry items place x (seen_entry x) in_items ∙ ap seen_entry (sym is) in
     sym (get-contents es q ∙ got ∙ ap (λ (e : PoolEntry). Some e.1) shows)
 
 -- ---- replacing an entry at its index
@@ -179,19 +179,19 @@ any_place id [] any = absurd cc
 any_place id (k ∷ keys) any =
     place_cases (eqb id k) (position_or_len (eqb id) keys) (length keys) (λ is. any_place id keys (any_cases (eqb id k) (list_any (eqb id) keys) any is))
 
-pub shown_set : {B : Type 0} (items : List (ℕ × Object B)) (keys : List ℕ) (id place : ℕ) (w : Object B) → keys ≡ ids (map shown items) → place ≡ position_or_len (eqb id) keys → list_any (eqb id) keys ≡ true
-    → map shown (set items place (id, w)) ≡ with_entry (map shown items) id (seen w)
+pub shown_set : {B : Type 0} (items : List (ℕ × Object B)) (keys : List ℕ) (id place : ℕ) (w : Object B) → keys ≡ ids (map seen_entry items) → place ≡ position_or_len (eqb id) keys → list_any (eqb id) keys ≡ true
+    → map seen_entry (set items place (id, w)) ≡ with_entry (map seen_entry items) id (seen w)
 shown_set items keys id place w same is any =
-    let es = map shown items in
+    let es = map seen_entry items in
     let there : place ≡ place_of id es = is ∙ ap (λ (l : List ℕ). position_or_len (eqb id) l) same in
     let within : place_of id es < length (ids es) = subst (λ (l : List ℕ). position_or_len (eqb id) l < length l) same (any_place id keys any) in
-    map-set shown items place (id, w) ∙ ap (λ (k : ℕ). set es k (id, seen w)) there ∙ sym (with_old es id (seen w) (omega (arith, length-map es (λ e. e.0))))
+    map-set seen_entry items place (id, w) ∙ ap (λ (k : ℕ). set es k (id, seen w)) there ∙ sym (with_old es id (seen w) (omega (arith, length-map es (λ e. e.0))))
 
-pub shown_push : {B : Type 0} (items : List (ℕ × Object B)) (keys : List ℕ) (id : ℕ) (w : Object B) → keys ≡ ids (map shown items) → list_any (eqb id) keys ≡ false
-    → map shown (items ++ (id, w) ∷ []) ≡ with_entry (map shown items) id (seen w)
+pub shown_push : {B : Type 0} (items : List (ℕ × Object B)) (keys : List ℕ) (id : ℕ) (w : Object B) → keys ≡ ids (map seen_entry items) → list_any (eqb id) keys ≡ false
+    → map seen_entry (items ++ (id, w) ∷ []) ≡ with_entry (map seen_entry items) id (seen w)
 shown_push items keys id w same none =
-    let es = map shown items in
-    map_push shown items (id, w) ∙ sym (with_new es id (seen w) (ap (λ (l : List ℕ). list_any (eqb id) l) (sym same) ∙ none))
+    let es = map seen_entry items in
+    map_push seen_entry items (id, w) ∙ sym (with_new es id (seen w) (ap (λ (l : List ℕ). list_any (eqb id) l) (sym same) ∙ none))
 
 -- the IDs still match the objects
 pub same_ids : (keys after : List ℕ) (es left : List PoolEntry) (id : ℕ) (o : Seen) → keys ≡ ids es → after ≡ with_id keys id → left ≡ with_entry es id o → after ≡ ids left

@@ -2,8 +2,8 @@
 use Rattle.std.proofs.Common.{◌≡◌, ℕ, ◌≤◌, List, [], ◌∷◌, ◌++◌, length, drop, Option, Some, refl, sym, ap, subst, ◌∙◌, append_assoc, arith, inl, inr}
 use Rattle.std.proofs.lemmas.List.{length-append}
 use Rattle.vt_kinds.specs.declared.kind.Kind.{Kind}
-use Rattle.vt_kinds.specs.Layout.{RecordField, ScaleBytes, DecimalPlaces, Value, spelling, Proper, no_counts}
-use Rattle.vt_kinds.specs.Kinds.{kind_at}
+use Rattle.vt_kinds.specs.Layout.{RecordField, ScaleBytes, DecimalPlaces, Value, fields_spelling, Proper, no_counts}
+use Rattle.vt_kinds.specs.Kinds.{kind_of_type}
 use Rattle.vt_kinds.specs.Records.{fields_of, kind_of, values_of}
 use Rattle.vt_records.specs.declared.fault.PoolFault.TheVariants as faults
 use Rattle.vt_records.specs.TableReads.{values_at}
@@ -39,10 +39,10 @@ longer rest more le = omega (arith, length-append rest more)
 values_more : (rest more : List ℕ) (kind : Kind) (vs : List Value) → 3 ≤ length rest → HasValues rest kind vs → HasValues (rest ++ more) kind vs
 values_more rest more kind vs head has =
     record {
-      known = ap kind_at (same_type rest more head) ∙ has.known;
+      known = ap kind_of_type (same_type rest more head) ∙ has.known;
       fields_fit = has.fields_fit;
       tail = has.tail ++ more;
-      parts = same_behind rest more head ∙ ap (λ (l : List ℕ). l ++ more) has.parts ∙ append_assoc (spelling (fields_of kind) vs) has.tail more;
+      parts = same_behind rest more head ∙ ap (λ (l : List ℕ). l ++ more) has.parts ∙ append_assoc (fields_spelling (fields_of kind) vs) has.tail more;
     }
 
 -- ---- no record begins with a value not allowed
@@ -82,7 +82,7 @@ other_more rest more is =
     record {
       head = longer rest more is.head;
       named = λ e. is.named (sym (same_id rest more is.head) ∙ e);
-      no_kind = ap kind_at (same_type rest more is.head) ∙ is.no_kind;
+      no_kind = ap kind_of_type (same_type rest more is.head) ∙ is.no_kind;
     }
 
 improper_more : (sort : RecordField) (rest more : List ℕ) (at : ℕ) → IsImproper sort rest at → IsImproper sort (rest ++ more) at

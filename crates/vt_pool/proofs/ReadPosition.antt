@@ -5,7 +5,7 @@ use Rattle.byteorder.specs.Endian.{little_number}
 use Rattle.vt_kinds.specs.declared.kind.Kind.{Kind}
 use Rattle.vt_kinds.specs.Ids.{null_id}
 use Rattle.vt_kinds.specs.Layout.{Value, no_counts}
-use Rattle.vt_kinds.specs.Kinds.{kind_at}
+use Rattle.vt_kinds.specs.Kinds.{kind_of_type}
 use Rattle.vt_kinds.specs.Records.{Seen, fields_of, kind_of, values_of, record_of, HasRecord}
 use Rattle.vt_records.specs.declared.record_fault.RecordFault.{RecordFault}
 use Rattle.vt_records.specs.declared.record_fault.RecordFault.TheVariants as stops
@@ -65,9 +65,9 @@ kind_memory id type rest None fits e = other_memory (leb 29 type) (leb type 33) 
 kind_memory id type rest (Some kind) fits e =
     values_memory kind rest (values_at (fields_of kind) no_counts rest) fits refl (of_values_err id kind (fields_at (fields_of kind) rest) stops.OutOfMemory e)
 
-id_memory : (null : Bool) (id type : ℕ) (rest : List ℕ) → IsBytes rest → cond null (Err stops.NullId) (of_kind id type rest (kind_at type)) ≡ Err stops.OutOfMemory → ⊥
+id_memory : (null : Bool) (id type : ℕ) (rest : List ℕ) → IsBytes rest → cond null (Err stops.NullId) (of_kind id type rest (kind_of_type type)) ≡ Err stops.OutOfMemory → ⊥
 id_memory true id type rest fits e = absurd cc
-id_memory false id type rest fits e = kind_memory id type rest (kind_at type) fits e
+id_memory false id type rest fits e = kind_memory id type rest (kind_of_type type) fits e
 
 no_memory : (all : List ℕ) → IsBytes all → record_at all ≡ Err stops.OutOfMemory → ⊥
 no_memory [] fits e = let no = sym (record_at-short [] (omega arith)) ∙ e in absurd cc

@@ -6,7 +6,7 @@ use Rattle.byteorder.specs.Endian.{little_number}
 use Rattle.vt_kinds.specs.declared.kind.Kind.{Kind}
 use Rattle.vt_kinds.specs.Ids.{null_id}
 use Rattle.vt_kinds.specs.Layout.{Value}
-use Rattle.vt_kinds.specs.Kinds.{kind_at}
+use Rattle.vt_kinds.specs.Kinds.{kind_of_type}
 use Rattle.vt_kinds.specs.Records.{fields_of}
 use Rattle.vt_records.specs.declared.record_fault.RecordFault.{RecordFault}
 use Rattle.vt_records.specs.declared.record_fault.RecordFault.TheVariants as stops
@@ -31,16 +31,16 @@ head_is all r s id type head first second =
     rw (first, second) (ap (λ (l : List ℕ). behind id type l) both)
 
 pub null_head : (all r s : List ℕ) (id type : ℕ) → 3 ≤ length all → number_at 2 all ≡ Some (id, r) → number_at 1 r ≡ Some (type, s) → id ≡ null_id → record_at all ≡ Err stops.NullId
-null_head all r s id type head first second is = head_is all r s id type head first second ∙ ap (λ (b : Bool). cond b (Err stops.NullId) (of_kind id type (drop 3 all) (kind_at type))) (eq-eqb id null_id is)
+null_head all r s id type head first second is = head_is all r s id type head first second ∙ ap (λ (b : Bool). cond b (Err stops.NullId) (of_kind id type (drop 3 all) (kind_of_type type))) (eq-eqb id null_id is)
 
-kind_cases : (all : List ℕ) (id type : ℕ) (k : Result Kind RecordFault) → or_stop (other_type type) (kind_at type) ≡ k → record_at all ≡ of_kind id type (drop 3 all) (kind_at type) → HeadGives k all
+kind_cases : (all : List ℕ) (id type : ℕ) (k : Result Kind RecordFault) → or_stop (other_type type) (kind_of_type type) ≡ k → record_at all ≡ of_kind id type (drop 3 all) (kind_of_type type) → HeadGives k all
 kind_cases all id type (Ok kind) is e = (id, e ∙ ap (λ (k : Result Kind RecordFault). k >>= λ q. of_values id q (fields_at (fields_of q) (drop 3 all))) is)
 kind_cases all id type (Err stop) is e = e ∙ ap (λ (k : Result Kind RecordFault). k >>= λ q. of_values id q (fields_at (fields_of q) (drop 3 all))) is
 
-pub kind_head : (all r s : List ℕ) (id type : ℕ) (k : Result Kind RecordFault) → 3 ≤ length all → number_at 2 all ≡ Some (id, r) → number_at 1 r ≡ Some (type, s) → id ≢ null_id → k ≡ or_stop (other_type type) (kind_at type) → HeadGives k all
+pub kind_head : (all r s : List ℕ) (id type : ℕ) (k : Result Kind RecordFault) → 3 ≤ length all → number_at 2 all ≡ Some (id, r) → number_at 1 r ≡ Some (type, s) → id ≢ null_id → k ≡ or_stop (other_type type) (kind_of_type type) → HeadGives k all
 kind_head all r s id type k head first second is kind =
     kind_cases all id type k (sym kind)
-    (head_is all r s id type head first second ∙ ap (λ (b : Bool). cond b (Err stops.NullId) (of_kind id type (drop 3 all) (kind_at type))) (ne_eqb id null_id is))
+    (head_is all r s id type head first second ∙ ap (λ (b : Bool). cond b (Err stops.NullId) (of_kind id type (drop 3 all) (kind_of_type type))) (ne_eqb id null_id is))
 
 -- ---- the fields after the head
 

@@ -4,7 +4,7 @@ ghost use Rattle.std.specs.Prelude.{◌≡◌, ◌<◌, [], ◌++◌, length, ma
 ghost use Rattle.std.specs.Option.{option_map};
 ghost use Rattle.std.specs.FinMap as finite;
 ghost use Rattle.vt_kinds.specs.Records.{seen, HasRecord};
-ghost use Rattle.vt_stores.specs.Stores.{shown};
+ghost use Rattle.vt_stores.specs.Stores.{seen_entry};
 ghost use Rattle.vt_pool.specs.Pools.{PoolEntry, AreObjects, AreRecords, joined, contents, IsInForce, IsFault, IsWantOfMemory};
 ghost use Rattle.vt_records.specs.declared.record_fault.RecordFault.TheVariants as stops;
 ghost use Rattle.vt_pool.specs.EntryWrites.{with_entry};
@@ -34,14 +34,14 @@ impl<'a> Drop for Pool<'a> {
 
 impl<'a> Model for Pool<'a> {
     ghost use Rattle.std.specs.Prelude.{◌≡◌, List, map};
-    ghost use Rattle.vt_stores.specs.Stores.{shown};
+    ghost use Rattle.vt_stores.specs.Stores.{seen_entry};
     ghost use Rattle.vt_pool.specs.Pools.{PoolEntry, ids, AreObjects};
 
     ghost Value = { List PoolEntry };
 
-    ghost view = { λ p. map shown p.objects.items };
+    ghost view = { λ p. map seen_entry p.objects.items };
 
-    ghost invariant = { λ p. (p.places.keys ≡ ids (map shown p.objects.items)) × AreObjects (map shown p.objects.items) };
+    ghost invariant = { λ p. (p.places.keys ≡ ids (map seen_entry p.objects.items)) × AreObjects (map seen_entry p.objects.items) };
 }
 
 impl<'a> Pool<'a> {
@@ -56,7 +56,7 @@ impl<'a> Pool<'a> {
 
     /// The objects in the pool's order. IDs are unique, and none is NULL.
     pub fn objects(&self) -> &[(ObjectId, Object<&'a [u8]>)]
-        ensures all { map shown result.now ≡ self.now }
+        ensures all { map seen_entry result.now ≡ self.now }
         ensures each { AreObjects self.now }
     {
         &self.objects

@@ -1,5 +1,5 @@
 ghost use Rattle.std.specs.Prelude.{◌≡◌, IfOk, map};
-ghost use Rattle.vt_stores.specs.Stores.{AreNamed, shown};
+ghost use Rattle.vt_stores.specs.Stores.{AreNamed, seen_entry};
 
 mod attributes;
 mod changes;
@@ -217,7 +217,7 @@ fn set_value<S: Store>(store: &mut S, id: u16, value: u32) -> bool {
 
 /// The Number Variables 7, 0 and 65534, with the values 70, 1 and 5.
 fn three_numbers(alloc: Global) -> Result<Vec<(ObjectId, Object<Vec<u8>>)>, OutOfMemory>
-    ensures { IfOk result (λ objects. AreNamed (map shown objects.items)) }
+    ensures { IfOk result (λ objects. AreNamed (map seen_entry objects.items)) }
 {
     let middle = (object_id(7), number(70));
     let first = (object_id(0), number(1));

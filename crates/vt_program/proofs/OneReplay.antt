@@ -16,7 +16,7 @@ use Rattle.vt_logs.specs.declared.counts.Counts.{Counts}
 use Rattle.vt_logs.specs.Lines.{lines_of}
 use Rattle.vt_logs.specs.Replays.{IsReplay}
 use Rattle.vt_logs.specs.Taken.{ReplayState, IsInputOfLine, TakesInputLine, TakesReading, TakesReadings}
-use Rattle.vt_logs.specs.Texts.{LineReading, counts_text, new_screen, no_counts, output_text, with_lines}
+use Rattle.vt_logs.specs.Texts.{LineReading, counts_text, new_screen, no_counts, output_text, with_lines_counted}
 use Rattle.vt_machine.specs.SetStates.{SetState}
 use Rattle.vt_kinds.specs.Records.{Seen}
 use Rattle.vt_pool.specs.Pools.{PoolEntry, AreRecords, contents, joined}
@@ -177,7 +177,7 @@ module _ (laws : Laws) where
       subst (λ (s : ReplayState). TakesReadings s 0 p.readings q.last q.printed) first
       (subst (λ (rs : List LineReading). TakesReadings q.first 0 rs q.last q.printed) readings q.takes) in
       let one = lines-one pools p.first p.last q.last 0 p.readings p.printed q.printed (subst (λ (s : State). ArePoolsInForce pools s) (sym p.starts) force) p.takes takes in
-      let same : counts ≡ more = p.counts_are ∙ ap (with_lines no_counts) (sym readings) ∙ sym q.counts_are in (
+      let same : counts ≡ more = p.counts_are ∙ ap (with_lines_counted no_counts) (sym readings) ∙ sym q.counts_are in (
         p.text_is ∙ (λ i. sym screens i ++ one.1 i ++ counts_text (same i)) ∙ sym q.text_is,
         same,
         p.now_is ∙ ap (λ (s : ReplayState). s.state) one.0 ∙ sym q.now_is,

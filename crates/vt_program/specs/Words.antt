@@ -190,13 +190,13 @@ IsRefusalFor error OwnerIsOwn = ⊥
 IsRefusalFor error Alone = ⊥
 
 -- The text of a refusal. The text of an error of clap is not stated.
-abbrev pub refusal_text : UsageError → Option Text
-refusal_text (Words error) = None
-refusal_text (Address option value) = Some (codes "error: --" ++ option.now ++ codes " " ++ value.now ++ codes ": two hex digits up to FD are wanted\n")
-refusal_text (Name value) = Some (codes "error: --name " ++ value.now ++ codes ": 16 hex digits are wanted\n")
-refusal_text OwnerIsOwn = Some (codes "error: --owner is the terminal's own address (--own, 26 unless given)\n")
-refusal_text Alone = Some (codes "error: --pool and --owner are given together or not at all\n")
-refusal_text Memory = Some (codes "vt_replay: out of memory\n")
+abbrev pub usage_text : UsageError → Option Text
+usage_text (Words error) = None
+usage_text (Address option value) = Some (codes "error: --" ++ option.now ++ codes " " ++ value.now ++ codes ": two hex digits up to FD are wanted\n")
+usage_text (Name value) = Some (codes "error: --name " ++ value.now ++ codes ": 16 hex digits are wanted\n")
+usage_text OwnerIsOwn = Some (codes "error: --owner is the terminal's own address (--own, 26 unless given)\n")
+usage_text Alone = Some (codes "error: --pool and --owner are given together or not at all\n")
+usage_text Memory = Some (codes "vt_replay: out of memory\n")
 
 -- ---- statuses
 

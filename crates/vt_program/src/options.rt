@@ -5,7 +5,7 @@ ghost use Rattle.clap.specs.Words.{IsParsedFrom, IsPlainArg, app_of, first_value
 ghost use Rattle.clap.specs.Built.{TakesValue};
 ghost use Rattle.clap.specs.declared.parser.matches.ArgMatches.{ArgMatches};
 ghost use Rattle.vt_program.specs.declared.options.UsageError.TheVariants.{Memory};
-ghost use Rattle.vt_program.specs.Words.{HasValidAddresses, GivesOptions, GivesAddress, IsAddress, IsBadAddress, IsBadName, IsMistake, IsName, IsOwnName, IsRefusalFor, IsRefusalOf, WordsGive, app, file_word, given_in, refusal_text, report_flag, valued_option};
+ghost use Rattle.vt_program.specs.Words.{HasValidAddresses, GivesOptions, GivesAddress, IsAddress, IsBadAddress, IsBadName, IsMistake, IsName, IsOwnName, IsRefusalFor, IsRefusalOf, WordsGive, app, file_word, given_in, usage_text, report_flag, valued_option};
 
 use byteorder::{BigEndian, ByteOrder};
 use clap::error::ErrorKind;
@@ -69,7 +69,7 @@ pub enum UsageError<'a> {
 }
 
 impl fmt::Display for UsageError<'_> {
-    ghost output = { refusal_text };
+    ghost output = { usage_text };
 
     fn fmt<W: fmt::Write>(&self, f: &mut fmt::Formatter<W>) -> fmt::Result {
         match self {

@@ -6,7 +6,7 @@ use Rattle.byteorder.specs.Numbers.{little_number-reads_back}
 use Rattle.vt_kinds.specs.declared.kind.Kind.{Kind}
 use Rattle.vt_kinds.specs.Ids.{null_id}
 use Rattle.vt_kinds.specs.Layout.{Value, no_counts}
-use Rattle.vt_kinds.specs.Kinds.{kind_at}
+use Rattle.vt_kinds.specs.Kinds.{kind_of_type}
 use Rattle.vt_kinds.specs.Records.{Seen, fields_of, kind_of, values_of, record_of}
 use Rattle.vt_records.specs.declared.record_fault.RecordFault.{RecordFault}
 use Rattle.vt_records.specs.declared.record_fault.RecordFault.TheVariants as stops
@@ -43,12 +43,12 @@ module _ (a b c : ℕ) (rest : List ℕ) where
   abbrev id : ℕ
   id = little_number 2 (a ∷ b ∷ [])
 
-  read_values : (kind : Kind) (x : List Value × List ℕ) → IsBytes rest → kind_at c ≡ Some kind → values_at (fields_of kind) no_counts rest ≡ Some x → HasValues all kind x.0
+  read_values : (kind : Kind) (x : List Value × List ℕ) → IsBytes rest → kind_of_type c ≡ Some kind → values_at (fields_of kind) no_counts rest ≡ Some x → HasValues all kind x.0
   read_values kind x fits known e =
       let took = values_take (fields_of kind) no_counts rest x fits e in
       record { known = known; fields_fit = took.1; tail = x.1; parts = took.0.parts }
 
-  no_values : (kind : Kind) → kind_at c ≡ Some kind → values_at (fields_of kind) no_counts rest ≡ None → (k : Kind) (vs : List Value) → HasValues all k vs → ⊥
+  no_values : (kind : Kind) → kind_of_type c ≡ Some kind → values_at (fields_of kind) no_counts rest ≡ None → (k : Kind) (vs : List Value) → HasValues all k vs → ⊥
   no_values kind known none k vs has =
       let same : k ≡ kind = some_kind k kind (sym has.known ∙ known) in
       let read : values_at (fields_of k) no_counts rest ≡ Some (vs, has.tail) = ap (values_at (fields_of k) no_counts) has.parts ∙ values_again (fields_of k) no_counts vs has.tail has.fields_fit in
@@ -70,7 +70,7 @@ module _ (a b c : ℕ) (rest : List ℕ) where
   err_is kind (Ok x) stop e = absurd cc
   err_is kind (Err s) stop e = ap (λ (t : RecordFault). Err t) (stop_is s stop e)
 
-  values_stop : (kind : Kind) (vs : Option (List Value × List ℕ)) (stop : RecordFault) → IsBytes rest → values_at (fields_of kind) no_counts rest ≡ vs → id ≢ null_id → kind_at c ≡ Some kind → NoRecordBegins all
+  values_stop : (kind : Kind) (vs : Option (List Value × List ℕ)) (stop : RecordFault) → IsBytes rest → values_at (fields_of kind) no_counts rest ≡ vs → id ≢ null_id → kind_of_type c ≡ Some kind → NoRecordBegins all
       → fitting (fields_of kind) vs ≡ Err stop → IsStop all stop
   values_stop kind None stop fits is named known none e =
       subst (IsStop all) (values_err stops.Truncated stop e)
@@ -84,15 +84,15 @@ module _ (a b c : ℕ) (rest : List ℕ) where
   type_stop true false l h other = (other, λ is. let above = leb-false _ _ h in absurd (omega (arith, is.1)))
   type_stop false high l h other = (other, λ is. let below = leb-false _ _ l in absurd (omega (arith, is.0)))
 
-  kind_stop : (kind : Option Kind) (stop : RecordFault) → IsBytes rest → kind_at c ≡ kind → id ≢ null_id → NoRecordBegins all → of_kind id c rest kind ≡ Err stop → IsStop all stop
+  kind_stop : (kind : Option Kind) (stop : RecordFault) → IsBytes rest → kind_of_type c ≡ kind → id ≢ null_id → NoRecordBegins all → of_kind id c rest kind ≡ Err stop → IsStop all stop
   kind_stop None stop fits is named none e =
       subst (IsStop all) (stop_is (other_type c) stop e) (type_stop (leb 29 c) (leb c 33) refl refl (record { head = omega arith; named = named; no_kind = is }))
   kind_stop (Some k) stop fits is named none e =
       values_stop k (values_at (fields_of k) no_counts rest) stop fits refl named is none (err_is k (fields_at (fields_of k) rest) stop e)
 
-  id_stop : (null : Bool) (stop : RecordFault) → IsBytes rest → eqb id null_id ≡ null → NoRecordBegins all → cond null (Err stops.NullId) (of_kind id c rest (kind_at c)) ≡ Err stop → IsStop all stop
+  id_stop : (null : Bool) (stop : RecordFault) → IsBytes rest → eqb id null_id ≡ null → NoRecordBegins all → cond null (Err stops.NullId) (of_kind id c rest (kind_of_type c)) ≡ Err stop → IsStop all stop
   id_stop true stop fits is none e = subst (IsStop all) (stop_is stops.NullId stop e) (record { head = omega arith; null = eqb-true id null_id is })
-  id_stop false stop fits is none e = kind_stop (kind_at c) stop fits refl (eqb-false id null_id is) none e
+  id_stop false stop fits is none e = kind_stop (kind_of_type c) stop fits refl (eqb-false id null_id is) none e
 
 short_stop : (all : List ℕ) (stop : RecordFault) → length all < 3 → record_at all ≡ Err stop → IsStop all stop
 short_stop all stop lt e = subst (IsStop all) (stop_is stops.Truncated stop (sym (record_at-short all lt) ∙ e)) (inl lt)
@@ -107,8 +107,8 @@ record_stops (a ∷ b ∷ c ∷ rest) stop fits e =
 
 -- ---- each cause excludes a record
 
-pub kind_there : (rest : List ℕ) (id : ℕ) (o : Seen) (tail : List ℕ) → rest ≡ record_of id o ++ tail → kind_at (type_at rest) ≡ Some (kind_of o)
-kind_there rest id o tail parts = ap (λ (r : List ℕ). kind_at (type_at r)) parts ∙ kind_at-kind_number (kind_of o)
+pub kind_there : (rest : List ℕ) (id : ℕ) (o : Seen) (tail : List ℕ) → rest ≡ record_of id o ++ tail → kind_of_type (type_at rest) ≡ Some (kind_of o)
+kind_there rest id o tail parts = ap (λ (r : List ℕ). kind_of_type (type_at r)) parts ∙ kind_at-kind_number (kind_of o)
 
 pub truncated_none : (rest : List ℕ) → IsTruncated rest → NoRecordBegins rest
 truncated_none rest (inl lt) id o tail has parts = let len = ap length parts in absurd (omega arith)

@@ -8,8 +8,8 @@ use Rattle.vt_kinds.specs.declared.kind.Kind.{Kind}
 use Rattle.vt_kinds.specs.declared.object.Object.{Object}
 use Rattle.vt_kinds.specs.declared.object.Object.TheVariants as objects
 use Rattle.vt_kinds.specs.Ids.{null_id}
-use Rattle.vt_kinds.specs.Layout.{Value, spelling, FieldsFit, Proper, no_counts}
-use Rattle.vt_kinds.specs.Kinds.{kind_number, kind_at}
+use Rattle.vt_kinds.specs.Layout.{Value, fields_spelling, FieldsFit, Proper, no_counts}
+use Rattle.vt_kinds.specs.Kinds.{kind_number, kind_of_type}
 use Rattle.vt_kinds.specs.Records.{Seen, seen, fields_of, kind_of, values_of, record_of, HasRecord}
 use Rattle.vt_records.specs.declared.record_fault.RecordFault.{RecordFault}
 use Rattle.vt_records.specs.declared.record_fault.RecordFault.TheVariants as stops
@@ -40,7 +40,7 @@ of_values_ok id kind (Ok x) h e = (x, refl, (let same : held id kind x ≡ h = c
 
 -- the bytes of a record, from its ID, kind and values
 abbrev pub spelled : ℕ → Kind → List Value → List ℕ
-spelled id kind vs = little_bytes 2 id ++ kind_number kind ∷ spelling (fields_of kind) vs
+spelled id kind vs = little_bytes 2 id ++ kind_number kind ∷ fields_spelling (fields_of kind) vs
 
 -- the bytes begin with a record
 pub record IsRead (all : List ℕ) (h : ReadRecord) : Type 0 where
@@ -55,13 +55,13 @@ long_is_read a b c rest h fits e =
     let id = little_number 2 front in
     let front_fits : IsBytes front = IsBytes-take 2 (a ∷ b ∷ c ∷ rest) fits in
     let rest_fits : IsBytes rest = IsBytes-rest c rest (IsBytes-rest b (c ∷ rest) (IsBytes-rest a (b ∷ c ∷ rest) fits)) in
-    let t = test_ok (eqb id null_id) (of_kind id c rest (kind_at c)) h e in
-    let k = of_kind_ok id c rest (kind_at c) h t.1 in
+    let t = test_ok (eqb id null_id) (of_kind id c rest (kind_of_type c)) h e in
+    let k = of_kind_ok id c rest (kind_of_type c) h t.1 in
     let v = of_values_ok id k.0 (fields_at (fields_of k.0) rest) h k.2 in
     let read = fitting_ok (fields_of k.0) (values_at (fields_of k.0) no_counts rest) v.0 v.1 in
     let took = values_take (fields_of k.0) no_counts rest v.0 rest_fits read.0 in
     let type : c ≡ kind_number k.0 = kind_at_is c k.0 k.1 in
-    let text = spelling (fields_of k.0) v.0.0 in
+    let text = fields_spelling (fields_of k.0) v.0.0 in
     let behind_it : c ∷ rest ≡ kind_number k.0 ∷ (text ++ v.0.1) = ap (λ (n : ℕ). n ∷ rest) type ∙ ap (λ (r : List ℕ). kind_number k.0 ∷ r) took.0.parts in
     let parts : a ∷ b ∷ c ∷ rest ≡ spelled id k.0 v.0.0 ++ v.0.1 =
     ap (λ (r : List ℕ). front ++ r) behind_it ∙ ap (λ (f : List ℕ). f ++ (kind_number k.0 ∷ (text ++ v.0.1))) (sym (number_spelled front front_fits)) in
@@ -88,7 +88,7 @@ record_again id o rest has =
     let named = has.named in
     let back : little_number 2 bytes ≡ id = little_number-reads_back 2 id [] (omega arith) in
     let other : eqb id null_id ≡ false = ne_eqb id null_id (omega arith) in
-    record_at-long (get_or bytes 0 0) (get_or bytes 1 0) (kind_number k) (spelling (fields_of k) (values_of o) ++ rest)
+    record_at-long (get_or bytes 0 0) (get_or bytes 1 0) (kind_number k) (fields_spelling (fields_of k) (values_of o) ++ rest)
     ∙ rw (back, other, kind_at-kind_number k, values_again (fields_of k) no_counts (values_of o) rest has.fields_fit, no_misfit 3 (fields_of k) (values_of o) has.proper) refl
 
 -- two records at the front of the same bytes are equal

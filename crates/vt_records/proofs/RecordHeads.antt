@@ -6,7 +6,7 @@ use Rattle.vt_kinds.specs.declared.kind.Kind.{Kind}
 use Rattle.vt_kinds.specs.declared.kind.Kind.TheVariants as kinds
 use Rattle.vt_kinds.specs.Ids.{null_id}
 use Rattle.vt_kinds.specs.Layout.{Value}
-use Rattle.vt_kinds.specs.Kinds.{kind_number, kind_at, kind_among, every_kind}
+use Rattle.vt_kinds.specs.Kinds.{kind_number, kind_of_type, kind_among, every_kind}
 use Rattle.vt_kinds.specs.Records.{fields_of}
 use Rattle.vt_records.specs.declared.record_fault.RecordFault.{RecordFault}
 use Rattle.vt_records.specs.declared.record_fault.RecordFault.TheVariants as stops
@@ -24,10 +24,10 @@ kind_among_is [] n k e = absurd cc
 kind_among_is (k0 ∷ ks) n k e = among_cases (eqb n (kind_number k0)) k0 (kind_among ks n) n k e (eqb-true n (kind_number k0)) (kind_among_is ks n k)
 
 -- a type number belongs to one kind
-pub kind_at_is : (n : ℕ) (k : Kind) → kind_at n ≡ Some k → n ≡ kind_number k
+pub kind_at_is : (n : ℕ) (k : Kind) → kind_of_type n ≡ Some k → n ≡ kind_number k
 kind_at_is n k e = kind_among_is every_kind n k e
 
-pub kind_at-kind_number : (k : Kind) → kind_at (kind_number k) ≡ Some k
+pub kind_at-kind_number : (k : Kind) → kind_of_type (kind_number k) ≡ Some k
 kind_at-kind_number kinds.WorkingSet = refl
 kind_at-kind_number kinds.DataMask = refl
 kind_at-kind_number kinds.AlarmMask = refl
@@ -71,7 +71,7 @@ abbrev pub of_kind : ℕ → ℕ → List ℕ → Option Kind → Result ReadRec
 of_kind id type rest kind = or_stop (other_type type) kind >>= λ k. of_values id k (fields_at (fields_of k) rest)
 
 abbrev pub behind : ℕ → ℕ → List ℕ → Result ReadRecord RecordFault
-behind id type rest = cond (eqb id null_id) (Err stops.NullId) (of_kind id type rest (kind_at type))
+behind id type rest = cond (eqb id null_id) (Err stops.NullId) (of_kind id type rest (kind_of_type type))
 
 pub record_at-short : (all : List ℕ) → length all < 3 → record_at all ≡ Err stops.Truncated
 unfolding record_at number_at bytes_at

@@ -4,7 +4,7 @@ use Rattle.std.specs.List.{AllByRecursion}
 use Rattle.std.proofs.lemmas.List.Elements.{recursion_from_All, All-from_get_or}
 use Rattle.byteorder.specs.Endian.{little_bytes}
 use Rattle.std.specs.Int.{cast_unsigned}
-use Rattle.vt_kinds.specs.Layout.{Size, Unsigned, Signed, Numeral, natural, integer, bytes_in, RecordField, Number, Count, Rows, Bytes, ScaleBytes, DecimalPlaces, Value, number, rows, bytes, RecordCounts, counted, count_of, row_spelling, rows_spelling, spelling, RowFits, FieldsFit, no_counts}
+use Rattle.vt_kinds.specs.Layout.{Size, Unsigned, Signed, Numeral, natural, integer, bytes_in, RecordField, Number, Count, Rows, Bytes, ScaleBytes, DecimalPlaces, Value, number, rows, bytes, RecordCounts, counted, count_of, row_spelling, rows_spelling, fields_spelling, RowFits, FieldsFit, no_counts}
 use Rattle.vt_records.specs.declared.record_fault.RecordFault.TheVariants as stops
 use Rattle.vt_records.specs.Heads.{fitting, fields_at}
 use Rattle.vt_records.specs.TableReads.{◌>>=◌, bytes_at, number_at, signed_at, row_at, rows_at, values_at, head_size}
@@ -72,7 +72,7 @@ bytes_fit bs fits = recursion_from_All (λ b. b < 256) bs (All-from_get_or (λ b
 
 -- a table reads values that fit it, from the bytes of their encoding
 abbrev TakesValues : List RecordField → RecordCounts → List ℕ → List Value × List ℕ → Type 0
-TakesValues fs counts all x = Takes all (spelling fs x.0) x.1 × FieldsFit fs counts x.0
+TakesValues fs counts all x = Takes all (fields_spelling fs x.0) x.1 × FieldsFit fs counts x.0
 
 pub values_take : (fs : List RecordField) (counts : RecordCounts) (all : List ℕ) (x : List Value × List ℕ) → IsBytes all → values_at fs counts all ≡ Some x → TakesValues fs counts all x
 values_take [] counts all x fits e =
@@ -83,77 +83,77 @@ values_take (Number (Unsigned size) ∷ fs) counts all x fits e =
     let first = number_takes size all a.0 fits a.1 in
     let others = values_take fs counts a.0.1 b.0 first.0.rest_fits b.1 in
     subst (TakesValues (Number (Unsigned size) ∷ fs) counts all) (some_is (number (natural a.0.0) ∷ b.0.0, b.0.1) x b.2)
-    (Takes-then all (little_bytes size a.0.0) a.0.1 (spelling fs b.0.0) b.0.1 first.0 others.0, (first.1, others.1))
+    (Takes-then all (little_bytes size a.0.0) a.0.1 (fields_spelling fs b.0.0) b.0.1 first.0 others.0, (first.1, others.1))
 values_take (Number (Signed w) ∷ fs) counts all x fits e =
     let a = bind_some (signed_at w all) (λ n. values_at fs counts n.1 >>= λ vs. Some (number (integer n.0) ∷ vs.0, vs.1)) x e in
     let b = bind_some (values_at fs counts a.0.1) (λ vs. Some (number (integer a.0.0) ∷ vs.0, vs.1)) x a.2 in
     let first = signed_takes w all a.0 fits a.1 in
     let others = values_take fs counts a.0.1 b.0 first.0.rest_fits b.1 in
     subst (TakesValues (Number (Signed w) ∷ fs) counts all) (some_is (number (integer a.0.0) ∷ b.0.0, b.0.1) x b.2)
-    (Takes-then all (little_bytes (bytes_in w) (cast_unsigned w a.0.0)) a.0.1 (spelling fs b.0.0) b.0.1 first.0 others.0, (first.1, others.1))
+    (Takes-then all (little_bytes (bytes_in w) (cast_unsigned w a.0.0)) a.0.1 (fields_spelling fs b.0.0) b.0.1 first.0 others.0, (first.1, others.1))
 values_take (Count size of ∷ fs) counts all x fits e =
     let a = bind_some (number_at size all) (λ n. values_at fs (counted of n.0 counts) n.1 >>= λ vs. Some (number (natural n.0) ∷ vs.0, vs.1)) x e in
     let b = bind_some (values_at fs (counted of a.0.0 counts) a.0.1) (λ vs. Some (number (natural a.0.0) ∷ vs.0, vs.1)) x a.2 in
     let first = number_takes size all a.0 fits a.1 in
     let others = values_take fs (counted of a.0.0 counts) a.0.1 b.0 first.0.rest_fits b.1 in
     subst (TakesValues (Count size of ∷ fs) counts all) (some_is (number (natural a.0.0) ∷ b.0.0, b.0.1) x b.2)
-    (Takes-then all (little_bytes size a.0.0) a.0.1 (spelling fs b.0.0) b.0.1 first.0 others.0, (first.1, others.1))
+    (Takes-then all (little_bytes size a.0.0) a.0.1 (fields_spelling fs b.0.0) b.0.1 first.0 others.0, (first.1, others.1))
 values_take (Rows of sizes ∷ fs) counts all x fits e =
     let a = bind_some (rows_at sizes (count_of of counts) all) (λ rs. values_at fs counts rs.1 >>= λ vs. Some (rows rs.0 ∷ vs.0, vs.1)) x e in
     let b = bind_some (values_at fs counts a.0.1) (λ vs. Some (rows a.0.0 ∷ vs.0, vs.1)) x a.2 in
     let first = rows_take sizes (count_of of counts) all a.0 fits a.1 in
     let others = values_take fs counts a.0.1 b.0 first.0.rest_fits b.1 in
     subst (TakesValues (Rows of sizes ∷ fs) counts all) (some_is (rows a.0.0 ∷ b.0.0, b.0.1) x b.2)
-    (Takes-then all (rows_spelling sizes a.0.0) a.0.1 (spelling fs b.0.0) b.0.1 first.0 others.0, (first.1, first.2, others.1))
+    (Takes-then all (rows_spelling sizes a.0.0) a.0.1 (fields_spelling fs b.0.0) b.0.1 first.0 others.0, (first.1, first.2, others.1))
 values_take (Bytes of ∷ fs) counts all x fits e =
     let a = bind_some (bytes_at (count_of of counts) all) (λ bs. values_at fs counts bs.1 >>= λ vs. Some (bytes bs.0 ∷ vs.0, vs.1)) x e in
     let b = bind_some (values_at fs counts a.0.1) (λ vs. Some (bytes a.0.0 ∷ vs.0, vs.1)) x a.2 in
     let first = bytes_take (count_of of counts) all a.0 fits a.1 in
     let others = values_take fs counts a.0.1 b.0 first.0.rest_fits b.1 in
     subst (TakesValues (Bytes of ∷ fs) counts all) (some_is (bytes a.0.0 ∷ b.0.0, b.0.1) x b.2)
-    (Takes-then all a.0.0 a.0.1 (spelling fs b.0.0) b.0.1 first.0 others.0, (first.1, bytes_fit a.0.0 first.2, others.1))
+    (Takes-then all a.0.0 a.0.1 (fields_spelling fs b.0.0) b.0.1 first.0 others.0, (first.1, bytes_fit a.0.0 first.2, others.1))
 values_take (ScaleBytes ∷ fs) counts all x fits e =
     let a = bind_some (number_at 4 all) (λ n. values_at fs counts n.1 >>= λ vs. Some (number (natural n.0) ∷ vs.0, vs.1)) x e in
     let b = bind_some (values_at fs counts a.0.1) (λ vs. Some (number (natural a.0.0) ∷ vs.0, vs.1)) x a.2 in
     let first = number_takes 4 all a.0 fits a.1 in
     let others = values_take fs counts a.0.1 b.0 first.0.rest_fits b.1 in
     subst (TakesValues (ScaleBytes ∷ fs) counts all) (some_is (number (natural a.0.0) ∷ b.0.0, b.0.1) x b.2)
-    (Takes-then all (little_bytes 4 a.0.0) a.0.1 (spelling fs b.0.0) b.0.1 first.0 others.0, (first.1, others.1))
+    (Takes-then all (little_bytes 4 a.0.0) a.0.1 (fields_spelling fs b.0.0) b.0.1 first.0 others.0, (first.1, others.1))
 values_take (DecimalPlaces ∷ fs) counts all x fits e =
     let a = bind_some (number_at 1 all) (λ n. values_at fs counts n.1 >>= λ vs. Some (number (natural n.0) ∷ vs.0, vs.1)) x e in
     let b = bind_some (values_at fs counts a.0.1) (λ vs. Some (number (natural a.0.0) ∷ vs.0, vs.1)) x a.2 in
     let first = number_takes 1 all a.0 fits a.1 in
     let others = values_take fs counts a.0.1 b.0 first.0.rest_fits b.1 in
     subst (TakesValues (DecimalPlaces ∷ fs) counts all) (some_is (number (natural a.0.0) ∷ b.0.0, b.0.1) x b.2)
-    (Takes-then all (little_bytes 1 a.0.0) a.0.1 (spelling fs b.0.0) b.0.1 first.0 others.0, (first.1, others.1))
+    (Takes-then all (little_bytes 1 a.0.0) a.0.1 (fields_spelling fs b.0.0) b.0.1 first.0 others.0, (first.1, others.1))
 
-pub values_again : (fs : List RecordField) (counts : RecordCounts) (vs : List Value) (rest : List ℕ) → FieldsFit fs counts vs → values_at fs counts (spelling fs vs ++ rest) ≡ Some (vs, rest)
+pub values_again : (fs : List RecordField) (counts : RecordCounts) (vs : List Value) (rest : List ℕ) → FieldsFit fs counts vs → values_at fs counts (fields_spelling fs vs ++ rest) ≡ Some (vs, rest)
 values_again [] counts [] rest fits = refl
 values_again (Number (Unsigned size) ∷ fs) counts (number (natural n) ∷ vs) rest fits =
-    ap (values_at (Number (Unsigned size) ∷ fs) counts) (append_assoc (little_bytes size n) (spelling fs vs) rest)
-    ∙ rw (number_again size n (spelling fs vs ++ rest) fits.0, values_again fs counts vs rest fits.1) refl
+    ap (values_at (Number (Unsigned size) ∷ fs) counts) (append_assoc (little_bytes size n) (fields_spelling fs vs) rest)
+    ∙ rw (number_again size n (fields_spelling fs vs ++ rest) fits.0, values_again fs counts vs rest fits.1) refl
 values_again (Number (Signed w) ∷ fs) counts (number (integer z) ∷ vs) rest fits =
-    ap (values_at (Number (Signed w) ∷ fs) counts) (append_assoc (little_bytes (bytes_in w) (cast_unsigned w z)) (spelling fs vs) rest)
-    ∙ rw (signed_again w z (spelling fs vs ++ rest) fits.0, values_again fs counts vs rest fits.1) refl
+    ap (values_at (Number (Signed w) ∷ fs) counts) (append_assoc (little_bytes (bytes_in w) (cast_unsigned w z)) (fields_spelling fs vs) rest)
+    ∙ rw (signed_again w z (fields_spelling fs vs ++ rest) fits.0, values_again fs counts vs rest fits.1) refl
 values_again (Number (Unsigned size) ∷ fs) counts (number (integer z) ∷ vs) rest fits = absurd fits.0
 values_again (Number (Signed w) ∷ fs) counts (number (natural n) ∷ vs) rest fits = absurd fits.0
 values_again (Count size of ∷ fs) counts (number (natural n) ∷ vs) rest fits =
-    ap (values_at (Count size of ∷ fs) counts) (append_assoc (little_bytes size n) (spelling fs vs) rest)
-    ∙ rw (number_again size n (spelling fs vs ++ rest) fits.0, values_again fs (counted of n counts) vs rest fits.1) refl
+    ap (values_at (Count size of ∷ fs) counts) (append_assoc (little_bytes size n) (fields_spelling fs vs) rest)
+    ∙ rw (number_again size n (fields_spelling fs vs ++ rest) fits.0, values_again fs (counted of n counts) vs rest fits.1) refl
 values_again (Rows of sizes ∷ fs) counts (rows rs ∷ vs) rest fits =
-    let read : rows_at sizes (count_of of counts) (rows_spelling sizes rs ++ (spelling fs vs ++ rest)) ≡ Some (rs, spelling fs vs ++ rest) =
-    subst (λ (n : ℕ). rows_at sizes n (rows_spelling sizes rs ++ (spelling fs vs ++ rest)) ≡ Some (rs, spelling fs vs ++ rest)) fits.0 (rows_again sizes rs (spelling fs vs ++ rest) fits.1) in
-    ap (values_at (Rows of sizes ∷ fs) counts) (append_assoc (rows_spelling sizes rs) (spelling fs vs) rest)
+    let read : rows_at sizes (count_of of counts) (rows_spelling sizes rs ++ (fields_spelling fs vs ++ rest)) ≡ Some (rs, fields_spelling fs vs ++ rest) =
+    subst (λ (n : ℕ). rows_at sizes n (rows_spelling sizes rs ++ (fields_spelling fs vs ++ rest)) ≡ Some (rs, fields_spelling fs vs ++ rest)) fits.0 (rows_again sizes rs (fields_spelling fs vs ++ rest) fits.1) in
+    ap (values_at (Rows of sizes ∷ fs) counts) (append_assoc (rows_spelling sizes rs) (fields_spelling fs vs) rest)
     ∙ rw (read, values_again fs counts vs rest fits.2) refl
 values_again (Bytes of ∷ fs) counts (bytes bs ∷ vs) rest fits =
-    ap (values_at (Bytes of ∷ fs) counts) (append_assoc bs (spelling fs vs) rest)
-    ∙ rw (bytes_again bs (spelling fs vs ++ rest) (count_of of counts) fits.0, values_again fs counts vs rest fits.2) refl
+    ap (values_at (Bytes of ∷ fs) counts) (append_assoc bs (fields_spelling fs vs) rest)
+    ∙ rw (bytes_again bs (fields_spelling fs vs ++ rest) (count_of of counts) fits.0, values_again fs counts vs rest fits.2) refl
 values_again (ScaleBytes ∷ fs) counts (number (natural n) ∷ vs) rest fits =
-    ap (values_at (ScaleBytes ∷ fs) counts) (append_assoc (little_bytes 4 n) (spelling fs vs) rest)
-    ∙ rw (number_again 4 n (spelling fs vs ++ rest) fits.0, values_again fs counts vs rest fits.1) refl
+    ap (values_at (ScaleBytes ∷ fs) counts) (append_assoc (little_bytes 4 n) (fields_spelling fs vs) rest)
+    ∙ rw (number_again 4 n (fields_spelling fs vs ++ rest) fits.0, values_again fs counts vs rest fits.1) refl
 values_again (DecimalPlaces ∷ fs) counts (number (natural n) ∷ vs) rest fits =
-    ap (values_at (DecimalPlaces ∷ fs) counts) (append_assoc (little_bytes 1 n) (spelling fs vs) rest)
-    ∙ rw (number_again 1 n (spelling fs vs ++ rest) fits.0, values_again fs counts vs rest fits.1) refl
+    ap (values_at (DecimalPlaces ∷ fs) counts) (append_assoc (little_bytes 1 n) (fields_spelling fs vs) rest)
+    ∙ rw (number_again 1 n (fields_spelling fs vs ++ rest) fits.0, values_again fs counts vs rest fits.1) refl
 values_again fs counts vs rest fits = absurd fits
 
 -- ---- too few bytes

@@ -3,9 +3,9 @@ use Rattle.std.specs.Prelude.{◌≡◌, ◌≢◌, ◌<◌, ◌≤◌, ℕ, ◌
 use Rattle.byteorder.specs.Endian.{little_number}
 use Rattle.vt_kinds.specs.declared.kind.Kind.{Kind}
 use Rattle.vt_kinds.specs.Ids.{null_id}
-use Rattle.vt_kinds.specs.Layout.{RecordField, Value, field_spelling, spelling, FieldsFit, IsProper, no_counts}
+use Rattle.vt_kinds.specs.Layout.{RecordField, Value, field_spelling, fields_spelling, FieldsFit, IsProper, no_counts}
 use Rattle.vt_kinds.specs.Records.{Seen, fields_of, record_of, HasRecord}
-use Rattle.vt_kinds.specs.Kinds.{kind_at}
+use Rattle.vt_kinds.specs.Kinds.{kind_of_type}
 
 -- the ID and the type at the head of a record
 abbrev pub id_at : List ℕ → ℕ
@@ -29,20 +29,20 @@ pub record HasNullId (rest : List ℕ) : Type 0 where
 pub record HasOtherType (rest : List ℕ) : Type 0 where
   pub head : 3 ≤ length rest
   pub named : id_at rest ≢ null_id
-  pub no_kind : kind_at (type_at rest) ≡ None
+  pub no_kind : kind_of_type (type_at rest) ≡ None
 
 -- after an ID and a kind's type come values that fit the kind's fields
 pub record HasValues (rest : List ℕ) (kind : Kind) (values : List Value) : Type 0 where
-  pub known : kind_at (type_at rest) ≡ Some kind
+  pub known : kind_of_type (type_at rest) ≡ Some kind
   pub fields_fit : FieldsFit (fields_of kind) no_counts values
   pub tail : List ℕ
-  pub parts : drop 3 rest ≡ spelling (fields_of kind) values ++ tail
+  pub parts : drop 3 rest ≡ fields_spelling (fields_of kind) values ++ tail
 
 -- the bytes end inside the fields of a known type
 pub record EndsInFields (rest : List ℕ) : Type 0 where
   pub head : 3 ≤ length rest
   pub named : id_at rest ≢ null_id
-  pub known : kind_at (type_at rest) ≢ None
+  pub known : kind_of_type (type_at rest) ≢ None
   pub cut : (kind : Kind) (values : List Value) → HasValues rest kind values → ⊥
 
 -- the bytes end inside the ID and the type, or inside the fields

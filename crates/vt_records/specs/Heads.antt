@@ -5,7 +5,7 @@ use Rattle.vt_kinds.specs.declared.scale.Scale.{Scale}
 use Rattle.vt_kinds.specs.Ids.{null_id}
 use Rattle.vt_kinds.specs.Scales.{scale_at}
 use Rattle.vt_kinds.specs.Layout.{Unsigned, Signed, natural, bytes_in, RecordField, Number, Count, ScaleBytes, DecimalPlaces, Value, number, field_spelling, no_counts}
-use Rattle.vt_kinds.specs.Kinds.{kind_at}
+use Rattle.vt_kinds.specs.Kinds.{kind_of_type}
 use Rattle.vt_kinds.specs.Records.{fields_of}
 use Rattle.vt_records.specs.declared.record_fault.RecordFault.{RecordFault}
 use Rattle.vt_records.specs.declared.record_fault.RecordFault.TheVariants as stops
@@ -38,13 +38,13 @@ abbrev pub other_type : ℕ → RecordFault
 other_type n = if nat_le 29 n && nat_le n 33 then stops.LeftOutType else stops.UnknownType
 
 -- the number of bytes of a value in its field
-abbrev pub size_in : RecordField → Value → ℕ
-size_in (Number (Unsigned size)) v = size
-size_in (Number (Signed width)) v = bytes_in width
-size_in (Count size of) v = size
-size_in ScaleBytes v = 4
-size_in DecimalPlaces v = 1
-size_in f v = length (field_spelling f v)
+abbrev pub value_size : RecordField → Value → ℕ
+value_size (Number (Unsigned size)) v = size
+value_size (Number (Signed width)) v = bytes_in width
+value_size (Count size of) v = size
+value_size ScaleBytes v = 4
+value_size DecimalPlaces v = 1
+value_size f v = length (field_spelling f v)
 
 abbrev pub if_none : Option Scale → RecordFault → Option RecordFault → Option RecordFault
 if_none None stop next = Some stop
@@ -54,7 +54,7 @@ if_none (Some s) stop next = next
 abbrev pub misfit : ℕ → List RecordField → List Value → Option RecordFault
 misfit at (ScaleBytes ∷ fs) (number (natural n) ∷ vs) = if_none (scale_at n) (stops.Scale at) (misfit (at + 4) fs vs)
 misfit at (DecimalPlaces ∷ fs) (number (natural n) ∷ vs) = if nat_lt 7 n then Some (stops.Decimals at) else misfit (at + 1) fs vs
-misfit at (f ∷ fs) (v ∷ vs) = misfit (at + size_in f v) fs vs
+misfit at (f ∷ fs) (v ∷ vs) = misfit (at + value_size f v) fs vs
 misfit at fs vs = None
 
 abbrev pub or_misfit : List Value × List ℕ → Option RecordFault → Result (List Value × List ℕ) RecordFault
@@ -75,6 +75,6 @@ record_at all = do
   id ← or_stop stops.Truncated (number_at 2 all)
   type ← or_stop stops.Truncated (number_at 1 id.1)
   if id.0 == null_id then Err stops.NullId else do
-    kind ← or_stop (other_type type.0) (kind_at type.0)
+    kind ← or_stop (other_type type.0) (kind_of_type type.0)
     vs ← fields_at (fields_of kind) type.1
     Ok (record { id = id.0; kind = kind; values = vs.0; rest = vs.1 })

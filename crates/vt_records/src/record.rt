@@ -1,7 +1,7 @@
 //! Reads the record at the front of bytes.
 
 ghost use Rattle.std.specs.Prelude.{◌≡◌, ◌<◌, ◌++◌, length, IfOk, IfErr};
-ghost use Rattle.vt_kinds.specs.Kinds.{kind_at};
+ghost use Rattle.vt_kinds.specs.Kinds.{kind_of_type};
 ghost use Rattle.vt_kinds.specs.Records.{kind_of, values_of, seen, record_of, HasRecord};
 ghost use Rattle.vt_records.specs.Heads.{Reads, record_at, or_stop, other_type};
 ghost use Rattle.vt_records.specs.RecordFaults.{IsStop};
@@ -53,7 +53,7 @@ fn parse_record<'a>(alloc: Global, bytes: &'a [u8]) -> Result<Record<'a>, Record
 
 /// The kind of a type number, or the stop of a type without a kind.
 pub fn kind_with(number: u8) -> Result<Kind, RecordFault>
-    ensures { result ≡ or_stop (other_type number) (kind_at number) }
+    ensures { result ≡ or_stop (other_type number) (kind_of_type number) }
 {
     match Kind::from_number(number) {
         Some(kind) => Ok(kind),

@@ -11,7 +11,7 @@ use Rattle.vt_shown.specs.ShownElements.{IsShown}
 use Rattle.vt_node.specs.Bus.{notice_of}
 use Rattle.vt_server.specs.message.MessageEffects.{ends_pool}
 use Rattle.vt_server.specs.frame.TimeoutActs.{at_time, lapsed}
-use Rattle.vt_server.specs.operator.ActionEffects.{object_of}
+use Rattle.vt_server.specs.operator.ActionEffects.{object_acted_on}
 use Rattle.vt_server.specs.state.AddressViews.{AddressView}
 use Rattle.vt_server.specs.frame.SessionEffects.{came}
 use Rattle.vt_server.specs.Steps.{JudgedInput, FrameAt, ActionAt, step}
@@ -42,7 +42,7 @@ IsFound s (FrameAt time frame verdict) =
     s.lost ≡ false
     → IsJudged (lapsed (at_time s time)).now (source_of frame) (part (source_of frame) (lapsed (at_time s time)))
     (notice_of s.claims.own s.claims.name frame) frame verdict
-IsFound s (ActionAt action shown) = s.lost ≡ false → IsSeen s (object_of action) shown
+IsFound s (ActionAt action shown) = s.lost ≡ false → IsSeen s (object_acted_on action) shown
 
 abbrev pub AreFound : State → List JudgedInput → Type 0
 AreFound s [] = Unit {0}

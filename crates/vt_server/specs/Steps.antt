@@ -44,8 +44,8 @@ abbrev pub before : State → ℕ → FrameMeaning → State
 before s source notice = record s { claims = hear_claim s source notice }
 
 -- the act of an address whose holder has changed
-abbrev pub changed : Option ℕ → State → ℕ → List (ℕ × Act)
-changed was s address = if option_eq nat_eq was (holder s address) then [] else (address, Rebinds) ∷ []
+abbrev pub rebind_acts : Option ℕ → State → ℕ → List (ℕ × Act)
+rebind_acts was s address = if option_eq nat_eq was (holder s address) then [] else (address, Rebinds) ∷ []
 
 -- the former address of a NAME that claims another
 abbrev pub left_by : ℕ → Option ℕ → Option ℕ
@@ -56,13 +56,13 @@ abbrev pub left_holder : State → Option ℕ → Option ℕ
 left_holder s None = None
 left_holder s (Some left) = holder s left
 
-abbrev pub changed_left : Option ℕ → State → Option ℕ → List (ℕ × Act)
-changed_left was s None = []
-changed_left was s (Some left) = changed was s left
+abbrev pub rebind_left_acts : Option ℕ → State → Option ℕ → List (ℕ × Act)
+rebind_left_acts was s None = []
+rebind_left_acts was s (Some left) = rebind_acts was s left
 
 -- A claim changes the holders of at most two addresses: the former address of its NAME, and its source.
 abbrev pub changes_by : State → State → Option ℕ → ℕ → List (ℕ × Act)
-changes_by s t left source = changed_left (left_holder s left) t left ++ changed (holder s source) t source
+changes_by s t left source = rebind_left_acts (left_holder s left) t left ++ rebind_acts (holder s source) t source
 
 abbrev pub changes : State → ℕ → FrameMeaning → List (ℕ × Act)
 changes s source (Claim name) =

@@ -55,12 +55,12 @@ with_set_at address (Some set) sets = with_set set sets
 abbrev pub put : ℕ → AddressOutcome → State → State
 put address after s = record s { sets = with_set_at address after.set s.sets; places = with_at address after.place s.places }
 
-abbrev pub refusal : Option OperatorFault → List Sent
-refusal None = []
-refusal (Some fault) = Refused fault ∷ []
+abbrev pub sent_refusal : Option OperatorFault → List Sent
+sent_refusal None = []
+sent_refusal (Some fault) = Refused fault ∷ []
 
 abbrev pub to_address : ℕ → AddressOutcome → List Sent
-to_address address after = map (ToOne address) after.frames ++ refusal after.refused
+to_address address after = map (ToOne address) after.frames ++ sent_refusal after.refused
 
 -- ---- acts at addresses in order
 

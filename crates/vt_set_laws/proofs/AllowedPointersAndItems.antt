@@ -16,7 +16,7 @@ use Rattle.vt_kinds.specs.declared.variables.ObjectPointer.{ObjectPointer}
 use Rattle.vt_kinds.specs.declared.object.Object.TheVariants as objects
 use Rattle.vt_kinds.specs.Ids.{null_id}
 use Rattle.vt_kinds.specs.Records.{Seen, kind_of}
-use Rattle.vt_kinds.specs.References.{slot, listed, slots_of}
+use Rattle.vt_kinds.specs.References.{slot, slots_listed, slots_of}
 use Rattle.vt_stores.specs.Stores.{ObjectMap, Objects}
 use Rattle.vt_stores.proofs.SortedEntries.{true_both}
 use Rattle.vt_chains.proofs.IdIndices.{get_placed}
@@ -119,7 +119,7 @@ places_allow_value m id value p null at sound after =
 
 -- the slot of an item
 item_in : (P : Slot → Type 0) (kind : Kind) (start index : ℕ) (items : List ℕ) (item : ℕ) → index < length items
-    → AllByRecursion P (listed kind places.Item start (set items index item)) → (at : ℕ) × P (slot kind (places.Item at) item)
+    → AllByRecursion P (slots_listed kind places.Item start (set items index item)) → (at : ℕ) × P (slot kind (places.Item at) item)
 item_in P kind start index [] item lt all = absurd (omega (arith, lt))
 item_in P kind start zero (x ∷ items) item lt all = (start, all.0)
 item_in P kind start (suc index) (x ∷ items) item lt all = item_in P kind (suc start) index items item (omega (arith, lt)) all.1

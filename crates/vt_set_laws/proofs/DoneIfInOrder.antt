@@ -14,9 +14,9 @@ use Rattle.vt_commands.specs.declared.command.Command.TheVariants.{ChangeNumeric
 use Rattle.vt_commands.specs.Targets.{object_of}
 use Rattle.vt_stores.specs.Stores.{ObjectMap}
 use Rattle.vt_stores.proofs.SortedEntries.{true_both}
-use Rattle.vt_effects.specs.Fields.{word}
+use Rattle.vt_effects.specs.Fields.{low_word}
 use Rattle.vt_effects.specs.Changes.{if_passed, left, other_id, change_item, change_value, change_attribute, changed}
-use Rattle.vt_effects.specs.Effects.{kind_in, pointer_value, places_allow, value_drawn, chains_are_short, pointer_may, keeps_order, value_error, in_order, other_kind, put, changed_at, changed_for, changed_by, effect_on, effect, after}
+use Rattle.vt_effects.specs.Effects.{kind_in, pointer_value, places_allow, value_drawn, chains_are_short, pointer_may, keeps_order, value_error, in_order, other_kind, insert_ok, changed_at, changed_for, changed_by, effect_on, effect, after}
 use Rattle.vt_effects.specs.Soundness.{IsSound, CommandsKeepOrder}
 use Rattle.vt_set_laws.specs.CommandOrder.{OrderDecides}
 use Rattle.vt_set_laws.proofs.AllowedPointersAndItems.{places_allow_value, item_drawn}
@@ -44,7 +44,7 @@ record IsPut (m n : ObjectMap) (id : ℕ) (made : Result Seen ℕ) : Type 0 wher
   is : made ≡ Ok new
   store : finite.insert m id new ≡ n
 
-is_put : (m n : ObjectMap) (id : ℕ) (made : Result Seen ℕ) → ◌≡◌ {A = Result ObjectMap ℕ} (put m id made) (Ok n) → IsPut m n id made
+is_put : (m n : ObjectMap) (id : ℕ) (made : Result Seen ℕ) → ◌≡◌ {A = Result ObjectMap ℕ} (insert_ok m id made) (Ok n) → IsPut m n id made
 is_put m n id (Ok new) is = record { new = new; is = refl; store = cc }
 is_put m n id (Err error) is = absurd cc
 
@@ -54,13 +54,13 @@ passed_is false error o new is = absurd cc
 
 value_of_pointer : (named : Option Kind) (value : ℕ) (p : ObjectPointer) (new : Seen)
     → ◌≡◌ {A = Result Seen ℕ} (change_value named value (objects.ObjectPointer p)) (Ok new)
-    → objects.ObjectPointer (record p { value = word value }) ≡ new
-value_of_pointer named value p new made = passed_is _ _ (objects.ObjectPointer (record p { value = word value })) new made
+    → objects.ObjectPointer (record p { value = low_word value }) ≡ new
+value_of_pointer named value p new made = passed_is _ _ (objects.ObjectPointer (record p { value = low_word value })) new made
 
 attribute_of_pointer : (named : Option Kind) (number value : ℕ) (p : ObjectPointer) (new : Seen)
-    → ◌≡◌ {A = Result Seen ℕ} (change_attribute named number value (objects.ObjectPointer p)) (Ok new) → objects.ObjectPointer (record p { value = word value }) ≡ new
+    → ◌≡◌ {A = Result Seen ℕ} (change_attribute named number value (objects.ObjectPointer p)) (Ok new) → objects.ObjectPointer (record p { value = low_word value }) ≡ new
 attribute_of_pointer named zero value p new made = absurd cc
-attribute_of_pointer named (suc zero) value p new made = passed_is _ _ (objects.ObjectPointer (record p { value = word value })) new made
+attribute_of_pointer named (suc zero) value p new made = passed_is _ _ (objects.ObjectPointer (record p { value = low_word value })) new made
 attribute_of_pointer named (suc (suc number)) value p new made = absurd cc
 
 tested_is : (first test : Bool) (error other : ℕ) (o new : Seen)
@@ -104,10 +104,10 @@ kept m n (ChangeListItem list index item) sound null made ordered =
     true_both (value_drawn m (pointer_value (finite.get m item))) (chains_are_short n)
     (item_kept m n list index item (kind_in m item) null ordered (finite.get m list) refl made) (short_by_shallow n (IsSound.shallow ordered))
 kept m n (ChangeNumericValue id value) sound null made ordered =
-    pointer_kept m n id (word value) (ChangeNumericValue id value) (kind_in m (word value)) null sound ordered (value_of_pointer (kind_in m (word value)) value)
+    pointer_kept m n id (low_word value) (ChangeNumericValue id value) (kind_in m (low_word value)) null sound ordered (value_of_pointer (kind_in m (low_word value)) value)
     (finite.get m id) refl made
 kept m n (ChangeAttribute id number value) sound null made ordered =
-    pointer_kept m n id (word value) (ChangeAttribute id number value) (kind_in m (word value)) null sound ordered (attribute_of_pointer (kind_in m (word value)) number value)
+    pointer_kept m n id (low_word value) (ChangeAttribute id number value) (kind_in m (low_word value)) null sound ordered (attribute_of_pointer (kind_in m (low_word value)) number value)
     (finite.get m id) refl made
 kept m n _ sound null made ordered = refl
 

@@ -25,7 +25,7 @@ use Rattle.vt_kinds.specs.References.{allowed, slot}
 use Rattle.vt_kinds.specs.Texts.{filled_up}
 use Rattle.vt_commands.specs.declared.raising.Raised.{Raised}
 use Rattle.vt_stores.specs.Stores.{ObjectMap}
-use Rattle.vt_effects.specs.Fields.{byte}
+use Rattle.vt_effects.specs.Fields.{low_byte}
 use Rattle.vt_effects.specs.Changes.{is_one_of}
 use Rattle.vt_effects.specs.Effects.{kind_in, pointer_value}
 use Rattle.vt_effects.specs.Soundness.{IsSound, is_in_order, value_fits}
@@ -110,7 +110,7 @@ by_value : (n value : ℕ) (o new : Seen) → number_of o ≡ Some value → num
 by_value n value o new has gets same =
     ((λ e. same (sym (eqb-true value n e))), (λ e. eq-eqb value n (same_Some value n (sym has ∙ ap number_of (sym e) ∙ gets))))
 
-one_byte : (n : ℕ) → n < 256 → byte n ≡ n
+one_byte : (n : ℕ) → n < 256 → low_byte n ≡ n
 one_byte n lt = mod-eq_of_lt lt
 
 boolean_decides : (n : ℕ) (o : InputBoolean) → n < 256

@@ -14,7 +14,7 @@ use Rattle.vt_commands.specs.declared.command.Command.{Command}
 use Rattle.vt_commands.specs.declared.command.Command.TheVariants.{HideShow, EnableDisable, ControlAudio, SetVolume, ChangeChildLocation, ChangeSize, ChangeBackgroundColour, ChangeNumericValue, ChangeEndPoint, ChangeFontAttributes, ChangeLineAttributes, ChangeFillAttributes, ChangeActiveMask, ChangeSoftKeyMask, ChangeAttribute, ChangePriority, ChangeListItem, DeletePool, ChangeStringValue, ChangeChildPosition, ExecuteMacro}
 use Rattle.vt_commands.specs.declared.target.Target.{Target}
 use Rattle.vt_commands.specs.Targets.{object_of, targets}
-use Rattle.vt_effects.specs.Changes.{if_passed, stands_in, shifted, move_child, for_child, change_location, change_position, put_children, in_parent, hide_show, enable_disable, for_kinds, change_value, change_fill_attributes, change_active_mask, change_soft_key_mask, put_attribute, change_attribute, change_item, change_text, execute_macro, changed}
+use Rattle.vt_effects.specs.Changes.{if_passed, stands_in, moved_child, move_child, for_child, change_location, change_position, put_children, in_parent, hide_show, enable_disable, for_kinds, change_value, change_fill_attributes, change_active_mask, change_soft_key_mask, put_attribute, change_attribute, change_item, change_text, execute_macro, changed}
 use Rattle.vt_effects.specs.Errors.{bit}
 use Rattle.vt_set_laws.specs.CommandKinds.{kind_error, children_in, lacks, mask_type, has_other_cause, first_id, KindsAreThoseOfChanges}
 
@@ -127,7 +127,7 @@ passes false children is =
 moves_by : (named : Option Kind) (child dx dy : ℕ) (o : Seen)
     → IsDecided sets.Parents (bit 0) (lacks (children_in o) child) o (in_parent (change_location named child dx dy) o)
 moves_by named child dx dy o =
-    moves (change_location named child dx dy) child o (λ children is. not_standing child named children _ (λ e. passes _ (move_child child (shifted dx dy) children) e) is)
+    moves (change_location named child dx dy) child o (λ children is. not_standing child named children _ (λ e. passes _ (move_child child (moved_child dx dy) children) e) is)
 
 moves_to : (named : Option Kind) (child : ℕ) (x y : ℤ) (o : Seen)
     → IsDecided sets.Parents (bit 0) (lacks (children_in o) child) o (in_parent (change_position named child x y) o)

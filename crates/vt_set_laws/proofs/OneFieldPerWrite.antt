@@ -12,14 +12,14 @@ use Rattle.vt_kinds.specs.declared.fields.Attribute.{Attribute}
 use Rattle.vt_kinds.specs.declared.fields.Field.TheVariants as fields
 use Rattle.vt_kinds.specs.declared.object.Object.TheVariants as objects
 use Rattle.vt_kinds.specs.declared.scale.Scale.{Scale}
-use Rattle.vt_kinds.specs.Attributes.{attribute_at, attributes_of, numbered, byte}
+use Rattle.vt_kinds.specs.Attributes.{attribute_at, attributes_of, attribute_numbered, byte}
 use Rattle.vt_kinds.specs.Layout.{Value, number, natural, integer}
 use Rattle.vt_kinds.specs.Records.{Seen, kind_of, fields_of, values_of}
 use Rattle.vt_kinds.specs.References.{is_member}
 use Rattle.vt_kinds.specs.Scales.{scale_number, scales, scale_at, scale_among}
 use Rattle.vt_commands.specs.declared.command.Command.TheVariants.{ChangeAttribute}
 use Rattle.vt_stores.specs.Shapes.{Fixed, fixed}
-use Rattle.vt_objects.specs.AttributeFields.{IsField, IsFieldNamed, field_of, written}
+use Rattle.vt_objects.specs.AttributeFields.{IsField, IsFieldNamed, field_of, changed_value}
 use Rattle.vt_effects.specs.Fields.{or_scale, scale_of, decimals_of, with_field}
 use Rattle.vt_effects.specs.Fields as effects
 use Rattle.vt_effects.specs.Changes.{ChangesKeep, if_passed, left, takes, put_attribute, change_attribute}
@@ -54,9 +54,9 @@ scale_whole : (old : Scale) (n : ℕ) → n < 256 ^ 4 → is_some (scale_at n) �
     → number (natural (scale_number (scale_of old n))) ≡ number (natural (n % 256 ^ 4))
 scale_whole old n lt passed = ap (λ (m : ℕ). number (natural m)) (scale_found old scales n passed ∙ whole n lt)
 
-decimals_lowest : (old n : ℕ) → nat_le (effects.byte n) 7 ≡ true
+decimals_lowest : (old n : ℕ) → nat_le (effects.low_byte n) 7 ≡ true
     → number (natural (decimals_of old n)) ≡ number (natural (n % 256 ^ 1))
-decimals_lowest old n passed = ap (λ (m : ℕ). number (natural m)) (cond-true (nat_le (effects.byte n) 7) (effects.byte n) old passed)
+decimals_lowest old n passed = ap (λ (m : ℕ). number (natural m)) (cond-true (nat_le (effects.low_byte n) 7) (effects.low_byte n) old passed)
 
 -- ---- each attribute
 
@@ -64,7 +64,7 @@ decimals_lowest old n passed = ap (λ (m : ℕ). number (natural m)) (cond-true 
 record HasWritten (attribute : Attribute) (n : ℕ) (o new : Seen) : Type 0 where
   place : ℕ
   is_field : IsField (kind_of o) attribute place
-  values : values_of new ≡ set (values_of o) place (written attribute.value_type n)
+  values : values_of new ≡ set (values_of o) place (changed_value attribute.value_type n)
 
 -- the field is written, if it accepts the value
 record IsPut (named : Option Kind) (n : ℕ) (o : Seen) (attribute : Attribute) : Type 0 where
@@ -73,7 +73,7 @@ record IsPut (named : Option Kind) (n : ℕ) (o : Seen) (attribute : Attribute) 
 put : {named : Option Kind} {n : ℕ} {o : Seen} {attribute : Attribute} {Others : Type 0} (place : ℕ) (value : Value)
     → IsFieldNamed (kind_of o) attribute.field place → slice_get (fields_of (kind_of o)) place ≡ Some (field_of attribute.value_type)
     → values_of (with_field attribute.field n o) ≡ set (values_of o) place value
-    → (takes (kind_of o) attribute.value_type n named ≡ true → value ≡ written attribute.value_type n) → Others → IsPut named n o attribute × Others
+    → (takes (kind_of o) attribute.value_type n named ≡ true → value ≡ changed_value attribute.value_type n) → Others → IsPut named n o attribute × Others
 put {named = named} {n = n} {o = o} {attribute = attribute} place value name typed values is others = (here, others)
   where
     here : IsPut named n o attribute
@@ -87,10 +87,10 @@ put {named = named} {n = n} {o = o} {attribute = attribute} place value name typ
 
 plain : {named : Option Kind} {n : ℕ} {o : Seen} {attribute : Attribute} {Others : Type 0} (place : ℕ)
     → IsFieldNamed (kind_of o) attribute.field place → slice_get (fields_of (kind_of o)) place ≡ Some (field_of attribute.value_type)
-    → values_of (with_field attribute.field n o) ≡ set (values_of o) place (written attribute.value_type n) → Others
+    → values_of (with_field attribute.field n o) ≡ set (values_of o) place (changed_value attribute.value_type n) → Others
     → IsPut named n o attribute × Others
 plain {n = n} {attribute = attribute} place name typed values others =
-    put place (written attribute.value_type n) name typed values (λ passed. refl) others
+    put place (changed_value attribute.value_type n) name typed values (λ passed. refl) others
 
 -- all attributes of each kind, by their indices in the record
 each : (named : Option Kind) (n : ℕ) → n < 256 ^ 4 → (o : Seen) → AllByRecursion (IsPut named n o) (attributes_of (kind_of o))
@@ -159,7 +159,7 @@ each named n lt (objects.Macro o) = tt
 -- ---- the attribute with a number
 
 numbered_put : (Q : Attribute → Type 0) (attributes : List Attribute) (index : ℕ) (attribute : Attribute) → AllByRecursion Q attributes
-    → numbered attributes index ≡ Some attribute → Q attribute
+    → attribute_numbered attributes index ≡ Some attribute → Q attribute
 numbered_put Q [] zero attribute all is = absurd cc
 numbered_put Q [] (suc index) attribute all is = absurd cc
 numbered_put Q (a ∷ attributes) zero attribute all is = absurd cc
@@ -173,7 +173,7 @@ put_at named n lt (objects.InputList o) index attribute is = by (index == 5) is
     options : IsPut named n (objects.InputList o) (byte fields.Options) × Unit {0}
     options = plain 5 refl refl refl tt
 
-    by : (b : Bool) → cond b (Some (byte fields.Options)) (numbered (attributes_of kinds.InputList) index) ≡ Some attribute
+    by : (b : Bool) → cond b (Some (byte fields.Options)) (attribute_numbered (attributes_of kinds.InputList) index) ≡ Some attribute
         → IsPut named n (objects.InputList o) attribute
     by true e = subst (IsPut named n (objects.InputList o)) (same_Some (byte fields.Options) attribute e) options.0
     by false e =

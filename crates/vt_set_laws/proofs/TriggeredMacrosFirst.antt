@@ -13,7 +13,7 @@ use Rattle.vt_kinds.specs.declared.kind.Kind.{Kind}
 use Rattle.vt_kinds.specs.declared.kind.Kind.TheVariants as kinds
 use Rattle.vt_kinds.specs.declared.kinds.Kinds.TheVariants as sets
 use Rattle.vt_kinds.specs.Ids.{null_id}
-use Rattle.vt_kinds.specs.Kinds.{kind_number, kind_at}
+use Rattle.vt_kinds.specs.Kinds.{kind_number, kind_of_type}
 use Rattle.vt_kinds.specs.References.{is_member}
 use Rattle.vt_commands.specs.declared.command.Command.{Command}
 use Rattle.vt_commands.specs.Events.{is_listable}
@@ -74,7 +74,7 @@ macro-only : (kind : Kind) → is_member sets.Macros kind ≡ true → kind ≡ 
 macro-only kind is =
     let number : kind_number kinds.Macro ≡ kind_number kind =
     eqb-true (kind_number kinds.Macro) (kind_number kind) (or-false (eqb (kind_number kinds.Macro) (kind_number kind)) is) in
-    same_Some kind kinds.Macro (sym (kind_at-kind_number kind) ∙ ap kind_at (sym number) ∙ kind_at-kind_number kinds.Macro)
+    same_Some kind kinds.Macro (sym (kind_at-kind_number kind) ∙ ap kind_of_type (sym number) ∙ kind_at-kind_number kinds.Macro)
 
 may-be : (n : ℕ) (f : Fixed) → may_stand sets.Macros n f.kind ≡ true → may_be_named n f ≡ true
 may-be n f may =

@@ -17,7 +17,7 @@ use Rattle.vt_kinds.specs.declared.slot.Slot.{Slot}
 use Rattle.vt_kinds.specs.declared.object.Object.TheVariants as objects
 use Rattle.vt_kinds.specs.Ids.{null_id}
 use Rattle.vt_kinds.specs.Records.{Seen}
-use Rattle.vt_kinds.specs.References.{listed, slot}
+use Rattle.vt_kinds.specs.References.{slots_listed, slot}
 use Rattle.vt_stores.specs.Stores.{ObjectMap, IsPlace}
 use Rattle.vt_chains.specs.Depths.{IsIdAt, IsBelow, ids_of, inclusions_of}
 use Rattle.vt_chains.specs.Inclusions.{is_inclusion, includes, included_by}
@@ -134,19 +134,19 @@ in_more slot slots name h = more_by (includes slot)
     more_by false = h
 
 pub listed_included : (kind : Kind) (place : ℕ → Place) (index : ℕ) (ids : List ℕ) (name : ℕ) → ((i : ℕ) → is_inclusion (place i) ≡ true) → eqb name null_id ≡ false
-    → Contains ids name → Contains (included_in (listed kind place index ids)) name
+    → Contains ids name → Contains (included_in (slots_listed kind place index ids)) name
 listed_included kind place index [] name inclusion there h = absurd (Contains-nil name h)
 listed_included kind place index (id ∷ ids) name inclusion there h =
     let first = slot kind (place index) id in
-    let rest = listed kind place (suc index) ids in
-    cons_case (Contains (included_in (listed kind place index (id ∷ ids))) name) id name ids h
+    let rest = slots_listed kind place (suc index) ids in
+    cons_case (Contains (included_in (slots_listed kind place index (id ∷ ids))) name) id name ids h
     (λ same.
     let is : includes first ≡ true = ap (λ b. b && not (eqb id null_id)) (inclusion index) ∙ ap not (ap (λ (n : ℕ). eqb n null_id) same ∙ there) in
     subst (Contains (included_in (first ∷ rest))) same (in_first first rest is))
     (λ later. in_more first rest name (listed_included kind place (suc index) ids name inclusion there later))
 
 children_included : (kind : Kind) (children : List Child) (name : ℕ) → eqb name null_id ≡ false → Contains (ids_in children) name
-    → Contains (included_in (listed kind places.Child 0 (ids_in children))) name
+    → Contains (included_in (slots_listed kind places.Child 0 (ids_in children))) name
 children_included kind children name there h = listed_included kind places.Child 0 (ids_in children) name (λ i. refl) there h
 
 one_of : (o : Option ℕ) (name : ℕ) → Contains (option_to_list o) name → o ≡ Some name

@@ -13,7 +13,7 @@ use Rattle.std.specs.Result.{result_ok}
 use Rattle.std.proofs.Common.{Result, Ok, Err}
 use Rattle.vt_kinds.specs.declared.object.Object.{Object}
 use Rattle.vt_kinds.specs.Records.{seen}
-use Rattle.vt_stores.specs.Stores.{shown}
+use Rattle.vt_stores.specs.Stores.{seen_entry}
 use Rattle.vt_stores.specs.Stores.{Objects, IsRising, IsPlace, object_at}
 use Rattle.vt_stores.proofs.SortedEntries.{less, equal, greater, Three, below, same, above, three, both_true}
 
@@ -66,15 +66,15 @@ greater_no : Greater ≡ Equal → ⊥
 greater_no e = absurd cc
 
 module _ {B : Type 0} where
-  pub above_at : (a : ℕ) (es : List (ℕ × Object B)) (i : ℕ) (d : ℕ × Object B) → IsTrue (below_all nat_cmp a (map shown es)) → i < length es → a < (slice_index_or es i d).0
+  pub above_at : (a : ℕ) (es : List (ℕ × Object B)) (i : ℕ) (d : ℕ × Object B) → IsTrue (below_all nat_cmp a (map seen_entry es)) → i < length es → a < (slice_index_or es i d).0
   above_at a [] i d all lt = absurd (omega arith)
-  above_at a (e ∷ es) zero d all lt = is_below a e.0 (three a e.0) (both_true (is_lt (nat_cmp a e.0)) (below_all nat_cmp a (map shown es)) all).0
-  above_at a (e ∷ es) (suc i) d all lt = above_at a es i d (both_true (is_lt (nat_cmp a e.0)) (below_all nat_cmp a (map shown es)) all).1 (omega arith)
+  above_at a (e ∷ es) zero d all lt = is_below a e.0 (three a e.0) (both_true (is_lt (nat_cmp a e.0)) (below_all nat_cmp a (map seen_entry es)) all).0
+  above_at a (e ∷ es) (suc i) d all lt = above_at a es i d (both_true (is_lt (nat_cmp a e.0)) (below_all nat_cmp a (map seen_entry es)) all).1 (omega arith)
 
-  below_parts : (e : ℕ × Object B) (es : List (ℕ × Object B)) → IsRising (map shown (e ∷ es)) → IsTrue (below_all nat_cmp e.0 (map shown es)) × IsRising (map shown es)
-  below_parts e es rising = both_true (below_all nat_cmp e.0 (map shown es)) (finite.is_sorted nat_cmp (map shown es)) rising
+  below_parts : (e : ℕ × Object B) (es : List (ℕ × Object B)) → IsRising (map seen_entry (e ∷ es)) → IsTrue (below_all nat_cmp e.0 (map seen_entry es)) × IsRising (map seen_entry es)
+  below_parts e es rising = both_true (below_all nat_cmp e.0 (map seen_entry es)) (finite.is_sorted nat_cmp (map seen_entry es)) rising
 
-  rising_at : (es : List (ℕ × Object B)) (i j : ℕ) (d : ℕ × Object B) → IsRising (map shown es) → i ≤ j → j < length es → (slice_index_or es i d).0 ≤ (slice_index_or es j d).0
+  rising_at : (es : List (ℕ × Object B)) (i j : ℕ) (d : ℕ × Object B) → IsRising (map seen_entry es) → i ≤ j → j < length es → (slice_index_or es i d).0 ≤ (slice_index_or es j d).0
   rising_at [] i j d rising le lt = absurd (omega arith)
   rising_at (e ∷ es) zero zero d rising le lt = omega arith
   rising_at (e ∷ es) zero (suc j) d rising le lt =
@@ -83,7 +83,7 @@ module _ {B : Type 0} where
   rising_at (e ∷ es) (suc i) zero d rising le lt = absurd (omega arith)
   rising_at (e ∷ es) (suc i) (suc j) d rising le lt = rising_at es i j d (below_parts e es rising).1 (omega arith) (omega arith)
 
-  pub in_order : (es : List (ℕ × Object B)) (id : ℕ) → IsRising (map shown es) → IsNonDecreasingBy (λ (e : ℕ × Object B). ordering_index (nat_cmp e.0 id)) es
+  pub in_order : (es : List (ℕ × Object B)) (id : ℕ) → IsRising (map seen_entry es) → IsNonDecreasingBy (λ (e : ℕ × Object B). ordering_index (nat_cmp e.0 id)) es
   in_order es id rising i j d le lt =
       let a = (slice_index_or es i d).0 in
       let b = (slice_index_or es j d).0 in
@@ -91,43 +91,43 @@ module _ {B : Type 0} where
 
   -- ---- the object at an index
 
-  pub get_at : (es : List (ℕ × Object B)) (i : ℕ) (d : ℕ × Object B) → i < length es → slice_get (map shown es) i ≡ Some (shown (slice_index_or es i d))
+  pub get_at : (es : List (ℕ × Object B)) (i : ℕ) (d : ℕ × Object B) → i < length es → slice_get (map seen_entry es) i ≡ Some (seen_entry (slice_index_or es i d))
   get_at [] i d lt = absurd (omega arith)
   get_at (e ∷ es) zero d lt = refl
   get_at (e ∷ es) (suc i) d lt = get_at es i d (omega arith)
 
-  pub found_at : (es : List (ℕ × Object B)) (i : ℕ) (d : ℕ × Object B) → IsRising (map shown es) → i < length es
-      → object_at (map shown es) (slice_index_or es i d).0 ≡ Some (seen (slice_index_or es i d).1)
+  pub found_at : (es : List (ℕ × Object B)) (i : ℕ) (d : ℕ × Object B) → IsRising (map seen_entry es) → i < length es
+      → object_at (map seen_entry es) (slice_index_or es i d).0 ≡ Some (seen (slice_index_or es i d).1)
   found_at [] i d rising lt = absurd (omega arith)
   found_at (e ∷ es) zero d rising lt =
-      ap (λ (o : Ordering). cond (is_eq o) (Some (seen e.1)) (object_at (map shown es) e.0)) (equal e.0)
+      ap (λ (o : Ordering). cond (is_eq o) (Some (seen e.1)) (object_at (map seen_entry es) e.0)) (equal e.0)
   found_at (e ∷ es) (suc i) d rising lt =
       let parts = below_parts e es rising in
       let k = (slice_index_or es i d).0 in
-      ap (λ (o : Ordering). cond (is_eq o) (Some (seen e.1)) (object_at (map shown es) k)) (greater k e.0 (above_at e.0 es i d parts.0 (omega arith)))
+      ap (λ (o : Ordering). cond (is_eq o) (Some (seen e.1)) (object_at (map seen_entry es) k)) (greater k e.0 (above_at e.0 es i d parts.0 (omega arith)))
       ∙ found_at es i d parts.1 (omega arith)
 
-  pub place_at : (es : List (ℕ × Object B)) (id i : ℕ) (d : ℕ × Object B) → IsRising (map shown es) → i < length es → nat_cmp (slice_index_or es i d).0 id ≡ Equal
-      → IsPlace (map shown es) id i
+  pub place_at : (es : List (ℕ × Object B)) (id i : ℕ) (d : ℕ × Object B) → IsRising (map seen_entry es) → i < length es → nat_cmp (slice_index_or es i d).0 id ≡ Equal
+      → IsPlace (map seen_entry es) id i
   place_at es id i d rising lt is =
       let e = slice_index_or es i d in
       let same_id : e.0 ≡ id = is_equal e.0 id (three e.0 id) is in
       record {
         object = seen e.1;
         there = get_at es i d lt ∙ ap (λ (k : ℕ). Some (k, seen e.1)) same_id;
-        found = subst (λ (k : ℕ). object_at (map shown es) k ≡ Some (seen e.1)) same_id (found_at es i d rising lt);
+        found = subst (λ (k : ℕ). object_at (map seen_entry es) k ≡ Some (seen e.1)) same_id (found_at es i d rising lt);
       }
 
   -- ---- a missing ID
 
-  missed : (es : List (ℕ × Object B)) (id : ℕ) → ((i : ℕ) (d : ℕ × Object B) → i < length es → (slice_index_or es i d).0 ≢ id) → object_at (map shown es) id ≡ None
+  missed : (es : List (ℕ × Object B)) (id : ℕ) → ((i : ℕ) (d : ℕ × Object B) → i < length es → (slice_index_or es i d).0 ≢ id) → object_at (map seen_entry es) id ≡ None
   missed [] id differs = refl
   missed (e ∷ es) id differs =
-      ap (λ (b : Bool). cond b (Some (seen e.1)) (object_at (map shown es) id)) (other_id e.0 id (differs 0 e (omega arith)) (three id e.0))
+      ap (λ (b : Bool). cond b (Some (seen e.1)) (object_at (map seen_entry es) id)) (other_id e.0 id (differs 0 e (omega arith)) (three id e.0))
       ∙ missed es id (λ i d lt. differs (suc i) d (omega arith))
 
   pub none_at : (es : List (ℕ × Object B)) (id i : ℕ) → IsPartitionPoint (λ (e : ℕ × Object B). nat_cmp e.0 id ≡ Less) (λ (e : ℕ × Object B). nat_cmp e.0 id ≡ Greater) es i
-      → object_at (map shown es) id ≡ None
+      → object_at (map seen_entry es) id ≡ None
   none_at es id i parts =
       missed es id
       (λ k d lt. elim (cases_lt k i) [
@@ -137,24 +137,24 @@ module _ {B : Type 0} where
 
   -- ---- the result of a binary search
 
-  placed_at : (es : List (ℕ × Object B)) (id i : ℕ) → IsRising (map shown es) → i < length es → HoldsAt (λ (e : ℕ × Object B). nat_cmp e.0 id ≡ Equal) es i
-      → IsPlace (map shown es) id i
+  placed_at : (es : List (ℕ × Object B)) (id i : ℕ) → IsRising (map seen_entry es) → i < length es → HoldsAt (λ (e : ℕ × Object B). nat_cmp e.0 id ≡ Equal) es i
+      → IsPlace (map seen_entry es) id i
   placed_at [] id i rising lt holds = absurd (omega arith)
   placed_at (e ∷ es) id i rising lt holds = place_at (e ∷ es) id i e rising lt (holds e)
 
-  pub search_found : (es : List (ℕ × Object B)) (id : ℕ) (r : Result ℕ ℕ) → IsRising (map shown es) → IsSearchInRange r (length es)
-      → IsBinarySearchResult (λ (e : ℕ × Object B). nat_cmp e.0 id) es r → IfSome (result_ok r) (λ place. IsPlace (map shown es) id place)
+  pub search_found : (es : List (ℕ × Object B)) (id : ℕ) (r : Result ℕ ℕ) → IsRising (map seen_entry es) → IsSearchInRange r (length es)
+      → IsBinarySearchResult (λ (e : ℕ × Object B). nat_cmp e.0 id) es r → IfSome (result_ok r) (λ place. IsPlace (map seen_entry es) id place)
   search_found es id (Ok i) rising lt found = placed_at es id i rising lt found
   search_found es id (Err i) rising lt found = tt
 
-  pub search_missed : (es : List (ℕ × Object B)) (id : ℕ) (r : Result ℕ ℕ) → IsRising (map shown es) → IsSearchInRange r (length es)
-      → IsBinarySearchResult (λ (e : ℕ × Object B). nat_cmp e.0 id) es r → IfNone (result_ok r) (object_at (map shown es) id ≡ None)
+  pub search_missed : (es : List (ℕ × Object B)) (id : ℕ) (r : Result ℕ ℕ) → IsRising (map seen_entry es) → IsSearchInRange r (length es)
+      → IsBinarySearchResult (λ (e : ℕ × Object B). nat_cmp e.0 id) es r → IfNone (result_ok r) (object_at (map seen_entry es) id ≡ None)
   search_missed es id (Ok i) rising lt found = tt
   search_missed es id (Err i) rising lt found = none_at es id i (found (in_order es id rising))
 
   -- search_found for equal entries, view, ID and result
   pub found_in : (es searched : List (ℕ × Object B)) (seen_as : Objects) (k id : ℕ) (r : Result ℕ ℕ) (out : Option ℕ)
-      → searched ≡ es → seen_as ≡ map shown es → k ≡ id → out ≡ result_ok r → IsRising (map shown es) → IsSearchInRange r (length searched)
+      → searched ≡ es → seen_as ≡ map seen_entry es → k ≡ id → out ≡ result_ok r → IsRising (map seen_entry es) → IsSearchInRange r (length searched)
       → IsBinarySearchResult (λ (e : ℕ × Object B). nat_cmp e.0 k) searched r → IfSome out (λ place. IsPlace seen_as id place)
   found_in es searched seen_as k id r out same_list view same_id answer rising lt found =
       subst (λ (o : Option ℕ). IfSome o (λ place. IsPlace seen_as id place)) (sym answer)
@@ -164,7 +164,7 @@ module _ {B : Type 0} where
       (subst (λ (l : List (ℕ × Object B)). IsBinarySearchResult (λ (e : ℕ × Object B). nat_cmp e.0 k) l r) same_list found))))
 
   pub missed_in : (es searched : List (ℕ × Object B)) (seen_as : Objects) (k id : ℕ) (r : Result ℕ ℕ) (out : Option ℕ)
-      → searched ≡ es → seen_as ≡ map shown es → k ≡ id → out ≡ result_ok r → IsRising (map shown es) → IsSearchInRange r (length searched)
+      → searched ≡ es → seen_as ≡ map seen_entry es → k ≡ id → out ≡ result_ok r → IsRising (map seen_entry es) → IsSearchInRange r (length searched)
       → IsBinarySearchResult (λ (e : ℕ × Object B). nat_cmp e.0 k) searched r → IfNone out (object_at seen_as id ≡ None)
   missed_in es searched seen_as k id r out same_list view same_id answer rising lt found =
       subst (λ (o : Option ℕ). IfNone o (object_at seen_as id ≡ None)) (sym answer)

@@ -16,7 +16,7 @@ use Rattle.std.specs.List.{AllByRecursion, IsDistinct}
 use Rattle.std.specs.List.Sorted.{ties, IsSortedByKey, IsStableByKey}
 use Rattle.vt_kinds.specs.declared.object.Object.{Object}
 use Rattle.vt_kinds.specs.Records.{Seen, seen}
-use Rattle.vt_stores.specs.Stores.{shown, ids}
+use Rattle.vt_stores.specs.Stores.{seen_entry, ids}
 use Rattle.vt_stores.specs.Stores.{Objects, IsRising, by_rising_id, object_at}
 
 -- ---- orders of numbers
@@ -108,12 +108,12 @@ module _ {B : Type 0} where
   found_case e rest later true is = refl
   found_case e rest later false is = is
 
-  found : (q : ℕ) (es : List (ℕ × Object B)) → object_at (map shown es) q ≡ first (of q es)
+  found : (q : ℕ) (es : List (ℕ × Object B)) → object_at (map seen_entry es) q ≡ first (of q es)
   unfolding of first
   found q [] = refl
   found q (e ∷ es) =
-      ap (λ (b : Bool). cond b (Some (seen e.1)) (object_at (map shown es) q)) (equals_by q e.0 (three q e.0))
-      ∙ found_case e (of q es) (object_at (map shown es) q) (eqb q e.0) (found q es)
+      ap (λ (b : Bool). cond b (Some (seen e.1)) (object_at (map seen_entry es) q)) (equals_by q e.0 (three q e.0))
+      ∙ found_case e (of q es) (object_at (map seen_entry es) q) (eqb q e.0) (found q es)
 
   -- ---- unique IDs
 
@@ -161,15 +161,15 @@ module _ {B : Type 0} where
       let le : a.0 ≤ e.0 = ge_from_not_lt e.0 a.0 (sorted 0 a (omega arith) (omega arith)) in
       absurd (omega arith)
 
-  rises : (es : List (ℕ × Object B)) → Sorted es → AtMostOnce es → IsRising (map shown es)
+  rises : (es : List (ℕ × Object B)) → Sorted es → AtMostOnce es → IsRising (map seen_entry es)
   rises [] sorted once = refl
   rises (e ∷ []) sorted once = refl
   rises (a ∷ e ∷ es) sorted once =
       let later = rises (e ∷ es) (sorted_later a (e ∷ es) sorted) (once_later a (e ∷ es) once) in
-      let parts = both_true (below_all nat_cmp e.0 (map shown es)) (finite.is_sorted nat_cmp (map shown es)) later in
+      let parts = both_true (below_all nat_cmp e.0 (map seen_entry es)) (finite.is_sorted nat_cmp (map seen_entry es)) later in
       let lt = above_next a e es (three a.0 e.0) sorted (nowhere_else a (e ∷ es) once) in
       let next : IsTrue (is_lt (nat_cmp a.0 e.0)) = subst (λ (o : Ordering). IsTrue (is_lt o)) (sym (less a.0 e.0 lt)) refl in
-      true_both _ _ (true_both _ _ next (below_all_is a.0 e.0 (map shown es) lt parts.0)) later
+      true_both _ _ (true_both _ _ next (below_all_is a.0 e.0 (map seen_entry es) lt parts.0)) later
 
   -- ---- distinct IDs are unique
 
@@ -208,21 +208,21 @@ module _ {B : Type 0} where
       omega arith
 
   pub sorted_rises : (es sorted : List (ℕ × Object B)) → length es ≡ length sorted → IsDistinct eqb (map (λ e. e.0) es) → Stable es sorted → Sorted sorted
-      → IsRising (map shown sorted)
+      → IsRising (map seen_entry sorted)
   sorted_rises es sorted len distinct stable is = rises sorted is (still_once es sorted len stable (distinct_once es distinct))
 
   pub sorted_is : (es sorted : List (ℕ × Object B)) → length es ≡ length sorted → IsDistinct eqb (map (λ e. e.0) es) → Stable es sorted → Sorted sorted
-      → map shown sorted ≡ by_rising_id (map shown es)
+      → map seen_entry sorted ≡ by_rising_id (map seen_entry es)
   unfolding by_rising_id
   sorted_is es sorted len distinct stable is =
       let rising = T_of _ (sorted_rises es sorted len distinct stable is) in
-      sym (finite.entries-from_sorted nat_cmp (map shown sorted) rising)
-      ∙ ap finite.entries (finite.same_map nat_cmp_total nat_cmp-IsAntisymmetric (finite.from_sorted (map shown sorted)) (finite.from_entries (map shown es))
-      (λ q. finite.get-from_sorted nat_cmp (map shown sorted) q rising
+      sym (finite.entries-from_sorted nat_cmp (map seen_entry sorted) rising)
+      ∙ ap finite.entries (finite.same_map nat_cmp_total nat_cmp-IsAntisymmetric (finite.from_sorted (map seen_entry sorted)) (finite.from_entries (map seen_entry es))
+      (λ q. finite.get-from_sorted nat_cmp (map seen_entry sorted) q rising
       ∙ found q sorted ∙ ap first (same_of q es sorted len stable) ∙ sym (found q es)
-      ∙ sym (finite.get-from_entries nat_cmp_total (map shown es) q)))
+      ∙ sym (finite.get-from_entries nat_cmp_total (map seen_entry es) q)))
 
-  pub ids_shown : (es : List (ℕ × Object B)) → ids (map shown es) ≡ map (λ e. e.0) es
+  pub ids_shown : (es : List (ℕ × Object B)) → ids (map seen_entry es) ≡ map (λ e. e.0) es
   ids_shown [] = refl
   ids_shown (e ∷ es) = ap (λ (l : List ℕ). e.0 ∷ l) (ids_shown es)
 

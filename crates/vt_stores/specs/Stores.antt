@@ -11,8 +11,8 @@ use Rattle.vt_kinds.specs.Records.{Seen, seen}
 abbrev pub Objects : Type 0
 Objects = List (ℕ × Seen)
 
-abbrev pub shown : {B : Type 0} → ℕ × Object B → ℕ × Seen
-shown e = (e.0, seen e.1)
+abbrev pub seen_entry : {B : Type 0} → ℕ × Object B → ℕ × Seen
+seen_entry e = (e.0, seen e.1)
 
 abbrev pub ids : Objects → List ℕ
 ids objects = map (λ e. e.0) objects
@@ -58,7 +58,7 @@ map_of objects = finite.from_sorted objects
 
 -- the map of a list of objects under their IDs; the first one counts for a repeated ID
 abbrev pub contents_of : {B : Type 0} → List (ℕ × Object B) → ObjectMap
-contents_of es = finite.from_entries (map shown es)
+contents_of es = finite.from_entries (map seen_entry es)
 
 abbrev pub replaced : Option Seen → ObjectMap → ℕ → Seen → ObjectMap
 replaced None m id o = m

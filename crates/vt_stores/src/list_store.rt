@@ -24,13 +24,13 @@ impl Drop for ListStore {
 
 impl Model for ListStore {
     ghost use Rattle.std.specs.Prelude.{map};
-    ghost use Rattle.vt_stores.specs.Stores.{Objects, AreStored, shown};
+    ghost use Rattle.vt_stores.specs.Stores.{Objects, AreStored, seen_entry};
 
     ghost Value = { Objects };
 
-    ghost view = { λ store. map shown store.entries.items };
+    ghost view = { λ store. map seen_entry store.entries.items };
 
-    ghost invariant = { λ store. AreStored (map shown store.entries.items) };
+    ghost invariant = { λ store. AreStored (map seen_entry store.entries.items) };
 }
 
 impl Store for ListStore {

@@ -7,7 +7,7 @@ ghost use Rattle.std.specs.Borrow.{sem, LendsSo};
 ghost use Rattle.vt_kinds.specs.Ids.{null_id};
 ghost use Rattle.vt_kinds.specs.Records.{seen};
 ghost use Rattle.vt_stores.specs.LentObjects.{object_row};
-ghost use Rattle.vt_stores.specs.Stores.{AreNamed, AreStored, IsPlace, shown, by_rising_id, object_at, map_of};
+ghost use Rattle.vt_stores.specs.Stores.{AreNamed, AreStored, IsPlace, seen_entry, by_rising_id, object_at, map_of};
 
 use crate::sorting::{copies, sort};
 use crate::store::Store;
@@ -35,20 +35,20 @@ impl Drop for SortedStore {
 
 impl Model for SortedStore {
     ghost use Rattle.std.specs.Prelude.{map};
-    ghost use Rattle.vt_stores.specs.Stores.{Objects, AreStored, shown};
+    ghost use Rattle.vt_stores.specs.Stores.{Objects, AreStored, seen_entry};
 
     ghost Value = { Objects };
 
-    ghost view = { λ store. map shown store.entries.items };
+    ghost view = { λ store. map seen_entry store.entries.items };
 
-    ghost invariant = { λ store. AreStored (map shown store.entries.items) };
+    ghost invariant = { λ store. AreStored (map seen_entry store.entries.items) };
 }
 
 impl SortedStore {
     /// Makes a store of these objects, in any order, without a copy. IDs must be unique, and none may be NULL.
     pub fn from_vec(entries: Vec<(ObjectId, Object<Vec<u8>>)>) -> Result<SortedStore, AllocError>
-        requires { AreNamed (map shown entries.items) }
-        ensures made { IfOk result (λ store. store ≡ by_rising_id (map shown entries.items)) }
+        requires { AreNamed (map seen_entry entries.items) }
+        ensures made { IfOk result (λ store. store ≡ by_rising_id (map seen_entry entries.items)) }
         ensures stored { IfOk result AreStored }
     {
         let mut entries = entries;
@@ -59,7 +59,7 @@ impl SortedStore {
 
     /// The objects with their IDs, by rising ID.
     pub fn entries(&self) -> &[(ObjectId, Object<Vec<u8>>)]
-        ensures all { map shown result.now ≡ self.now }
+        ensures all { map seen_entry result.now ≡ self.now }
         ensures stored { AreStored self.now }
     {
         &self.entries
@@ -139,9 +139,9 @@ fn places_of(
 
 /// The index of an ID among entries by rising ID, or `None`.
 fn place_of(entries: &[(ObjectId, Object<Vec<u8>>)], places: &[u16], id: ObjectId) -> Option<usize>
-    requires { AreStored (map shown entries.now) }
-    ensures some { IfSome result (IsPlace (map shown entries.now) id) }
-    ensures none { IfNone result (object_at (map shown entries.now) id ≡ None) }
+    requires { AreStored (map seen_entry entries.now) }
+    ensures some { IfSome result (IsPlace (map seen_entry entries.now) id) }
+    ensures none { IfNone result (object_at (map seen_entry entries.now) id ≡ None) }
 {
     match kept_place(entries, places, id) {
         Some(place) => Some(place),
@@ -157,8 +157,8 @@ fn kept_place(
     places: &[u16],
     id: ObjectId,
 ) -> Option<usize>
-    requires { AreStored (map shown entries.now) }
-    ensures { IfSome result (IsPlace (map shown entries.now) id) }
+    requires { AreStored (map seen_entry entries.now) }
+    ensures { IfSome result (IsPlace (map seen_entry entries.now) id) }
 {
     let (first, _) = entries.first()?;
     let above = id.raw().checked_sub(first.raw())?;
@@ -168,8 +168,8 @@ fn kept_place(
 
 /// The index, if the ID is there.
 fn stands_at(entries: &[(ObjectId, Object<Vec<u8>>)], id: ObjectId, place: usize) -> Option<usize>
-    requires { AreStored (map shown entries.now) }
-    ensures { IfSome result (IsPlace (map shown entries.now) id) }
+    requires { AreStored (map seen_entry entries.now) }
+    ensures { IfSome result (IsPlace (map seen_entry entries.now) id) }
 {
     if entries.get(place)?.0 == id {
         return Some(place);

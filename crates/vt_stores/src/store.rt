@@ -7,7 +7,7 @@ ghost use Rattle.std.specs.FinMap as finite;
 ghost use Rattle.std.specs.Borrow.{sem, LendsSo};
 ghost use Rattle.vt_kinds.specs.Ids.{null_id};
 ghost use Rattle.vt_kinds.specs.Records.{seen};
-ghost use Rattle.vt_stores.specs.Stores.{ObjectMap, AreNamed, IsPlace, ids, shown, contents_of, with_object};
+ghost use Rattle.vt_stores.specs.Stores.{ObjectMap, AreNamed, IsPlace, ids, seen_entry, contents_of, with_object};
 ghost use Rattle.vt_stores.specs.LentObjects.{object_row};
 
 use std::alloc::{AllocError, Global};
@@ -24,7 +24,7 @@ pub trait Store: Drop {
     ) -> Result<Self, AllocError>
     where
         Self: Sized,
-        requires { AreNamed (map shown objects.now) }
+        requires { AreNamed (map seen_entry objects.now) }
         ensures { IfOk result (λ store. contents store ≡ contents_of objects.now) };
 
     /// Returns the object of an ID, or `None`; always `None` for NULL.

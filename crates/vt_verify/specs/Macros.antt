@@ -19,8 +19,8 @@ abbrev pub may_be_named : ℕ → Fixed → Bool
 may_be_named id f = is_macro f.kind && nat_le id 255
 
 -- the bytes of a macro with an ID of at most 255
-abbrev pub bytes_in : ℕ → Fixed → Option (List ℕ)
-bytes_in id f = if may_be_named id f then Some f.bytes else None
+abbrev pub macro_bytes_in : ℕ → Fixed → Option (List ℕ)
+macro_bytes_in id f = if may_be_named id f then Some f.bytes else None
 
 -- ---- the commands of a macro
 
@@ -38,9 +38,9 @@ pub record Piece : Type 0 where
   pub at : ℕ
   pub bytes : List ℕ
 
-abbrev pub placed : ℕ → ℕ → List (List ℕ) → List Piece
-placed id at [] = []
-placed id at (bytes ∷ pieces) = record { id = id; at = at; bytes = bytes } ∷ placed id (at + length bytes) pieces
+abbrev pub with_offsets : ℕ → ℕ → List (List ℕ) → List Piece
+with_offsets id at [] = []
+with_offsets id at (bytes ∷ pieces) = record { id = id; at = at; bytes = bytes } ∷ with_offsets id (at + length bytes) pieces
 
 -- the bytes cut into macro commands; none if they cannot be cut
 unfoldable pub cut_or_none : List ℕ → List (List ℕ)
@@ -52,7 +52,7 @@ commands_of bytes = flat_map (λ piece. option_to_list (macro_command piece)) (c
 -- ---- all macros with IDs up to 255, by rising ID
 
 abbrev pub named_macro : ℕ × Fixed → List (ℕ × List ℕ)
-named_macro e = map (λ bytes. (e.0, bytes)) (option_to_list (bytes_in e.0 e.1))
+named_macro e = map (λ bytes. (e.0, bytes)) (option_to_list (macro_bytes_in e.0 e.1))
 
 abbrev pub macros : Shape → List (ℕ × List ℕ)
 macros shape = flat_map named_macro shape
@@ -62,7 +62,7 @@ abbrev pub is_whole : ℕ × List ℕ → Bool
 is_whole m = is_some (cut m.1)
 
 abbrev pub pieces_of : ℕ × List ℕ → List Piece
-pieces_of m = placed m.0 0 (cut_or_none m.1)
+pieces_of m = with_offsets m.0 0 (cut_or_none m.1)
 
 abbrev pub pieces : Shape → List Piece
 pieces shape = flat_map pieces_of (macros shape)
@@ -73,7 +73,7 @@ is_allowed piece = is_some (macro_command piece.bytes)
 -- ---- the commands of the macro under an ID
 
 abbrev pub commands_in : ℕ → Fixed → List Command
-commands_in id f = flat_map commands_of (option_to_list (bytes_in id f))
+commands_in id f = flat_map commands_of (option_to_list (macro_bytes_in id f))
 
 unfoldable pub commands : Shape → ℕ → List Command
 commands shape id = flat_map (commands_in id) (option_to_list (fixed_at shape id))

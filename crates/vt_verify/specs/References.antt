@@ -64,5 +64,5 @@ abbrev pub with_value : Objects → Reference → List Reference
 with_value objects r = r ∷ pointed r (object_at objects r.id)
 
 -- the references of an object's slots, each followed by the value of a referenced pointer
-abbrev pub values_of : Objects → ℕ × Seen → List Reference
-values_of objects e = flat_map (with_value objects) (slot_references e)
+abbrev pub slot_values : Objects → ℕ × Seen → List Reference
+slot_values objects e = flat_map (with_value objects) (slot_references e)

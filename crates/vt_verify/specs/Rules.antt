@@ -12,7 +12,7 @@ use Rattle.vt_verify.specs.declared.refusal.Refusal.TheVariants as refusals
 use Rattle.vt_verify.specs.Lists.{first_failing}
 use Rattle.vt_stores.specs.Shapes.{Shape, shape_of}
 use Rattle.vt_stores.specs.Stores.{Objects, AreStored}
-use Rattle.vt_verify.specs.References.{references, is_there, fits, values_of}
+use Rattle.vt_verify.specs.References.{references, is_there, fits, slot_values}
 use Rattle.vt_chains.specs.Limits.{terminal}
 use Rattle.vt_chains.specs.Inclusions.{included, IsShallow, IsTooDeep}
 use Rattle.vt_verify.specs.Macros.{Piece, macros, is_whole, pieces, is_allowed}
@@ -34,7 +34,7 @@ abbrev pub missing : Objects → Option Reference
 missing objects = first_failing (is_there (shape_of objects)) (references objects)
 
 abbrev pub wrong_kind : Objects → Option Reference
-wrong_kind objects = first_failing (fits (shape_of objects)) (flat_map (values_of objects) objects)
+wrong_kind objects = first_failing (fits (shape_of objects)) (flat_map (slot_values objects) objects)
 
 abbrev pub cut_short : Shape → Option (ℕ × List ℕ)
 cut_short shape = first_failing is_whole (macros shape)

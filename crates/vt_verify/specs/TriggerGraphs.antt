@@ -78,9 +78,9 @@ abbrev pub Groups : Type 0
 Groups = List Listing × List (List ℕ)
 
 -- the macros of an event; none for an event that is not in the list
-abbrev pub macros_of : Groups → Listing → List ℕ
-macros_of groups raised = flat_map (λ group. slice_index_or groups.1 group []) (option_to_list (group_of_event groups.0 raised))
+abbrev pub macros_of_event : Groups → Listing → List ℕ
+macros_of_event groups raised = flat_map (λ group. slice_index_or groups.1 group []) (option_to_list (group_of_event groups.0 raised))
 
 -- the macros at each event are those that the objects list
 abbrev pub AreListings : Shape → Groups → Type 0
-AreListings shape groups = (raised : Listing) → macros_of groups raised ≡ listed shape raised
+AreListings shape groups = (raised : Listing) → macros_of_event groups raised ≡ listed shape raised

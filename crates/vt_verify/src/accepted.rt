@@ -4,7 +4,7 @@ ghost use Rattle.std.specs.Prelude.{◌≡◌, ◌++◌, map, Some, is_some, str
 ghost use Rattle.std.specs.List.{flat_map};
 ghost use Rattle.vt_commands.specs.Commands.{command_at};
 ghost use Rattle.vt_commands.specs.Pieces.{cut};
-ghost use Rattle.vt_stores.specs.Stores.{shown, AreStored};
+ghost use Rattle.vt_stores.specs.Stores.{seen_entry, AreStored};
 ghost use Rattle.vt_stores.specs.Shapes.{shape_of};
 ghost use Rattle.vt_verify.specs.Macros.{cut_or_none, commands};
 ghost use Rattle.vt_chains.specs.Depths.{HasDepths};
@@ -66,7 +66,7 @@ impl Model for Accepted {
 impl Accepted {
     /// The objects by rising ID.
     pub fn objects(&self) -> &[(ObjectId, Object<Vec<u8>>)]
-        ensures all { map shown result.now ≡ self.now }
+        ensures all { map seen_entry result.now ≡ self.now }
         // The IDs rise, and no ID is NULL.
         ensures stored { AreStored self.now }
         ensures acceptable { IsAcceptable terminal self.now }

@@ -4,13 +4,13 @@ ghost use Rattle.std.specs.Prelude.{◌≡◌};
 ghost use Rattle.std.specs.Option.{option_map};
 ghost use Rattle.vt_kinds.specs.Records.{seen};
 ghost use Rattle.vt_stores.specs.Shapes.{fixed};
-ghost use Rattle.vt_verify.specs.Macros.{bytes_in, macro_command};
+ghost use Rattle.vt_verify.specs.Macros.{macro_bytes_in, macro_command};
 
 use vt_objects::{Command, Object, ObjectId};
 
 /// The bytes of the object, if it is a macro with an ID of at most 255.
 pub(crate) fn named_macro(id: ObjectId, object: &Object<Vec<u8>>) -> Option<&[u8]>
-    ensures { option_map (λ bytes. bytes.now) result ≡ bytes_in id (fixed (seen object.now)) }
+    ensures { option_map (λ bytes. bytes.now) result ≡ macro_bytes_in id (fixed (seen object.now)) }
 {
     match object {
         Object::Macro(o) if id.raw() <= 255 => Some(o.bytes.as_slice()),

@@ -5,7 +5,7 @@ ghost use Rattle.vt_kinds.specs.Records.{seen};
 ghost use Rattle.vt_rank.specs.Graphs.{lists};
 ghost use Rattle.vt_stores.specs.Shapes.{shape_of, fixed};
 ghost use Rattle.vt_verify.specs.Triggers.{listing, listing_of, listed, listed_in, run_by_name, macros_at};
-ghost use Rattle.vt_verify.specs.TriggerGraphs.{events_in, groups_in, has, if_any, non_empty, listed_events, macros_of, AreListings};
+ghost use Rattle.vt_verify.specs.TriggerGraphs.{events_in, groups_in, has, if_any, non_empty, listed_events, macros_of_event, AreListings};
 
 use crate::commands::named_macro;
 use crate::order::put_macro;
@@ -84,7 +84,7 @@ impl Listings {
     /// The macros that run at an event of an object, in the order of its list. Empty if the object is missing or `event`
     /// is not an event's number. Event 0 of a macro runs the macro itself.
     pub fn at(&self, id: ObjectId, event: u8) -> &[u8]
-        ensures { result.now ≡ macros_of self.now (listing id event) }
+        ensures { result.now ≡ macros_of_event self.now (listing id event) }
     {
         match self.events.get_index_of(&Listing { id, event }) {
             Some(place) => match self.groups.get(place) {

@@ -7,7 +7,7 @@ ghost use Rattle.vt_verify.specs.Lists.{first_failing};
 ghost use Rattle.std.specs.List.{flat_map};
 ghost use Rattle.vt_kinds.specs.Records.{seen};
 ghost use Rattle.vt_stores.specs.Shapes.{shape_of, fixed};
-ghost use Rattle.vt_verify.specs.Macros.{bytes_in, named_macro, is_whole, pieces, pieces_of};
+ghost use Rattle.vt_verify.specs.Macros.{macro_bytes_in, named_macro, is_whole, pieces, pieces_of};
 ghost use Rattle.vt_verify.specs.Targets.{piece_passes};
 ghost use Rattle.vt_verify.specs.Rules as rules;
 
@@ -77,7 +77,7 @@ fn failing_of(
     object: &Object<Vec<u8>>,
     test: PieceTest,
 ) -> Option<(ObjectId, usize)>
-    requires { IfSome (bytes_in id (fixed (seen object.now))) (λ bytes. IsTrue (is_some (cut bytes))) }
+    requires { IfSome (macro_bytes_in id (fixed (seen object.now))) (λ bytes. IsTrue (is_some (cut bytes))) }
     ensures { result ≡ option_map (λ p. (p.id, p.at)) (first_failing (piece_passes test (shape_of objects.now)) (flat_map pieces_of (named_macro (id, fixed (seen object.now))))) }
 {
     match named_macro(id, object) {

@@ -3,7 +3,7 @@
 ghost use Rattle.std.specs.Prelude.{◌≡◌, IfOk, OnOk, map};
 ghost use Rattle.std.specs.FinMap as finite;
 ghost use Rattle.vt_kinds.specs.Records.{seen};
-ghost use Rattle.vt_stores.specs.Stores.{shown, by_rising_id, AreStored};
+ghost use Rattle.vt_stores.specs.Stores.{seen_entry, by_rising_id, AreStored};
 ghost use Rattle.vt_pool.specs.Pools.{AreObjects, contents};
 ghost use Rattle.vt_stores.specs.Shapes.{kind_at, shape_of};
 ghost use Rattle.vt_verify.specs.Updates.{updated, unless};
@@ -48,7 +48,7 @@ fn put_unless_updated(
     id: ObjectId,
     object: &Object<Vec<u8>>,
 ) -> Result<(), AllocError>
-    ensures { OnOk result (map shown entries.new.items ≡ unless (finite.get (contents update.now) id) (map shown entries.old.items) id (seen object.now)) }
+    ensures { OnOk result (map seen_entry entries.new.items ≡ unless (finite.get (contents update.now) id) (map seen_entry entries.old.items) id (seen object.now)) }
 {
     if update.get(id).is_none() {
         entries.push((id, object.copied(alloc)?))?;
@@ -58,7 +58,7 @@ fn put_unless_updated(
 
 /// Copies of the objects of a pool, in the order of the pool.
 fn copies(alloc: Global, pool: &Pool<'_>) -> Result<Vec<(ObjectId, Object<Vec<u8>>)>, AllocError>
-    ensures entries { IfOk result (λ entries. map shown entries.items ≡ pool.now) }
+    ensures entries { IfOk result (λ entries. map seen_entry entries.items ≡ pool.now) }
     ensures each { AreObjects pool.now }
 {
     let objects = pool.objects();

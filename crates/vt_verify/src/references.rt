@@ -7,7 +7,7 @@ ghost use Rattle.vt_kinds.specs.Records.{seen};
 ghost use Rattle.vt_verify.specs.Lists.{first_failing};
 ghost use Rattle.vt_stores.specs.Shapes.{shape_of};
 ghost use Rattle.vt_stores.specs.Stores.{AreStored, object_at};
-ghost use Rattle.vt_verify.specs.References.{is_there, fits, slot_references, pointed, with_value, values_of};
+ghost use Rattle.vt_verify.specs.References.{is_there, fits, slot_references, pointed, with_value, slot_values};
 ghost use Rattle.vt_verify.specs.Rules as rules;
 
 use crate::reference::{Reference, Test, may_stand};
@@ -30,7 +30,7 @@ pub(crate) fn all_stand(objects: &SortedStore) -> bool
 fn all_stand_in(objects: &SortedStore, parent: ObjectId, object: &Object<Vec<u8>>) -> bool
     requires { AreStored objects.now }
     ensures there { IsTrue result → first_failing (is_there (shape_of objects.now)) (slot_references (parent, seen object.now)) ≡ None }
-    ensures fit { IsTrue result → first_failing (fits (shape_of objects.now)) (values_of objects.now (parent, seen object.now)) ≡ None }
+    ensures fit { IsTrue result → first_failing (fits (shape_of objects.now)) (slot_values objects.now (parent, seen object.now)) ≡ None }
 {
     for slot in slots(object) {
         if !stands(objects, Reference::of_slot(parent, &slot)) {
@@ -118,7 +118,7 @@ fn wrong_kind_in(
     parent: ObjectId,
     object: &Object<Vec<u8>>,
 ) -> Option<Reference>
-    ensures { result ≡ first_failing (fits (shape_of objects.now)) (values_of objects.now (parent, seen object.now)) }
+    ensures { result ≡ first_failing (fits (shape_of objects.now)) (slot_values objects.now (parent, seen object.now)) }
 {
     for slot in slots(object) {
         if let Some(reference) = wrong_or_points_wrong(objects, Reference::of_slot(parent, &slot)) {

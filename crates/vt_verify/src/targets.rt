@@ -9,7 +9,7 @@ ghost use Rattle.vt_commands.specs.Targets.{object_of};
 ghost use Rattle.vt_verify.specs.Lists.{first_failing};
 ghost use Rattle.vt_stores.specs.Shapes.{shape_of, kind_at, fixed};
 ghost use Rattle.vt_verify.specs.References.{passes};
-ghost use Rattle.vt_verify.specs.Macros.{bytes_in, macro_command, commands_of};
+ghost use Rattle.vt_verify.specs.Macros.{macro_bytes_in, macro_command, commands_of};
 ghost use Rattle.vt_verify.specs.Targets.{of_target, kind_for, target_references, command_has_attribute, entry_references, own_references, macro_references};
 ghost use Rattle.vt_verify.specs.Rules as rules;
 
@@ -41,7 +41,7 @@ fn failing_of(
     object: &Object<Vec<u8>>,
     test: Test,
 ) -> Option<Reference>
-    requires { IfSome (bytes_in id (fixed (seen object.now))) (λ bytes. IsTrue (is_some (cut bytes))) }
+    requires { IfSome (macro_bytes_in id (fixed (seen object.now))) (λ bytes. IsTrue (is_some (cut bytes))) }
     ensures { result ≡ first_failing (passes test (shape_of objects.now)) (own_references (shape_of objects.now) (id, fixed (seen object.now))) }
 {
     match failing_entry(objects, id, object.macros(), test) {

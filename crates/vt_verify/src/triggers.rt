@@ -7,7 +7,7 @@ ghost use Rattle.vt_commands.specs.Events.{event_number};
 ghost use Rattle.vt_commands.specs.Pieces.{cut};
 ghost use Rattle.vt_rank.specs.Graphs.{lists};
 ghost use Rattle.vt_stores.specs.Shapes.{shape_of, fixed_at};
-ghost use Rattle.vt_verify.specs.Macros.{bytes_in, macro_command, commands_of, commands};
+ghost use Rattle.vt_verify.specs.Macros.{macro_bytes_in, macro_command, commands_of, commands};
 ghost use Rattle.vt_verify.specs.Triggers.{listing, is_mask, masks, changes_mask};
 ghost use Rattle.vt_verify.specs.TriggerGraphs.{AreTriggers, command_items, group_of_event, groups_of};
 ghost use Rattle.vt_verify.specs.Rules as rules;
@@ -97,7 +97,7 @@ fn items_of(
 
 /// The bytes of macro `id`, if its ID is at most 255 and it exists.
 pub(crate) fn macro_bytes(objects: &SortedStore, id: ObjectId) -> Option<&[u8]>
-    ensures { option_to_list (option_map (λ bytes. bytes.now) result) ≡ flat_map (λ f. option_to_list (bytes_in id f)) (option_to_list (fixed_at (shape_of objects.now) id)) }
+    ensures { option_to_list (option_map (λ bytes. bytes.now) result) ≡ flat_map (λ f. option_to_list (macro_bytes_in id f)) (option_to_list (fixed_at (shape_of objects.now) id)) }
 {
     match objects.get(id) {
         Some(object) => named_macro(id, object),

@@ -111,8 +111,8 @@ fn leaves(child: ObjectId, dx: u8, dy: u8, children: &Entries<Child>) -> bool
 
 /// Returns an entry, moved if it is of the child.
 fn shifted_child(entry: Child, child: ObjectId, dx: u8, dy: u8) -> Child
-    requires { (entry.id == child && not (fits_record (changes.shifted dx dy entry))) ≡ false }
-    ensures { result ≡ child_at child (changes.shifted dx dy) entry }
+    requires { (entry.id == child && not (fits_record (changes.moved_child dx dy entry))) ≡ false }
+    ensures { result ≡ child_at child (changes.moved_child dx dy) entry }
 {
     if entry.id != child {
         return entry;
@@ -132,8 +132,8 @@ fn placed_child(old: Child, entry: &Child) -> Child
 
 /// Returns a moved entry, or `None` if its position would be outside the range of a record.
 fn shifted(entry: Child, dx: u8, dy: u8) -> Option<Child>
-    ensures some { IfSome result (λ child. (child ≡ changes.shifted dx dy entry) × IsTrue (fits_record child)) }
-    ensures none { IfNone result (IsFalse (fits_record (changes.shifted dx dy entry))) }
+    ensures some { IfSome result (λ child. (child ≡ changes.moved_child dx dy entry) × IsTrue (fits_record child)) }
+    ensures none { IfNone result (IsFalse (fits_record (changes.moved_child dx dy entry))) }
 {
     match (moved(entry.x, dx), moved(entry.y, dy)) {
         (Some(x), Some(y)) => Some(Child { id: entry.id, x, y }),

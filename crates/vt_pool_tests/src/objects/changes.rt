@@ -1,7 +1,7 @@
 //! Tests of changes of objects in place.
 
 ghost use Rattle.std.specs.Prelude.{IfOk, map};
-ghost use Rattle.vt_stores.specs.Stores.{AreNamed, shown};
+ghost use Rattle.vt_stores.specs.Stores.{AreNamed, seen_entry};
 
 use super::{child, object_id, two_children};
 use std::alloc::Global;
@@ -81,7 +81,7 @@ fn container(alloc: Global) -> Result<Object<Vec<u8>>, OutOfMemory> {
 
 /// Two equal containers with the IDs 7 and 8.
 fn two_containers(alloc: Global) -> Result<Vec<(ObjectId, Object<Vec<u8>>)>, OutOfMemory>
-    ensures { IfOk result (λ objects. AreNamed (map shown objects.items)) }
+    ensures { IfOk result (λ objects. AreNamed (map seen_entry objects.items)) }
 {
     let first = (object_id(7), container(alloc)?);
     let second = (object_id(8), container(alloc)?);

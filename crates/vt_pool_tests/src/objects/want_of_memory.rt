@@ -1,7 +1,7 @@
 //! Tests of copies and stores with failing allocations: the source is unchanged, and the call may be repeated.
 
 ghost use Rattle.std.specs.Prelude.{◌≡◌, IfOk, map};
-ghost use Rattle.vt_stores.specs.Stores.{AreNamed, shown};
+ghost use Rattle.vt_stores.specs.Stores.{AreNamed, seen_entry};
 
 use super::{MACROS, child, object_id, two_children};
 use std::alloc::Global;
@@ -47,7 +47,7 @@ fn text(alloc: Global) -> Result<Object<Vec<u8>>, OutOfMemory> {
 
 /// A String Variable and a Working Set with the IDs 7 and 0.
 fn two_objects(alloc: Global) -> Result<Vec<(ObjectId, Object<Vec<u8>>)>, OutOfMemory>
-    ensures { IfOk result (λ objects. AreNamed (map shown objects.items)) }
+    ensures { IfOk result (λ objects. AreNamed (map seen_entry objects.items)) }
 {
     let first = (object_id(7), text(alloc)?);
     let second = (object_id(0), working_set(alloc)?);
@@ -87,7 +87,7 @@ fn are_stored<S: Store>(
     alloc: Global,
     objects: &[(ObjectId, Object<Vec<u8>>)],
 ) -> Result<bool, OutOfMemory>
-    requires { AreNamed (map shown objects.now) }
+    requires { AreNamed (map seen_entry objects.now) }
 {
     let store = again!(S::from_objects(alloc, objects))?;
     match (store.entry_at(0), store.entry_at(1)) {

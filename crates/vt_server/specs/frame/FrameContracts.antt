@@ -38,26 +38,26 @@ use Rattle.vt_server.specs.declared.message.upload.PreparedMessage.TheVariants a
 
 -- ---- uploads
 
-abbrev pub begins_with : ℕ → List ℕ → Type 0
-begins_with function [] = ⊥
-begins_with function (byte ∷ bytes) = byte ≡ function
+abbrev pub BeginsWithByte : ℕ → List ℕ → Type 0
+BeginsWithByte function [] = ⊥
+BeginsWithByte function (byte ∷ bytes) = byte ≡ function
 
 abbrev pub is_other : List ℕ → Type 0
-is_other bytes = (begins_with TRANSFER bytes → ⊥) × (begins_with END_OF_POOL bytes → ⊥)
+is_other bytes = (BeginsWithByte TRANSFER bytes → ⊥) × (BeginsWithByte END_OF_POOL bytes → ⊥)
 
 -- The work done in advance is right for a message of these bytes, by the content of its address and the capacity of its upload.
 abbrev pub FitsMessage : SetPool → ℕ → List ℕ → PreparedMessage → Type 0
 FitsMessage content room bytes uploads.Nothing = is_other bytes
-FitsMessage content room bytes uploads.Room = begins_with TRANSFER bytes × (length bytes ≤ 1 + room)
-FitsMessage content room bytes (uploads.Piece piece) = begins_with TRANSFER bytes × (piece.items ≡ bytes) × (length bytes ≤ 1 + room)
-FitsMessage content room bytes (uploads.End judgement) = begins_with END_OF_POOL bytes × IsJudgement content judgement
+FitsMessage content room bytes uploads.Room = BeginsWithByte TRANSFER bytes × (length bytes ≤ 1 + room)
+FitsMessage content room bytes (uploads.Piece piece) = BeginsWithByte TRANSFER bytes × (piece.items ≡ bytes) × (length bytes ≤ 1 + room)
+FitsMessage content room bytes (uploads.End judgement) = BeginsWithByte END_OF_POOL bytes × IsJudgement content judgement
 
 -- The work done in advance is right for a message that is there already: a piece comes with its capacity.
 abbrev pub FitsOneFrame : SetPool → ℕ → List ℕ → PreparedMessage → Type 0
 FitsOneFrame content room bytes uploads.Room = ⊥
 FitsOneFrame content room bytes uploads.Nothing = is_other bytes
-FitsOneFrame content room bytes (uploads.Piece piece) = begins_with TRANSFER bytes × (piece.items ≡ bytes) × (length bytes ≤ 1 + room)
-FitsOneFrame content room bytes (uploads.End judgement) = begins_with END_OF_POOL bytes × IsJudgement content judgement
+FitsOneFrame content room bytes (uploads.Piece piece) = BeginsWithByte TRANSFER bytes × (piece.items ≡ bytes) × (length bytes ≤ 1 + room)
+FitsOneFrame content room bytes (uploads.End judgement) = BeginsWithByte END_OF_POOL bytes × IsJudgement content judgement
 
 -- The work done in advance is the judgement of the upload.
 abbrev pub IsEnd : SetPool → PreparedMessage → Type 0

@@ -12,8 +12,8 @@ use Rattle.vt_server.specs.Terminals.{State, Sent, after_acts, sent_by_acts}
 abbrev pub at_time : State → ℕ → State
 at_time s time = record s { now = max s.now time; places = λ address. watched (max s.now time) (s.places address) }
 
-abbrev pub silent : State → Set → Bool
-silent s set = is_silent s.now (s.places set.address).heard
+abbrev pub set_is_silent : State → Set → Bool
+set_is_silent s set = is_silent s.now (s.places set.address).heard
 
 abbrev pub tp_due : State → List (ℕ × Act)
 tp_due s = each_below (λ a. is_overdue s.now (s.places a).tp) TpExpires 256
@@ -26,7 +26,7 @@ sending_due s = each_below (λ a. is_overdue s.now (s.places a).sending) Sending
 
 -- the closings of silent sets in order of registration
 abbrev pub silences : State → List (ℕ × Act)
-silences s = map (λ set. (set.address, FallsSilent)) (filter (silent s) s.sets)
+silences s = map (λ set. (set.address, FallsSilent)) (filter (set_is_silent s) s.sets)
 
 -- the states after each group of timeouts in turn
 abbrev pub after_tp_timeouts : State → State
@@ -50,4 +50,4 @@ sent_by_lapses s =
 -- the address of the first silent set in a list
 abbrev pub first_silent : State → List Set → Option ℕ
 first_silent s [] = None
-first_silent s (set ∷ sets) = if silent s set then Some set.address else first_silent s sets
+first_silent s (set ∷ sets) = if set_is_silent s set then Some set.address else first_silent s sets

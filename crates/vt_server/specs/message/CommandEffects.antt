@@ -14,8 +14,8 @@ use Rattle.vt_server.specs.state.AddressStates.{SetPool, no_content}
 use Rattle.vt_macros.specs.Machines.{End, Ended, Sticks, run_of, events_of}
 
 -- a pool without a held key and without a selected input
-abbrev pub fresh : ObjectMap → SetState
-fresh objects = record { objects = objects; key = None; input = None }
+abbrev pub fresh_set : ObjectMap → SetState
+fresh_set objects = record { objects = objects; key = None; input = None }
 
 -- the objects after a run; runs on the objects of an accepted pool never stick
 abbrev pub store_of : End → ObjectMap

@@ -21,8 +21,8 @@ about_with function id said error = (function ∷ little_bytes 2 id) ++ said ∷
 abbrev pub about_two : ℕ → ℕ → ℕ → ℕ → List ℕ
 about_two function first second error = (function ∷ little_bytes 2 first) ++ little_bytes 2 second ++ error ∷ 0xFF ∷ 0xFF ∷ []
 
-abbrev pub with_value : ℕ → ℕ → ℕ → ℕ → List ℕ
-with_value function id value error = (function ∷ little_bytes 2 id) ++ error ∷ little_bytes 4 value
+abbrev pub value_reply : ℕ → ℕ → ℕ → ℕ → List ℕ
+value_reply function id value error = (function ∷ little_bytes 2 id) ++ error ∷ little_bytes 4 value
 
 abbrev pub with_item : ℕ → ℕ → ℕ → ℕ → ℕ → List ℕ
 with_item function id index item error = (function ∷ little_bytes 2 id) ++ (index ∷ little_bytes 2 item) ++ error ∷ 0xFF ∷ []
@@ -39,7 +39,7 @@ reply_by function (SetVolume volume) error = plain function error
 reply_by function (ChangeChildLocation parent child dx dy) error = about_two function parent child error
 reply_by function (ChangeSize id width height) error = about function id error
 reply_by function (ChangeBackgroundColour id colour) error = about_with function id colour error
-reply_by function (ChangeNumericValue id value) error = with_value function id value error
+reply_by function (ChangeNumericValue id value) error = value_reply function id value error
 reply_by function (ChangeEndPoint id width height direction) error = about function id error
 reply_by function (ChangeFontAttributes id colour size font_type style) error = about function id error
 reply_by function (ChangeLineAttributes id colour width line_art) error = about function id error
@@ -55,5 +55,5 @@ reply_by function (ChangeChildPosition parent child x y) error = about_two funct
 reply_by function (ExecuteMacro id) error = about function id error
 
 -- the eight bytes of the reply to a command with an error byte
-abbrev pub reply_to : Command → ℕ → List ℕ
-reply_to command error = reply_by (function_of command) command error
+abbrev pub command_reply : Command → ℕ → List ℕ
+command_reply command error = reply_by (function_of command) command error

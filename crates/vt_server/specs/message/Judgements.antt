@@ -1,7 +1,7 @@
 -- The code's judgement of an upload carries out a right verdict (docs/PROFILE.md, "End of Object Pool (12)").
 use Rattle.std.specs.Prelude.{◌≡◌, ℕ, List}
 use Rattle.vt_server.specs.state.AddressStates.{SetPool}
-use Rattle.vt_server.specs.message.Verdicts.{Verdict, Accepts, Faulty, Refuses, IsVerdict, ended, with_objects_of, end_reply}
+use Rattle.vt_server.specs.message.Verdicts.{Verdict, Accepts, Faulty, Refuses, IsVerdict, after_verdict, with_objects_of, end_reply}
 use Rattle.vt_node.specs.AddressFunctions.{with_at}
 use Rattle.vt_server.specs.declared.message.end_of_pool.Judgement.{Judgement}
 use Rattle.vt_server.specs.declared.message.end_of_pool.Judgement.TheVariants as judgements
@@ -22,5 +22,5 @@ pub record IsJudgement (content : SetPool) (judgement : Judgement) : Type 0 wher
 pub record IsEnded (old : ℕ → SetPool) (address : ℕ) (judgement : Judgement) (reply : List ℕ) (new : ℕ → SetPool) : Type 0 where
   pub verdict : Verdict
   pub right : IsVerdict (old address) verdict
-  pub content : new ≡ with_at address (ended (old address) verdict) old
+  pub content : new ≡ with_at address (after_verdict (old address) verdict) old
   pub reply_is : reply ≡ end_reply verdict

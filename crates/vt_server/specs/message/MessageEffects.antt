@@ -7,8 +7,8 @@ use Rattle.vt_commands.specs.Commands.{command_at}
 use Rattle.vt_server.specs.message.CommandEffects.{content_after, error_after}
 use Rattle.vt_node.specs.Messages.{technical_reply}
 use Rattle.vt_server.specs.state.AddressStates.{SetPool, with_piece}
-use Rattle.vt_server.specs.message.CommandReplies.{reply_to}
-use Rattle.vt_server.specs.message.Verdicts.{Verdict, ended, end_reply}
+use Rattle.vt_server.specs.message.CommandReplies.{command_reply}
+use Rattle.vt_server.specs.message.Verdicts.{Verdict, after_verdict, end_reply}
 
 pub record Handled : Type 0 where
   pub content : SetPool
@@ -21,7 +21,7 @@ ignored content = record { content = content; reply = None }
 abbrev pub commanded : SetPool → Option Command → Handled
 commanded content None = ignored content
 commanded content (Some command) =
-    record { content = content_after command content; reply = option_map (reply_to command) (error_after command content.pool) }
+    record { content = content_after command content; reply = option_map (command_reply command) (error_after command content.pool) }
 
 -- a technical request, or else a command
 abbrev pub asked : SetPool → List ℕ → Option (List ℕ) → Handled
@@ -32,7 +32,7 @@ abbrev pub transferred : SetPool → List ℕ → Handled
 transferred content bytes = ignored (with_piece content bytes)
 
 abbrev pub end_handled : SetPool → Verdict → Handled
-end_handled content verdict = record { content = ended content verdict; reply = Some (end_reply verdict) }
+end_handled content verdict = record { content = after_verdict content verdict; reply = Some (end_reply verdict) }
 
 -- the effect of a message and its reply; the verdict counts for End of Object Pool alone
 abbrev pub handled : SetPool → Verdict → List ℕ → Handled

@@ -16,7 +16,7 @@ use Rattle.vt_verify.specs.Rules.{IsVerified, IsRefused}
 use Rattle.vt_chains.specs.Limits.{terminal}
 use Rattle.vt_verify.specs.Updates.{updated}
 use Rattle.vt_machine.specs.SetStates.{SetState, renewed}
-use Rattle.vt_server.specs.message.CommandEffects.{fresh}
+use Rattle.vt_server.specs.message.CommandEffects.{fresh_set}
 use Rattle.vt_server.specs.state.AddressStates.{SetPool}
 
 -- the verdict on an upload: the new objects of the set, or the fault or refusal that leaves its pool unchanged
@@ -65,14 +65,14 @@ IsVerdict content (Refuses refusal) = IsRefusedBy content refusal
 
 -- The first pool of a set is new. An update keeps the held key and the selected input if their objects keep their kind.
 abbrev pub with_objects_of : Option SetState → ObjectMap → SetState
-with_objects_of None objects = fresh objects
+with_objects_of None objects = fresh_set objects
 with_objects_of (Some state) objects = renewed state objects
 
 -- The upload of a set is empty after its verdict.
-abbrev pub ended : SetPool → Verdict → SetPool
-ended content (Accepts objects) = record { pool = Some (with_objects_of content.pool objects); transfer = [] }
-ended content (Faulty fault) = record content { transfer = [] }
-ended content (Refuses refusal) = record content { transfer = [] }
+abbrev pub after_verdict : SetPool → Verdict → SetPool
+after_verdict content (Accepts objects) = record { pool = Some (with_objects_of content.pool objects); transfer = [] }
+after_verdict content (Faulty fault) = record content { transfer = [] }
+after_verdict content (Refuses refusal) = record content { transfer = [] }
 
 -- ---- the reply
 

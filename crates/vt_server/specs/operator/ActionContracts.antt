@@ -17,7 +17,7 @@ use Rattle.vt_server.specs.Terminals.{State, after_acts, sent_by_acts}
 use Rattle.vt_node.specs.AddressFunctions.{with_at}
 use Rattle.vt_shown.specs.ShownElements.{IsShown}
 use Rattle.vt_machine.specs.SetStates.{active_in}
-use Rattle.vt_server.specs.operator.ActionEffects.{action_on, object_of}
+use Rattle.vt_server.specs.operator.ActionEffects.{action_on, object_acted_on}
 
 -- whether the object of an action is shown
 abbrev pub IsSeenIn : SetState → Option ℕ → Bool → Type 0
@@ -30,7 +30,7 @@ Comes old _ _ new = ⊥
 
 pub record Performs (old : SetState) (action : ActionValue) (result : Option (Result Acted OperatorRefusal)) (new : SetState) : Type 0 where
   pub shown : Bool
-  pub seen : IsSeenIn old (object_of action) shown
+  pub seen : IsSeenIn old (object_acted_on action) shown
   pub comes : Comes old (action_on old shown action) result new
 
 -- An action on the set at an address, if it has a pool. The pools of other addresses and all uploads are unchanged.
@@ -63,6 +63,6 @@ happens s action shown = at_shown s.shown (Operates action shown)
 
 pub record TakesAction (s : State) (action : ActionValue) (t : State) (before after : List Output) : Type 0 where
   pub shown : Bool
-  pub seen : IsSeen s (object_of action) shown
+  pub seen : IsSeen s (object_acted_on action) shown
   pub state : t ≡ after_acts (selecting s action) (happens s action shown)
   pub sent : after ≡ before ++ outputs_of (no_set (has_no_set s action) ++ sent_by_acts (selecting s action) (happens s action shown))

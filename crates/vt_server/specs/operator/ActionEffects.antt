@@ -35,13 +35,13 @@ action_on state shown (Text id text) = Some (enter_text shown state id text)
 action_on state shown (Set address) = None
 
 -- the object that has to be shown for an action
-abbrev pub object_of : ActionValue → Option ℕ
-object_of (Press id) = Some id
-object_of (Release id) = None
-object_of (Select id) = Some id
-object_of (Number id n) = Some id
-object_of (Text id text) = Some id
-object_of (Set address) = None
+abbrev pub object_acted_on : ActionValue → Option ℕ
+object_acted_on (Press id) = Some id
+object_acted_on (Release id) = None
+object_acted_on (Select id) = Some id
+object_acted_on (Number id n) = Some id
+object_acted_on (Text id text) = Some id
+object_acted_on (Set address) = None
 
 -- ---- the message of an action
 

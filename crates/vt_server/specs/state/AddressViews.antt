@@ -5,16 +5,16 @@ use Rattle.vt_can.specs.declared.frames.frame.Frame.{Frame}
 use Rattle.vt_can.specs.lines.Actions.{ActionValue}
 use Rattle.vt_transport.specs.Protocol as tp
 use Rattle.vt_extended.specs.Protocol as etp
-use Rattle.vt_names.specs.Registry.{Set, mastered, has_place, joined, preloaded, bound}
+use Rattle.vt_names.specs.Registry.{Set, mastered, has_place, with_member, preloaded, bound}
 use Rattle.vt_stores.specs.Stores.{ObjectMap}
 use Rattle.vt_verify.specs.Triggers.{listing}
 use Rattle.vt_verify.specs.Budgets.{budget}
 use Rattle.vt_machine.specs.SetStates.{SetState, with_objects}
 use Rattle.vt_machine.specs.SetStates.{working_set_in}
-use Rattle.vt_macros.specs.Machines.{joined as commands_at, run}
+use Rattle.vt_macros.specs.Machines.{event_commands, run}
 use Rattle.vt_effects.specs.Soundness.{shape_in}
 use Rattle.vt_machine.specs.OperatorActions as operating
-use Rattle.vt_server.specs.message.CommandEffects.{fresh, store_of}
+use Rattle.vt_server.specs.message.CommandEffects.{fresh_set, store_of}
 use Rattle.vt_server.specs.message.MessageEffects.{Handled, handled}
 use Rattle.vt_node.specs.Messages.{message_to}
 use Rattle.vt_server.specs.operator.ActionEffects.{action_on, fault_of, is_busy, message_frames, sending_after, ran}
@@ -94,25 +94,25 @@ after_master address p (Some holder) count = with_other_set p (Some (mastered ad
 
 abbrev pub after_member : AddressView → Option Set → ℕ → AddressOutcome
 after_member p None name = unchanged p
-after_member p (Some set) name = with_other_set p (Some (if has_place set then joined set name else set))
+after_member p (Some set) name = with_other_set p (Some (if has_place set then with_member set name else set))
 
 -- ---- messages
 
-abbrev pub answered : ℕ → AddressView → Handled → AddressOutcome
-answered address p done =
+abbrev pub with_reply : ℕ → AddressView → Handled → AddressOutcome
+with_reply address p done =
     with_place p (with_content p.place done.content) (option_to_list (option_map (message_to p.terminal address) done.reply))
 
 -- A message counts only from the master of a set.
 abbrev pub after_message : ℕ → AddressView → Verdict → Option Set → Option (List ℕ) → AddressOutcome
-after_message address p verdict (Some set) (Some bytes) = answered address p (handled p.place.content verdict bytes)
+after_message address p verdict (Some set) (Some bytes) = with_reply address p (handled p.place.content verdict bytes)
 after_message address p verdict _ _ = unchanged p
 
 -- The end of a session is sent before the reply to its message.
-abbrev pub behind : List Frame → AddressOutcome → AddressOutcome
-behind frames after = record after { frames = frames ++ after.frames }
+abbrev pub with_frames_first : List Frame → AddressOutcome → AddressOutcome
+with_frames_first frames after = record after { frames = frames ++ after.frames }
 
 abbrev pub after_came : ℕ → AddressView → Verdict → Came → AddressOutcome
-after_came address p verdict c = behind c.frames (after_message address (record p { place = c.place }) verdict p.set c.message)
+after_came address p verdict c = with_frames_first c.frames (after_message address (record p { place = c.place }) verdict p.set c.message)
 
 abbrev pub after_notice : ℕ → ℕ → AddressView → FrameMeaning → Frame → Verdict → AddressOutcome
 after_notice now address p (Claim name) frame verdict = after_claim_heard p p.set
@@ -143,7 +143,7 @@ after_operator now address p action shown (Some state) = after_action now addres
 abbrev pub raised_on : SetState → ℕ → SetState
 raised_on state event =
     let shape = shape_in state.objects in let event_of = listing (working_set_in state.objects) event in
-    with_objects state (store_of (run (budget shape (working_set_in state.objects) event) state.objects (commands_at shape event_of)))
+    with_objects state (store_of (run (budget shape (working_set_in state.objects) event) state.objects (event_commands shape event_of)))
 
 -- ---- the outcome of a happening
 
@@ -152,7 +152,7 @@ outcome now address p (Hears notice frame verdict) = after_notice now address (r
 outcome now address p Rebinds = after_change p p.set
 outcome now address p (Preloads contents) = record {
   set = Some (preloaded address);
-  place = record p.place { content = record { pool = Some (fresh contents); transfer = [] }; heard = None };
+  place = record p.place { content = record { pool = Some (fresh_set contents); transfer = [] }; heard = None };
   frames = [];
   refused = None;
 }

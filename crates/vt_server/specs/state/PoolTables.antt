@@ -21,9 +21,9 @@ pub record AreKept (pools : List (Option SetState)) (transfers : List (Option Ar
   pub transfers_each : length transfers ≡ 256
   pub none : may_have_pools ≡ false → (address : ℕ) → get_or pools address None ≡ None
 
-abbrev pub bytes_of : Option Arrived → List ℕ
-bytes_of None = []
-bytes_of (Some transfer) = transfer.bytes
+abbrev pub bytes_arrived : Option Arrived → List ℕ
+bytes_arrived None = []
+bytes_arrived (Some transfer) = transfer.bytes
 
 abbrev pub room_in : Option Arrived → ℕ
 room_in None = 0
@@ -31,7 +31,7 @@ room_in (Some transfer) = transfer.room
 
 -- the pool and the upload of each address
 abbrev pub content_by : List (Option SetState) → List (Option Arrived) → ℕ → SetPool
-content_by pools transfers address = record { pool = get_or pools address None; transfer = bytes_of (get_or transfers address None) }
+content_by pools transfers address = record { pool = get_or pools address None; transfer = bytes_arrived (get_or transfers address None) }
 
 abbrev pub content_of : Kept → ℕ → SetPool
 content_of contents = content_by contents.pools contents.transfers

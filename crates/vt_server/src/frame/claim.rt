@@ -105,7 +105,7 @@ impl Terminal {
     }
 
     fn rebind_left(&mut self, left: Option<u8>, was: Option<Name>)
-        ensures { state_of self.new ≡ spec.after_acts (state_of self.old) (steps.changed_left was (state_of self.old) left) }
+        ensures { state_of self.new ≡ spec.after_acts (state_of self.old) (steps.rebind_left_acts was (state_of self.old) left) }
     {
         if let Some(left) = left {
             self.rebind(left, was);
@@ -114,7 +114,7 @@ impl Terminal {
 
     // Closes the set of an address whose holder changed, unless the set has the new holder's NAME or none.
     fn rebind(&mut self, address: u8, was: Option<Name>)
-        ensures { state_of self.new ≡ spec.after_acts (state_of self.old) (steps.changed was (state_of self.old) address) }
+        ensures { state_of self.new ≡ spec.after_acts (state_of self.old) (steps.rebind_acts was (state_of self.old) address) }
     {
         let holder = self.node.holder(address);
         if was == holder {

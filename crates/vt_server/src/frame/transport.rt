@@ -9,7 +9,7 @@ ghost use Rattle.vt_transport.specs.Protocol as tp;
 ghost use Rattle.vt_transport.specs.Wire.{tp_frame};
 ghost use Rattle.vt_extended.specs.Protocol as etp;
 ghost use Rattle.vt_extended.specs.Wire.{etp_frame};
-ghost use Rattle.vt_server.specs.frame.FrameContracts.{FitsCompleted, FitsOneFrame, HandlesMessage, begins_with, TakesNotice, Handles, message_by};
+ghost use Rattle.vt_server.specs.frame.FrameContracts.{FitsCompleted, FitsOneFrame, HandlesMessage, BeginsWithByte, TakesNotice, Handles, message_by};
 ghost use Rattle.vt_server.specs.message.MessageEffects.{TRANSFER};
 ghost use Rattle.vt_server.specs.Outputs.{HasSpare};
 ghost use Rattle.vt_node.specs.ReceiverResults.{frames_in, message_in};
@@ -144,7 +144,7 @@ impl Terminal {
     /// Appends a piece to the upload of a set.
     fn take_piece(&mut self, source: u8, piece: Vec<u8>)
         requires { is_some (set_at source (state_of self.old).sets) ≡ true
-            → begins_with TRANSFER piece.items × (length piece.items ≤ 1 + room_of self.old.contents source) }
+            → BeginsWithByte TRANSFER piece.items × (length piece.items ≤ 1 + room_of self.old.contents source) }
         ensures answers { HandlesMessage (state_of self.old) source piece.items None (state_of self.new) }
         ensures tells { TellsChanges self.old self.new }
     {

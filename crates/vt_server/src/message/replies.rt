@@ -30,7 +30,7 @@ pub(crate) fn error_byte(outcome: Outcome) -> u8
 
 /// The reply to a command with its error byte. docs/PROFILE.md, "Commands: all rows".
 pub(crate) fn reply_to(command: &Command<'_>, error: u8) -> [u8; 8]
-    ensures { result ≡ replies.reply_to command.now error }
+    ensures { result ≡ replies.command_reply command.now error }
 {
     let function = command.function();
     match *command {
@@ -106,7 +106,7 @@ fn about_two(function: u8, first: ObjectId, second: ObjectId, error: u8) -> [u8;
 }
 
 fn with_value(function: u8, id: ObjectId, value: u32, error: u8) -> [u8; 8]
-    ensures { result ≡ replies.with_value function id value error }
+    ensures { result ≡ replies.value_reply function id value error }
 {
     let mut bytes = [function, 0, 0, error, 0, 0, 0, 0];
     LittleEndian::write_u16(&mut bytes[1..3], id.raw());

@@ -26,7 +26,7 @@ use Rattle.vt_effects.specs.declared.replacements.Replacement.{Replacement}
 use Rattle.vt_effects.specs.Changes.{is_one_of, may_stand, other_id, writes}
 use Rattle.vt_effects.specs.Effects.{kind_in, pointer_value, other_kind}
 use Rattle.vt_effects.specs.Soundness.{shape_in}
-use Rattle.vt_effects.specs.Replacements.{replaced}
+use Rattle.vt_effects.specs.Replacements.{replacement_by}
 use Rattle.vt_effects.proofs.lemmas.stores.OneChangedObject.{first_of, second_of, get_there, get_other}
 use Rattle.vt_effects.proofs.lemmas.stores.ObjectBeforeAndAfter.{Changed, slots_made}
 use Rattle.vt_effects.proofs.lemmas.stores.IdReplacements.{unmapped, item_replaced}
@@ -103,7 +103,7 @@ has_value (ChangeNumericValue it value) kinds.ObjectPointer is = refl
 has_value (ChangeAttribute it number value) kinds.ObjectPointer is = refl
 has_value _ _ is = cc
 
-none_at : (m : ObjectMap) (id : ℕ) (old new : Seen) (command : Command) → Changed m id old new command → replaced m command ≡ None
+none_at : (m : ObjectMap) (id : ℕ) (old new : Seen) (command : Command) → Changed m id old new command → replacement_by m command ≡ None
     → (place : Place) → writes command place (kind_of old) ≡ true → is_inclusion place ≡ true → ⊥
 none_at m id old new (ChangeListItem list index item) c none place is inclusion = item_replaced m id old new list index item c none
 none_at m id old new (ChangeNumericValue it value) c none places.Value is inclusion =
@@ -115,7 +115,7 @@ none_at m id old new (ChangeActiveMask set mask) c none places.ActiveMask is inc
 none_at m id old new (ChangeSoftKeyMask type mask keys) c none places.SoftKeyMask is inclusion = cc
 none_at m id old new _ c none _ is inclusion = cc
 
-pub none_added : (m : ObjectMap) (id : ℕ) (old new : Seen) (command : Command) → Changed m id old new command → replaced m command ≡ None
+pub none_added : (m : ObjectMap) (id : ℕ) (old new : Seen) (command : Command) → Changed m id old new command → replacement_by m command ≡ None
     → (x : ℕ) → Adds m command old x → ⊥
 none_added m id old new command c none x a = none_at m id old new command c none a.place a.written a.inclusion
 

@@ -16,7 +16,7 @@ use Rattle.vt_chains.proofs.Elements.{Contains-nil}
 use Rattle.vt_chains.proofs.InclusionsInStore.{place_of}
 use Rattle.vt_effects.specs.declared.replacements.Replacement.{Replacement}
 use Rattle.vt_effects.specs.Effects.{is_short, chains_are_short}
-use Rattle.vt_effects.specs.Replacements.{replaced, fits}
+use Rattle.vt_effects.specs.Replacements.{replacement_by, new_id_fits}
 use Rattle.vt_effects.proofs.lemmas.stores.OneChangedObject.{second_of}
 use Rattle.vt_effects.proofs.lemmas.stores.ObjectBeforeAndAfter.{Made}
 use Rattle.vt_effects.proofs.lemmas.stores.IdReplacements.{parts_of}
@@ -58,11 +58,11 @@ fewer_chains next less of (a ∷ b ∷ rest) is = (of a b is.0, fewer_chains nex
 -- the chains are short afterwards: they were tested, or no inclusion was added
 pub shallow_after : (m : ObjectMap) (id : ℕ) (old new : Seen) (command : Command) → Made m id old new command → IsShallow terminal.inclusions (inclusions_of m)
     → IsShallow terminal.inclusions (inclusions_of (finite.insert m id new))
-shallow_after m id old new command c shallow = by (replaced m command) refl
+shallow_after m id old new command c shallow = by (replacement_by m command) refl
   where
-    by : (r : Option Replacement) → replaced m command ≡ r → IsShallow terminal.inclusions (inclusions_of (finite.insert m id new))
+    by : (r : Option Replacement) → replacement_by m command ≡ r → IsShallow terminal.inclusions (inclusions_of (finite.insert m id new))
     by (Some r) is =
-        shallow_by_test (finite.insert m id new) (second_of (fits m command) _ (sym ((parts_of m command r is).order (finite.insert m id new)) ∙ c.kept))
+        shallow_by_test (finite.insert m id new) (second_of (new_id_fits m command) _ (sym ((parts_of m command r is).order (finite.insert m id new)) ∙ c.kept))
     by None is = λ chain in_new. shallow chain
         (fewer_chains (inclusions_of m) (inclusions_of (finite.insert m id new))
         (λ q x h. ⊎_elim (λ there. there) (λ more. absurd (none_added m id old new command c.change is x more.1)) (inclusions_after m id old new command c.change q x h))

@@ -12,7 +12,7 @@ use Rattle.vt_kinds.specs.declared.fields.ValueType.TheVariants as types
 use Rattle.vt_kinds.specs.Scales.{scale_number, scale_at, IsScale}
 use Rattle.vt_kinds.specs.References.{members, allowed, may_be_null}
 use Rattle.vt_kinds.specs.Attributes.{Accepts, MayStand, IsAmong, lowest}
-use Rattle.vt_effects.specs.Fields.{word}
+use Rattle.vt_effects.specs.Fields.{low_word}
 use Rattle.vt_effects.specs.Changes.{takes, is_one_of}
 
 -- two tests that imply each other are equal
@@ -67,7 +67,7 @@ scale_is n _ e = subst (λ (m : ℕ). is_some (scale_at m) ≡ true) (sym e) ref
 pub takes_is : (kind : Kind) (sort : ValueType) (n : ℕ) (named : Option Kind) (b : Bool) → n % 2 ^ 32 ≡ n → (IsTrue b → Accepts kind sort (lowest sort n) named)
     → (Accepts kind sort (lowest sort n) named → IsTrue b) → b ≡ takes kind sort n named
 takes_is kind (types.Reference place) n named b fits there back =
-    alike b _ (λ is. may kind place (word n) named (word n == 0xFFFF) refl (there is)) (λ is. back (stands kind place (word n) named (word n == 0xFFFF) refl is))
+    alike b _ (λ is. may kind place (low_word n) named (low_word n == 0xFFFF) refl (there is)) (λ is. back (stands kind place (low_word n) named (low_word n == 0xFFFF) refl is))
 takes_is kind types.Priority n named b fits there back = alike b _ (λ is. le-leb (n % 256) 2 (there is)) (λ is. back (leb-true (n % 256) 2 is))
 takes_is kind types.Scale n named b fits there back =
     alike b _ (λ is. subst (λ (m : ℕ). is_some (scale_at m) ≡ true) fits (scale_is (n % 2 ^ 32) (there is).0 (there is).1)) (λ is. back (is_scale (n % 2 ^ 32) (subst (λ (m : ℕ). is_some (scale_at m) ≡ true) (sym fits) is)))

@@ -20,11 +20,11 @@ use Rattle.vt_kinds.specs.declared.object.Object.TheVariants as objects
 use Rattle.vt_commands.specs.declared.command.Command.{Command}
 use Rattle.vt_commands.specs.declared.command.Command.TheVariants.{HideShow, EnableDisable, ChangeChildLocation, ChangeSize, ChangeBackgroundColour, ChangeNumericValue, ChangeEndPoint, ChangeFontAttributes, ChangeLineAttributes, ChangeFillAttributes, ChangeActiveMask, ChangeSoftKeyMask, ChangeAttribute, ChangePriority, ChangeListItem, ChangeStringValue, ChangeChildPosition, ExecuteMacro}
 use Rattle.vt_kinds.specs.Records.{Seen, kind_of}
-use Rattle.vt_kinds.specs.References.{slot, slots_of, listed}
-use Rattle.vt_kinds.specs.Attributes.{attribute_at, attributes_of, numbered, byte}
+use Rattle.vt_kinds.specs.References.{slot, slots_of, slots_listed}
+use Rattle.vt_kinds.specs.Attributes.{attribute_at, attributes_of, attribute_numbered, byte}
 use Rattle.vt_stores.specs.Shapes.{fixed}
-use Rattle.vt_effects.specs.Fields.{word, with_field}
-use Rattle.vt_effects.specs.Changes.{left, if_passed, is_one_of, may_stand, takes, other_id, child_at, move_child, shifted, placed, stands_in, leaves, for_child, change_location, change_position, put_children, in_parent, put_attribute, changed, writes, is_attribute, IsWritten}
+use Rattle.vt_effects.specs.Fields.{low_word, with_field}
+use Rattle.vt_effects.specs.Changes.{left, if_passed, is_one_of, may_stand, takes, other_id, child_at, move_child, moved_child, placed, stands_in, leaves, for_child, change_location, change_position, put_children, in_parent, put_attribute, changed, writes, is_attribute, IsWritten}
 use Rattle.vt_effects.specs.Errors.{bit}
 
 -- the object keeps its fixed part, and its slots have a property
@@ -66,9 +66,9 @@ child_stays child (Some kind) children made stay = by (stands_in child children)
 location_stays : (named : Option Kind) (child dx dy : ℕ) (children : List Child) → ids (left children (change_location named child dx dy children)) ≡ ids children
 location_stays named child dx dy children = child_stays child named children _ (by (leaves child dx dy children))
   where
-    by : (b : Bool) → ids (left children (if_passed (not b) (bit 4) (move_child child (shifted dx dy) children))) ≡ ids children
+    by : (b : Bool) → ids (left children (if_passed (not b) (bit 4) (move_child child (moved_child dx dy) children))) ≡ ids children
     by true = refl
-    by false = moved_ids child (shifted dx dy) (λ c. refl) children
+    by false = moved_ids child (moved_child dx dy) (λ c. refl) children
 
 position_stays : (named : Option Kind) (child : ℕ) (x y : ℤ) (children : List Child) → ids (left children (change_position named child x y children)) ≡ ids children
 position_stays named child x y children = child_stays child named children _ (moved_ids child (placed x y) (λ c. refl) children)
@@ -80,7 +80,7 @@ at_index Q [] index all = tt
 at_index Q (a ∷ attributes) zero all = all.0
 at_index Q (a ∷ attributes) (suc index) all = at_index Q attributes index all.1
 
-at_number : (Q : Attribute → Type 0) (attributes : List Attribute) (number : ℕ) → AllByRecursion Q attributes → IfSome (numbered attributes number) Q
+at_number : (Q : Attribute → Type 0) (attributes : List Attribute) (number : ℕ) → AllByRecursion Q attributes → IfSome (attribute_numbered attributes number) Q
 at_number Q attributes zero all = tt
 at_number Q attributes (suc index) all = at_index Q attributes index all
 
@@ -88,7 +88,7 @@ at_number Q attributes (suc index) all = at_index Q attributes index all
 at_attribute : (Q : Attribute → Type 0) (kind : Kind) (number : ℕ) → AllByRecursion Q (byte fields.Options ∷ attributes_of kind) → IfSome (attribute_at kind number) Q
 at_attribute Q kinds.InputList number all = by (number == 5)
   where
-    by : (b : Bool) → IfSome (cond b (Some (byte fields.Options)) (numbered (attributes_of kinds.InputList) number)) Q
+    by : (b : Bool) → IfSome (cond b (Some (byte fields.Options)) (attribute_numbered (attributes_of kinds.InputList) number)) Q
     by true = all.0
     by false = at_number Q (attributes_of kinds.InputList) number all.1
 at_attribute Q kind number all = at_number Q (attributes_of kind) number all.1
@@ -138,23 +138,23 @@ module _ (P : Slot → Type 0) where
       put_children_leave (objects.Button o) _ o.children (change o.children) (stay o.children) (λ new. refl) (λ new same. cc) old
   in_parent_leaves change _ stay old = assumption
 
-  listed_set : (kind : Kind) (start index at item : ℕ) (items : List ℕ) → start + index ≡ at → AllByRecursion P (listed kind places.Item start items)
-      → P (slot kind (places.Item at) item) → AllByRecursion P (listed kind places.Item start (set items index item))
+  listed_set : (kind : Kind) (start index at item : ℕ) (items : List ℕ) → start + index ≡ at → AllByRecursion P (slots_listed kind places.Item start items)
+      → P (slot kind (places.Item at) item) → AllByRecursion P (slots_listed kind places.Item start (set items index item))
   listed_set kind start index at item [] is old new = old
   listed_set kind start zero at item (x ∷ items) is old new = let same : start ≡ at = omega arith in (rw same new, old.1)
   listed_set kind start (suc index) at item (x ∷ items) is old new = (old.0, listed_set kind (suc start) index at item items (omega arith) old.1 new)
 
   -- a field of a type gets an ID that is allowed there, if the field is a reference
   abbrev Given : Kind → ℕ → ValueType → Type 0
-  Given kind n (types.Reference place) = cond (is_attribute place kind) (P (slot kind place (word n))) (Unit {0})
+  Given kind n (types.Reference place) = cond (is_attribute place kind) (P (slot kind place (low_word n))) (Unit {0})
   Given kind n _ = Unit {0}
 
   given_by : (named : Option Kind) (kind : Kind) (n : ℕ)
-      → ((place : Place) → is_attribute place kind ≡ true → may_stand kind place (word n) named ≡ true → P (slot kind place (word n)))
+      → ((place : Place) → is_attribute place kind ≡ true → may_stand kind place (low_word n) named ≡ true → P (slot kind place (low_word n)))
       → (type : ValueType) → takes kind type n named ≡ true → Given kind n type
   given_by named kind n may (types.Reference place) passed = by (is_attribute place kind) refl
     where
-      by : (b : Bool) → is_attribute place kind ≡ b → cond b (P (slot kind place (word n))) (Unit {0})
+      by : (b : Bool) → is_attribute place kind ≡ b → cond b (P (slot kind place (low_word n))) (Unit {0})
       by true is = may place is passed
       by false is = tt
   given_by named kind n may _ passed = tt
@@ -186,7 +186,7 @@ module _ (P : Slot → Type 0) where
   commands_leave (ChangeNumericValue id value) named (objects.InputNumber o) old may = passes _ _ _ _ refl old (λ _. old)
   commands_leave (ChangeNumericValue id value) named (objects.InputList o) old may = passes _ _ _ _ refl old (λ _. old)
   commands_leave (ChangeNumericValue id value) named (objects.ObjectPointer o) old may =
-      passes _ _ _ _ refl old (λ passed. (may places.Value (word value) refl refl passed, tt))
+      passes _ _ _ _ refl old (λ passed. (may places.Value (low_word value) refl refl passed, tt))
   commands_leave (ChangeEndPoint id width height direction) named (objects.Line o) old may = passes _ _ _ _ refl old (λ _. old)
   commands_leave (ChangeFontAttributes id colour size type style) named (objects.Font o) old may = assumption
   commands_leave (ChangeLineAttributes id colour width art) named (objects.LineAttributes o) old may = assumption
@@ -200,7 +200,7 @@ module _ (P : Slot → Type 0) where
       both_pass _ _ _ _ _ _ refl old (λ passed. (may places.SoftKeyMask keys refl refl passed, old.1))
   commands_leave (ChangeAttribute id number value) named o old may =
       tested _ _ _ _ old (λ _. attribute_leaves named value o _ (at_attribute (IsPut value o) (kind_of o) number (fields_leave value o old)) old
-      (given_by named (kind_of o) value (λ place. may place (word value) refl)))
+      (given_by named (kind_of o) value (λ place. may place (low_word value) refl)))
   commands_leave (ChangePriority id priority) named (objects.AlarmMask o) old may = passes _ _ _ _ refl old (λ _. old)
   commands_leave (ChangeListItem id index item) named (objects.InputList o) old may =
       both_pass _ _ _ _ _ _ refl old (λ passed.

@@ -16,7 +16,7 @@ use Rattle.vt_kinds.specs.Records.{Seen, kind_of}
 use Rattle.vt_kinds.specs.References.{slot, slots_of}
 use Rattle.vt_stores.specs.Stores.{ObjectMap}
 use Rattle.vt_commands.specs.Targets.{object_of}
-use Rattle.vt_effects.specs.Fields.{word}
+use Rattle.vt_effects.specs.Fields.{low_word}
 use Rattle.vt_effects.specs.Changes.{if_passed, may_stand, change_attribute, other_id, changed, writes}
 use Rattle.vt_effects.specs.Effects.{kind_in, pointer_value, allows, all_slots, places_allow, value_drawn, chains_are_short, pointer_may, keeps_order, other_kind}
 use Rattle.vt_effects.specs.Soundness.{is_in_order}
@@ -32,19 +32,19 @@ passed_is true error x new is = cc
 passed_is false error x new is = absurd cc
 
 pub attribute_of_pointer : (named : Option Kind) (number value : ℕ) (p : ObjectPointer) (new : Seen)
-    → ◌≡◌ {A = Result Seen ℕ} (change_attribute named number value (objects.ObjectPointer p)) (Ok new) → objects.ObjectPointer (record p { value = word value }) ≡ new
+    → ◌≡◌ {A = Result Seen ℕ} (change_attribute named number value (objects.ObjectPointer p)) (Ok new) → objects.ObjectPointer (record p { value = low_word value }) ≡ new
 attribute_of_pointer named zero value p new made = absurd cc
-attribute_of_pointer named (suc zero) value p new made = passed_is _ _ (objects.ObjectPointer (record p { value = word value })) new made
+attribute_of_pointer named (suc zero) value p new made = passed_is _ _ (objects.ObjectPointer (record p { value = low_word value })) new made
 attribute_of_pointer named (suc (suc number)) value p new made = absurd cc
 
 allowed_value : (m after : ObjectMap) (id it value : ℕ) (p : ObjectPointer) (new : Seen) → finite.get m id ≡ Some (objects.ObjectPointer p) → Some it ≡ Some id
-    → objects.ObjectPointer (record p { value = word value }) ≡ new → pointer_may m it (word value) (pointer_value (finite.get m it)) after ≡ true
+    → objects.ObjectPointer (record p { value = low_word value }) ≡ new → pointer_may m it (low_word value) (pointer_value (finite.get m it)) after ≡ true
     → (w : ℕ) → pointer_value (Some new) ≡ Some w → places_allow m id w ≡ true
 allowed_value m after id it value p new at for is kept w has =
-    subst (λ (v : ℕ). places_allow m id v ≡ true) (same_Some (word value) w (ap (λ (o : Seen). pointer_value (Some o)) is ∙ has))
-    (first_of (places_allow m id (word value)) (chains_are_short after)
-    (subst (λ (o : Option Seen). pointer_may m id (word value) (pointer_value o) after ≡ true) at
-    (subst (λ (i : ℕ). pointer_may m i (word value) (pointer_value (finite.get m i)) after ≡ true) (same_Some it id for) kept)))
+    subst (λ (v : ℕ). places_allow m id v ≡ true) (same_Some (low_word value) w (ap (λ (o : Seen). pointer_value (Some o)) is ∙ has))
+    (first_of (places_allow m id (low_word value)) (chains_are_short after)
+    (subst (λ (o : Option Seen). pointer_may m id (low_word value) (pointer_value o) after ≡ true) at
+    (subst (λ (i : ℕ). pointer_may m i (low_word value) (pointer_value (finite.get m i)) after ≡ true) (same_Some it id for) kept)))
 
 new_value : (m after : ObjectMap) (id : ℕ) (p : ObjectPointer) (new : Seen) (command : Command) (named : Option Kind) → finite.get m id ≡ Some (objects.ObjectPointer p)
     → object_of command ≡ Some id → ◌≡◌ {A = Result Seen ℕ} (changed command named (objects.ObjectPointer p)) (Ok new) → keeps_order m command after ≡ true

@@ -18,7 +18,7 @@ use Rattle.vt_effects.specs.Effects.{is_short, chains_are_short, value_error, in
 use Rattle.vt_chains.specs.declared.levels.Levels.{Levels}
 use Rattle.vt_effects.specs.declared.replacements.Replacement.{Replacement}
 use Rattle.vt_chains.specs.Certificates.{IsCertificate, AreLevels, AreLevelsBut, HasLongChain, HasSameLevels}
-use Rattle.vt_effects.specs.Replacements.{replaced, fits, restored}
+use Rattle.vt_effects.specs.Replacements.{replacement_by, new_id_fits, restored}
 use Rattle.vt_chains.proofs.Elements.{Contains-head}
 use Rattle.vt_chains.proofs.FallingLevels.{levels_shallow}
 use Rattle.vt_effects.proofs.lemmas.stores.OneChangedObject.{get_there, get_other, put_back}
@@ -59,7 +59,7 @@ passed : (b : Bool) (error : ℕ) (n : ObjectMap) → b ≡ true → if_passed b
 passed true error n is = refl
 passed false error n is = absurd cc
 
-pub effect_plain : (m : ObjectMap) (command : Command) → replaced m command ≡ None → effect m command ≡ changed_by m command (other_kind m (other_id command))
+pub effect_plain : (m : ObjectMap) (command : Command) → replacement_by m command ≡ None → effect m command ≡ changed_by m command (other_kind m (other_id command))
 unfolding effect
 effect_plain m command none = by (object_of command) refl
   where
@@ -69,27 +69,27 @@ effect_plain m command none = by (object_of command) refl
         changed_case (λ made. in_order m command made ≡ made) m id command for (λ error. refl)
         (λ old new c. passed _ (value_error command) (finite.insert m id new) (kept_none m (finite.insert m id new) id old new command c none))
 
-pub levels_plain : (m : ObjectMap) (command : Command) (levels : Levels) → replaced m command ≡ None → AreLevels m levels
+pub levels_plain : (m : ObjectMap) (command : Command) (levels : Levels) → replacement_by m command ≡ None → AreLevels m levels
     → AreLevels (left m (changed_by m command (other_kind m (other_id command)))) levels
 levels_plain m command levels none are =
     by_changed (λ n. AreLevels n levels) m command are (λ id old new c. levels_kept m id old new command levels c (none_added m id old new command c none) are)
 
 -- ---- a command that replaces an ID
 
-effect_of : (m : ObjectMap) (command : Command) (r : Replacement) (made : Result ObjectMap ℕ) → replaced m command ≡ Some r
+effect_of : (m : ObjectMap) (command : Command) (r : Replacement) (made : Result ObjectMap ℕ) → replacement_by m command ≡ Some r
     → changed_by m command (other_kind m (other_id command)) ≡ made → effect m command ≡ in_order m command made
 unfolding effect
 effect_of m command r made is by =
     let for = (parts_of m command r is).for in
     ap (effect_on m command) for ∙ ap (in_order m command) (sym (ap (changed_for m command (other_kind m (other_id command))) for) ∙ by)
 
-pub effect_replacing : (m n : ObjectMap) (command : Command) (r : Replacement) → replaced m command ≡ Some r
+pub effect_replacing : (m n : ObjectMap) (command : Command) (r : Replacement) → replacement_by m command ≡ Some r
     → ◌≡◌ {A = Result ObjectMap ℕ} (changed_by m command (other_kind m (other_id command))) (Ok n)
-    → effect m command ≡ if_passed (fits m command && chains_are_short n) (value_error command) n
+    → effect m command ≡ if_passed (new_id_fits m command && chains_are_short n) (value_error command) n
 effect_replacing m n command r is made =
     effect_of m command r (Ok n) is made ∙ ap (λ (b : Bool). if_passed b (value_error command) n) ((parts_of m command r is).order n)
 
-pub effect_refused : (m : ObjectMap) (command : Command) (r : Replacement) (error : ℕ) → replaced m command ≡ Some r
+pub effect_refused : (m : ObjectMap) (command : Command) (r : Replacement) (error : ℕ) → replacement_by m command ≡ Some r
     → ◌≡◌ {A = Result ObjectMap ℕ} (changed_by m command (other_kind m (other_id command))) (Err error) → ◌≡◌ {A = Result ObjectMap ℕ} (effect m command) (Err error)
 effect_refused m command r error is made = effect_of m command r (Err error) is made
 
@@ -112,7 +112,7 @@ pub record Replaces (m n : ObjectMap) (command : Command) (r : Replacement) : Ty
   pub changed : Changed m r.holder old new command
   pub is : n ≡ finite.insert m r.holder new
 
-pub replaces : (m n : ObjectMap) (command : Command) (r : Replacement) → replaced m command ≡ Some r
+pub replaces : (m n : ObjectMap) (command : Command) (r : Replacement) → replacement_by m command ≡ Some r
     → ◌≡◌ {A = Result ObjectMap ℕ} (changed_by m command (other_kind m (other_id command))) (Ok n) → Replaces m n command r
 replaces m n command r is made =
     let for = (parts_of m command r is).for in
@@ -120,7 +120,7 @@ replaces m n command r is made =
     (λ old new c ok. record { old = old; new = new; changed = c; is = cc })
     (sym (ap (changed_for m command (other_kind m (other_id command))) for) ∙ made)
 
-pub levels_replacing : (m n : ObjectMap) (command : Command) (r : Replacement) (levels : Levels) → replaced m command ≡ Some r → Replaces m n command r → AreLevels m levels
+pub levels_replacing : (m n : ObjectMap) (command : Command) (r : Replacement) (levels : Levels) → replacement_by m command ≡ Some r → Replaces m n command r → AreLevels m levels
     → AreLevelsBut n levels r.holder r.after
 levels_replacing m n command r levels is by are =
     subst (λ (k : ObjectMap). AreLevelsBut k levels r.holder r.after) (sym by.is)
@@ -128,7 +128,7 @@ levels_replacing m n command r levels is by are =
 
 -- ---- the restored store
 
-pub put_back_is : (m n last : ObjectMap) (command : Command) (r : Replacement) → replaced m command ≡ Some r → Replaces m n command r
+pub put_back_is : (m n last : ObjectMap) (command : Command) (r : Replacement) → replacement_by m command ≡ Some r → Replaces m n command r
     → ((o : Seen) → finite.get n r.holder ≡ Some o → last ≡ finite.insert n r.holder (restored command r.before o)) → last ≡ m
 put_back_is m n last command r is by back =
     back by.new (ap (λ (k : ObjectMap). finite.get k r.holder) by.is ∙ get_there m r.holder by.new r.holder (eq-eqb r.holder r.holder refl))
@@ -145,17 +145,17 @@ levels_back m before after are same = record {
 
 -- ---- the result of the whole call
 
-pub done : (m n : ObjectMap) (command : Command) (levels : Levels) → fits m command ≡ true → AreLevels n levels
-    → effect m command ≡ if_passed (fits m command && chains_are_short n) (value_error command) n → ◌≡◌ {A = Result ObjectMap ℕ} (effect m command) (Ok n)
+pub done : (m n : ObjectMap) (command : Command) (levels : Levels) → new_id_fits m command ≡ true → AreLevels n levels
+    → effect m command ≡ if_passed (new_id_fits m command && chains_are_short n) (value_error command) n → ◌≡◌ {A = Result ObjectMap ℕ} (effect m command) (Ok n)
 done m n command levels fit are is =
     is ∙ ap (λ (b : Bool). if_passed (b && chains_are_short n) (value_error command) n) fit
     ∙ ap (λ (b : Bool). if_passed b (value_error command) n) (test_of_levels n levels are)
 
-pub refused : (m n : ObjectMap) (command : Command) → (fits m command ≡ false) ⊎ HasLongChain n
-    → effect m command ≡ if_passed (fits m command && chains_are_short n) (value_error command) n → ◌≡◌ {A = Result ObjectMap ℕ} (effect m command) (Err (value_error command))
+pub refused : (m n : ObjectMap) (command : Command) → (new_id_fits m command ≡ false) ⊎ HasLongChain n
+    → effect m command ≡ if_passed (new_id_fits m command && chains_are_short n) (value_error command) n → ◌≡◌ {A = Result ObjectMap ℕ} (effect m command) (Err (value_error command))
 refused m n command (inl unfit) is = is ∙ ap (λ (b : Bool). if_passed (b && chains_are_short n) (value_error command) n) unfit
 refused m n command (inr long) is =
-    is ∙ ap (λ (b : Bool). if_passed (fits m command && b) (value_error command) n) (test_fails n (chains_are_short n) refl long) ∙ never (fits m command)
+    is ∙ ap (λ (b : Bool). if_passed (new_id_fits m command && b) (value_error command) n) (test_fails n (chains_are_short n) refl long) ∙ never (new_id_fits m command)
   where
     never : (b : Bool) → ◌≡◌ {A = Result ObjectMap ℕ} (if_passed (b && false) (value_error command) n) (Err (value_error command))
     never true = refl

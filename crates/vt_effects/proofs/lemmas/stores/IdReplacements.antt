@@ -18,11 +18,11 @@ use Rattle.vt_stores.specs.Stores.{ObjectMap}
 use Rattle.vt_commands.specs.Targets.{object_of}
 use Rattle.vt_chains.proofs.IdIndices.{someone}
 use Rattle.vt_effects.specs.declared.replacements.Replacement.{Replacement}
-use Rattle.vt_effects.specs.Fields.{word}
+use Rattle.vt_effects.specs.Fields.{low_word}
 use Rattle.vt_effects.specs.Changes.{if_passed, may_stand, other_id, change_item, changed}
 use Rattle.vt_effects.specs.Errors.{bit}
 use Rattle.vt_effects.specs.Effects.{pointer_value, pointer_may, chains_are_short, keeps_order, other_kind}
-use Rattle.vt_effects.specs.Replacements.{item_at, replacement, replaced, fits, restored}
+use Rattle.vt_effects.specs.Replacements.{item_at, replacement, replacement_by, new_id_fits, restored}
 use Rattle.vt_effects.proofs.lemmas.stores.ObjectBeforeAndAfter.{Changed}
 use Rattle.vt_effects.proofs.lemmas.order.SlotsInOrder.{passed_is, attribute_of_pointer}
 
@@ -43,14 +43,14 @@ number_back : (named : Option Kind) (it value before : ℕ) (old new : Seen)
     → ◌≡◌ {A = Result Seen ℕ} (changed (ChangeNumericValue it value) named old) (Ok new) → pointer_value (Some old) ≡ Some before
     → restored (ChangeNumericValue it value) before new ≡ old
 number_back named it value before (objects.ObjectPointer p) new made at =
-    pointer_back p new (ChangeNumericValue it value) (word value) before (passed_is _ _ (objects.ObjectPointer (record p { value = word value })) new made) (same_Some p.value before at) refl
+    pointer_back p new (ChangeNumericValue it value) (low_word value) before (passed_is _ _ (objects.ObjectPointer (record p { value = low_word value })) new made) (same_Some p.value before at) refl
 number_back named it value before _ new made at = absurd cc
 
 attribute_back : (named : Option Kind) (it number value before : ℕ) (old new : Seen)
     → ◌≡◌ {A = Result Seen ℕ} (changed (ChangeAttribute it number value) named old) (Ok new) → pointer_value (Some old) ≡ Some before
     → restored (ChangeAttribute it number value) before new ≡ old
 attribute_back named it number value before (objects.ObjectPointer p) new made at =
-    pointer_back p new (ChangeAttribute it number value) (word value) before (attribute_of_pointer named number value p new made) (same_Some p.value before at) refl
+    pointer_back p new (ChangeAttribute it number value) (low_word value) before (attribute_of_pointer named number value p new made) (same_Some p.value before at) refl
 attribute_back named it number value before _ new made at = absurd cc
 
 list_by : (o : InputList) (b c : Bool) (index item before list : ℕ) (new : Seen)
@@ -81,25 +81,25 @@ mapped h x (Some b) r is = (ap (λ q. Some q.before) same, sym (ap (λ q. q.hold
 pub record Parts (m : ObjectMap) (command : Command) (r : Replacement) : Type 0 where
   pub for : object_of command ≡ Some r.holder
   pub names : other_id command ≡ Some r.after
-  pub order : (n : ObjectMap) → keeps_order m command n ≡ (fits m command && chains_are_short n)
+  pub order : (n : ObjectMap) → keeps_order m command n ≡ (new_id_fits m command && chains_are_short n)
   pub back : (old new : Seen) → Changed m r.holder old new command → restored command r.before new ≡ old
 
-pub parts_of : (m : ObjectMap) (command : Command) (r : Replacement) → replaced m command ≡ Some r → Parts m command r
+pub parts_of : (m : ObjectMap) (command : Command) (r : Replacement) → replacement_by m command ≡ Some r → Parts m command r
 parts_of m (ChangeNumericValue it value) r is =
-    let of = mapped it (word value) (pointer_value (finite.get m it)) r is in
+    let of = mapped it (low_word value) (pointer_value (finite.get m it)) r is in
     record {
       for = ap Some (sym of.1);
       names = ap Some (sym of.2);
-      order = λ n. ap (λ (o : Option ℕ). pointer_may m it (word value) o n) of.0;
-      back = λ old new c. number_back (other_kind m (Some (word value))) it value r.before old new c.made (ap pointer_value (sym (ap (finite.get m) (sym of.1) ∙ c.at)) ∙ of.0);
+      order = λ n. ap (λ (o : Option ℕ). pointer_may m it (low_word value) o n) of.0;
+      back = λ old new c. number_back (other_kind m (Some (low_word value))) it value r.before old new c.made (ap pointer_value (sym (ap (finite.get m) (sym of.1) ∙ c.at)) ∙ of.0);
     }
 parts_of m (ChangeAttribute it number value) r is =
-    let of = mapped it (word value) (pointer_value (finite.get m it)) r is in
+    let of = mapped it (low_word value) (pointer_value (finite.get m it)) r is in
     record {
       for = ap Some (sym of.1);
       names = ap Some (sym of.2);
-      order = λ n. ap (λ (o : Option ℕ). pointer_may m it (word value) o n) of.0;
-      back = λ old new c. attribute_back (other_kind m (Some (word value))) it number value r.before old new c.made (ap pointer_value (sym (ap (finite.get m) (sym of.1) ∙ c.at)) ∙ of.0);
+      order = λ n. ap (λ (o : Option ℕ). pointer_may m it (low_word value) o n) of.0;
+      back = λ old new c. attribute_back (other_kind m (Some (low_word value))) it number value r.before old new c.made (ap pointer_value (sym (ap (finite.get m) (sym of.1) ∙ c.at)) ∙ of.0);
     }
 parts_of m (ChangeListItem list index item) r is =
     let of = mapped list item (item_at index (finite.get m list)) r is in
@@ -129,15 +129,15 @@ item_there named index item _ new made none = cc
 
 -- a changed item had a former item
 pub item_replaced : (m : ObjectMap) (id : ℕ) (old new : Seen) (list index item : ℕ) → Changed m id old new (ChangeListItem list index item)
-    → replaced m (ChangeListItem list index item) ≡ None → ⊥
+    → replacement_by m (ChangeListItem list index item) ≡ None → ⊥
 item_replaced m id old new list index item c none =
     item_there (other_kind m (Some item)) index item old new c.made
     (sym (ap (item_at index) (ap (finite.get m) (same_Some list id c.for) ∙ c.at)) ∙ unmapped _ (item_at index (finite.get m list)) none)
 
-pub kept_none : (m n : ObjectMap) (id : ℕ) (old new : Seen) (command : Command) → Changed m id old new command → replaced m command ≡ None → keeps_order m command n ≡ true
+pub kept_none : (m n : ObjectMap) (id : ℕ) (old new : Seen) (command : Command) → Changed m id old new command → replacement_by m command ≡ None → keeps_order m command n ≡ true
 kept_none m n id old new (ChangeListItem list index item) c none = absurd (item_replaced m id old new list index item c none)
 kept_none m n id old new (ChangeNumericValue it value) c none =
-    ap (λ (o : Option ℕ). pointer_may m it (word value) o n) (unmapped _ (pointer_value (finite.get m it)) none)
+    ap (λ (o : Option ℕ). pointer_may m it (low_word value) o n) (unmapped _ (pointer_value (finite.get m it)) none)
 kept_none m n id old new (ChangeAttribute it number value) c none =
-    ap (λ (o : Option ℕ). pointer_may m it (word value) o n) (unmapped _ (pointer_value (finite.get m it)) none)
+    ap (λ (o : Option ℕ). pointer_may m it (low_word value) o n) (unmapped _ (pointer_value (finite.get m it)) none)
 kept_none m n id old new _ c none = refl

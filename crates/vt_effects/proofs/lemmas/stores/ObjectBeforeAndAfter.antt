@@ -10,7 +10,7 @@ use Rattle.vt_stores.specs.Stores.{ObjectMap}
 use Rattle.vt_commands.specs.Targets.{object_of}
 use Rattle.vt_stores.specs.Shapes.{Fixed, fixed}
 use Rattle.vt_effects.specs.Changes.{left, other_id, changed}
-use Rattle.vt_effects.specs.Effects.{missing_error, keeps_order, other_kind, put, changed_at, changed_in}
+use Rattle.vt_effects.specs.Effects.{missing_error, keeps_order, other_kind, insert_ok, changed_at, changed_in}
 use Rattle.vt_effects.proofs.lemmas.objects.KindAndReferences.{MayWrite, changes_keep, slots_after}
 
 -- the object of an ID before and after a command, before any test of the store's order
@@ -39,7 +39,7 @@ slots_made P m id old new command c before may =
 -- A property of all errors and of all stores with a changed object holds for the result of a command.
 put_case : (Q : Result ObjectMap ℕ → Type 0) (m : ObjectMap) (id : ℕ) (old : Seen) (command : Command) (made : Result Seen ℕ) → finite.get m id ≡ Some old
     → object_of command ≡ Some id → changed command (other_kind m (other_id command)) old ≡ made → ((error : ℕ) → Q (Err error))
-    → ((old new : Seen) → Changed m id old new command → Q (Ok (finite.insert m id new))) → Q (put m id made)
+    → ((old new : Seen) → Changed m id old new command → Q (Ok (finite.insert m id new))) → Q (insert_ok m id made)
 put_case Q m id old command (Err error) at for made failed done = failed error
 put_case Q m id old command (Ok new) at for made failed done = done old new (record { at = at; for = for; made = made })
 

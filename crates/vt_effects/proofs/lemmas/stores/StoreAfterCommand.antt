@@ -6,10 +6,10 @@ use Rattle.vt_commands.specs.declared.command.Command.{Command}
 use Rattle.vt_kinds.specs.Records.{Seen}
 use Rattle.vt_stores.specs.Stores.{ObjectMap, replaced, with_object}
 use Rattle.vt_effects.specs.Changes.{left, changed, HasResult}
-use Rattle.vt_effects.specs.Effects.{put, changed_at, changed_in}
+use Rattle.vt_effects.specs.Effects.{insert_ok, changed_at, changed_in}
 use Rattle.vt_effects.proofs.lemmas.stores.OneChangedObject.{put_back}
 
-settled : (m : ObjectMap) (id : ℕ) (old : Seen) (made : Result Seen ℕ) → finite.get m id ≡ Some old → finite.insert m id (left old made) ≡ left m (put m id made)
+settled : (m : ObjectMap) (id : ℕ) (old : Seen) (made : Result Seen ℕ) → finite.get m id ≡ Some old → finite.insert m id (left old made) ≡ left m (insert_ok m id made)
 settled m id old (Ok o) at = refl
 settled m id old (Err error) at = put_back m m id old at (λ q other. refl)
 
@@ -20,7 +20,7 @@ put_left m after id command named old new at wrote is =
     ∙ settled m id old (changed command named old) (sym at)
     ∙ ap (λ (f : Option Seen). left m (changed_at m id command named f)) at
 
-answers_put : (r : Result (Unit {0}) ℕ) (m : ObjectMap) (id : ℕ) (made : Result Seen ℕ) → HasResult r made → HasResult r (put m id made)
+answers_put : (r : Result (Unit {0}) ℕ) (m : ObjectMap) (id : ℕ) (made : Result Seen ℕ) → HasResult r made → HasResult r (insert_ok m id made)
 answers_put (Ok done) m id (Ok o) is = tt
 answers_put (Err error) m id (Err other) is = is
 answers_put (Ok done) m id (Err other) is = is

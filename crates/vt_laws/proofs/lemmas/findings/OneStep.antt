@@ -12,7 +12,7 @@ use Rattle.vt_node.specs.Bus.{notice_of}
 use Rattle.vt_laws.specs.UniqueSteps.{StepsAreOne}
 use Rattle.vt_server.specs.Findings.{IsJudged, IsSeen, IsFound, AreFound, IsEventOf, AreEventsOf}
 use Rattle.vt_server.specs.frame.TimeoutActs.{at_time, lapsed}
-use Rattle.vt_server.specs.operator.ActionEffects.{action_on, object_of}
+use Rattle.vt_server.specs.operator.ActionEffects.{action_on, object_acted_on}
 use Rattle.vt_server.specs.Outputs.{outputs_of}
 use Rattle.vt_server.specs.state.AddressViews.{AddressView, Act, Hears, Operates, AddressOutcome, after_action, after_operator, outcome}
 use Rattle.vt_server.specs.States.{TakesInput, TakesInputs}
@@ -55,7 +55,7 @@ behind-alike s hs ks ls alike = record {
 abbrev pub IsSeenIn : Option SetState → Option ℕ → Bool → Type 0
 IsSeenIn o object shown = IfSome object (λ id. IfSome o (λ state. Decides shown (IsShown state.objects (active_in state.objects) id)))
 
-action-one : (state : SetState) (action : ActionValue) (b d : Bool) → IsSeenIn (Some state) (object_of action) b → IsSeenIn (Some state) (object_of action) d
+action-one : (state : SetState) (action : ActionValue) (b d : Bool) → IsSeenIn (Some state) (object_acted_on action) b → IsSeenIn (Some state) (object_acted_on action) d
     → action_on state b action ≡ action_on state d action
 action-one state (Press id) b d seen too = ap (λ (x : Bool). action_on state x (Press id)) (same_from_decides b d seen too)
 action-one state (Release id) b d seen too = refl
@@ -64,19 +64,19 @@ action-one state (Number id n) b d seen too = ap (λ (x : Bool). action_on state
 action-one state (Text id text) b d seen too = ap (λ (x : Bool). action_on state x (Text id text)) (same_from_decides b d seen too)
 action-one state (actions.Set a) b d seen too = refl
 
-pub operator-one : (now a : ℕ) (p : AddressView) (action : ActionValue) (b d : Bool) (o : Option SetState) → IsSeenIn o (object_of action) b → IsSeenIn o (object_of action) d
+pub operator-one : (now a : ℕ) (p : AddressView) (action : ActionValue) (b d : Bool) (o : Option SetState) → IsSeenIn o (object_acted_on action) b → IsSeenIn o (object_acted_on action) d
     → after_operator now a p action b o ≡ after_operator now a p action d o
 operator-one now a p action b d None seen too = refl
 operator-one now a p action b d (Some state) seen too = ap (after_action now a p) (action-one state action b d seen too)
 
-shown-alike : (s : State) (o : Option ℕ) (action : ActionValue) (b d : Bool) → IsSeenIn (pool_at s o) (object_of action) b → IsSeenIn (pool_at s o) (object_of action) d
+shown-alike : (s : State) (o : Option ℕ) (action : ActionValue) (b d : Bool) → IsSeenIn (pool_at s o) (object_acted_on action) b → IsSeenIn (pool_at s o) (object_acted_on action) d
     → AreAlike s (at_shown o (Operates action b)) (at_shown o (Operates action d))
 shown-alike s None action b d seen too = same-alike s []
 shown-alike s (Some a) action b d seen too =
     one-alike s a (Operates action b) (Operates action d) (operator-one s.now a (part a s) action b d (part a s).place.content.pool seen too)
 
 -- The selection of another set needs no shown object.
-selected-seen : (s : State) (action : ActionValue) (b : Bool) → IsSeen s (object_of action) b → IsSeenIn (pool_at (selecting s action) s.shown) (object_of action) b
+selected-seen : (s : State) (action : ActionValue) (b : Bool) → IsSeen s (object_acted_on action) b → IsSeenIn (pool_at (selecting s action) s.shown) (object_acted_on action) b
 selected-seen s (Press id) b seen = seen
 selected-seen s (Release id) b seen = tt
 selected-seen s (Select id) b seen = seen
@@ -84,7 +84,7 @@ selected-seen s (Number id n) b seen = seen
 selected-seen s (Text id text) b seen = seen
 selected-seen s (actions.Set a) b seen = tt
 
-action-steps-one : (s : State) (action : ActionValue) (b d : Bool) → IsSeen s (object_of action) b → IsSeen s (object_of action) d → step_action s action b ≡ step_action s action d
+action-steps-one : (s : State) (action : ActionValue) (b d : Bool) → IsSeen s (object_acted_on action) b → IsSeen s (object_acted_on action) d → step_action s action b ≡ step_action s action d
 action-steps-one s action b d seen too =
     let alike = shown-alike (selecting s action) s.shown action b d (selected-seen s action b seen) (selected-seen s action d too) in
     ap₂ by_action alike.after alike.sent
@@ -164,7 +164,7 @@ module _ (judging : Judging) where
   shown-steps-one : (s : State) (action : ActionValue) (b d : Bool) → IsFound s (ActionAt action b) → IsFound s (ActionAt action d) → step s (ActionAt action b) ≡ step s (ActionAt action d)
   shown-steps-one s action b d found too = cases s.lost found too
     where
-      cases : (l : Bool) → (l ≡ false → IsSeen s (object_of action) b) → (l ≡ false → IsSeen s (object_of action) d)
+      cases : (l : Bool) → (l ≡ false → IsSeen s (object_acted_on action) b) → (l ≡ false → IsSeen s (object_acted_on action) d)
           → cond l (no_step s) (step_action s action b) ≡ cond l (no_step s) (step_action s action d)
       cases true seen alike = refl
       cases false seen alike = action-steps-one s action b d (seen refl) (alike refl)

@@ -13,10 +13,10 @@ use Rattle.vt_verify.specs.declared.refusal.Refusal.TheVariants as refusals
 use Rattle.vt_server.specs.Findings.{IsJudged, ends_transfer}
 use Rattle.vt_server.specs.message.MessageEffects.{Handled, TRANSFER, END_OF_POOL, handled, transferred, end_handled, asked, ends_pool}
 use Rattle.vt_node.specs.Messages.{technical_reply}
-use Rattle.vt_server.specs.state.AddressViews.{AddressView, Hears, answered, behind, after_message, outcome}
+use Rattle.vt_server.specs.state.AddressViews.{AddressView, Hears, with_reply, with_frames_first, after_message, outcome}
 use Rattle.vt_server.specs.state.AddressStates.{SetPool, heard_at}
 use Rattle.vt_server.specs.frame.SessionEffects.{came}
-use Rattle.vt_server.specs.message.Verdicts.{Verdict, Accepts, Faulty, Refuses, IsPool, IsFaulty, IsVerdict, merged, ended, end_reply, refused_pool, fault_code, refusal_reply}
+use Rattle.vt_server.specs.message.Verdicts.{Verdict, Accepts, Faulty, Refuses, IsPool, IsFaulty, IsVerdict, merged, after_verdict, end_reply, refused_pool, fault_code, refusal_reply}
 use Rattle.vt_node.specs.declared.bus.FrameMeaning.{FrameMeaning}
 use Rattle.vt_node.specs.declared.bus.FrameMeaning.TheVariants.{Claim, ClaimRequest, Master, Member, Message, Tp, Etp, Nothing}
 use Rattle.vt_kinds.specs.Ids.{null_id}
@@ -29,7 +29,7 @@ pub record Judging : Type 0 where
 
 -- Two verdicts have the same effect and the same reply.
 record AreAlike (content : SetPool) (v w : Verdict) : Type 0 where
-  pub leave : ended content v ≡ ended content w
+  pub leave : after_verdict content v ≡ after_verdict content w
   pub reply : end_reply v ≡ end_reply w
 
 -- ---- the code of a fault, and the IDs in a refusal
@@ -64,7 +64,7 @@ module _ (judging : Judging) where
   verdicts-alike content (Accepts a) (Accepts b) x y =
       let same : x.pool ≡ y.pool = pool-one content.transfer x.pool y.pool x.read y.read in
       let objects : a ≡ b = x.objects_are ∙ ap (λ (p : List PoolEntry). map_of (merged content.pool p)) same ∙ sym y.objects_are in
-      record { leave = ap (λ (o : ObjectMap). ended content (Accepts o)) objects; reply = refl }
+      record { leave = ap (λ (o : ObjectMap). after_verdict content (Accepts o)) objects; reply = refl }
   verdicts-alike content (Accepts a) (Faulty fault) x y = pool-no-fault content x.pool fault x.read y
   verdicts-alike content (Accepts a) (Refuses refusal) x y =
       let same : x.pool ≡ y.pool = pool-one content.transfer x.pool y.pool x.read y.read in
@@ -111,7 +111,7 @@ module _ (judging : Judging) where
 
   message-one : (a : ℕ) (p : AddressView) (v w : Verdict) (o : Option Set) (message : Option (List ℕ)) → (ends_transfer o message ≡ true → IsVerdict p.place.content v)
       → (ends_transfer o message ≡ true → IsVerdict p.place.content w) → after_message a p v o message ≡ after_message a p w o message
-  message-one a p v w (Some set) (Some bytes) right too = ap (answered a p) (handled-one p.place.content v w bytes right too)
+  message-one a p v w (Some set) (Some bytes) right too = ap (with_reply a p) (handled-one p.place.content v w bytes right too)
   message-one a p v w (Some set) None right too = refl
   message-one a p v w None message right too = refl
 
@@ -123,14 +123,14 @@ module _ (judging : Judging) where
   heard-one now a p (Master count) f v w judged too = refl
   heard-one now a p (Member name) f v w judged too = refl
   heard-one now a p ClaimRequest f v w judged too =
-      ap (behind []) (message-one a (record p { place = heard_at now p.place }) v w p.set None (λ e. judged e) (λ e. too e))
+      ap (with_frames_first []) (message-one a (record p { place = heard_at now p.place }) v w p.set None (λ e. judged e) (λ e. too e))
   heard-one now a p Nothing f v w judged too =
-      ap (behind []) (message-one a (record p { place = heard_at now p.place }) v w p.set None (λ e. judged e) (λ e. too e))
+      ap (with_frames_first []) (message-one a (record p { place = heard_at now p.place }) v w p.set None (λ e. judged e) (λ e. too e))
   heard-one now a p Message f v w judged too =
-      ap (behind []) (message-one a (record p { place = (came now p.terminal a (heard_at now p.place) Message f).place }) v w p.set (Some f.bytes.items) judged too)
+      ap (with_frames_first []) (message-one a (record p { place = (came now p.terminal a (heard_at now p.place) Message f).place }) v w p.set (Some f.bytes.items) judged too)
   heard-one now a p Tp f v w judged too =
       let c = came now p.terminal a (heard_at now p.place) Tp f in
-      ap (behind c.frames) (message-one a (record p { place = c.place }) v w p.set c.message judged too)
+      ap (with_frames_first c.frames) (message-one a (record p { place = c.place }) v w p.set c.message judged too)
   heard-one now a p Etp f v w judged too =
       let c = came now p.terminal a (heard_at now p.place) Etp f in
-      ap (behind c.frames) (message-one a (record p { place = c.place }) v w p.set c.message judged too)
+      ap (with_frames_first c.frames) (message-one a (record p { place = c.place }) v w p.set c.message judged too)

@@ -15,7 +15,7 @@ use Rattle.vt_node.specs.Messages.{claim_from}
 use Rattle.vt_server.specs.state.AddressViews.{AddressView, Act, Hears, Rebinds, Preloads, TpExpires, EtpExpires, SendingExpires, FallsSilent, Operates, Raises, unchanged, without_set, after_change, outcome}
 use Rattle.vt_laws.specs.Destinations.{IsToOne, IsToAll, AreAddressed, HasAddresses}
 use Rattle.vt_server.specs.Steps.{JudgedInput, FrameAt, ActionAt, step, before, changes, heard_at_source, acts, answer_to, is_lost_by, is_defended, defence, settled, sent_by_settling, losing, acting, no_step, step_frame, has_no_set, selecting, at_shown, no_set, step_action}
-use Rattle.vt_server.specs.Terminals.{State, Sent, ToOne, ToAll, part, after_act, after_acts, sent_by_act, sent_by_acts, to_address, refusal}
+use Rattle.vt_server.specs.Terminals.{State, Sent, ToOne, ToAll, part, after_act, after_acts, sent_by_act, sent_by_acts, to_address, sent_refusal}
 use Rattle.vt_server.specs.message.Verdicts.{Verdict}
 use Rattle.vt_node.specs.declared.bus.FrameMeaning.{FrameMeaning}
 use Rattle.vt_server.specs.declared.output.OperatorFault.{OperatorFault}
@@ -65,7 +65,7 @@ addressed-append : (own : ℕ) (xs ys : List Sent) → AreAddressed own xs → A
 addressed-append own [] ys first second = second
 addressed-append own (x ∷ xs) ys first second = (first.0, addressed-append own xs ys first.1 second)
 
-addressed-refusal : (own : ℕ) (o : Option OperatorFault) → AreAddressed own (refusal o)
+addressed-refusal : (own : ℕ) (o : Option OperatorFault) → AreAddressed own (sent_refusal o)
 addressed-refusal own None = tt
 addressed-refusal own (Some fault) = (tt, tt)
 
@@ -90,7 +90,7 @@ module _ (law : PartsAreIdentifiers) where
   act-sends : (s : State) (a : ℕ) (h : Act) → s.claims.own < 2 ^ 8 → a < 2 ^ 8 → AreAddressed s.claims.own (to_address a (outcome s.now a (part a s) h))
   act-sends s a h own-fits fits =
       let after = outcome s.now a (part a s) h in
-      addressed-append s.claims.own (map (ToOne a) after.frames) (refusal after.refused)
+      addressed-append s.claims.own (map (ToOne a) after.frames) (sent_refusal after.refused)
       (addressed-replies law s.claims.own a own-fits fits after.frames (outcome-replies s.now a (part a s) h))
       (addressed-refusal s.claims.own after.refused)
 

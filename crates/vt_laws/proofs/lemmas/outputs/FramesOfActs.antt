@@ -19,7 +19,7 @@ use Rattle.vt_server.specs.state.AddressViews.{AddressView, AddressOutcome, Act,
 use Rattle.vt_server.specs.state.AddressStates.{AddressState, heard_at}
 use Rattle.vt_node.specs.ReceiverResults.{taken}
 use Rattle.vt_server.specs.frame.SessionEffects.{came}
-use Rattle.vt_server.specs.Terminals.{refusal}
+use Rattle.vt_server.specs.Terminals.{sent_refusal}
 use Rattle.vt_server.specs.message.Verdicts.{Verdict}
 use Rattle.vt_node.specs.declared.bus.FrameMeaning.{FrameMeaning}
 use Rattle.vt_node.specs.declared.bus.FrameMeaning.TheVariants.{Claim, ClaimRequest, Master, Member, Message, Tp, Etp, Nothing}

@@ -22,13 +22,13 @@ use Rattle.vt_server.specs.message.MessageEffects.{handled}
 use Rattle.vt_server.specs.frame.TimeoutActs.{at_time, lapsed, sent_by_lapses, tp_due, etp_due, sending_due, after_tp_timeouts, after_etp_timeouts}
 use Rattle.vt_node.specs.Messages.{message_to, claim_from}
 use Rattle.vt_server.specs.operator.ActionEffects.{action_on, is_long, is_busy, filled, message_frames, sending_after, ran}
-use Rattle.vt_server.specs.state.AddressViews.{AddressView, AddressOutcome, Act, Hears, TpExpires, EtpExpires, SendingExpires, Operates, unchanged, without_set, after_change, after_claim_heard, after_master, after_member, after_message, behind, after_notice, refused_by, with_place, after_action, after_operator, outcome}
+use Rattle.vt_server.specs.state.AddressViews.{AddressView, AddressOutcome, Act, Hears, TpExpires, EtpExpires, SendingExpires, Operates, unchanged, without_set, after_change, after_claim_heard, after_master, after_member, after_message, with_frames_first, after_notice, refused_by, with_place, after_action, after_operator, outcome}
 use Rattle.vt_server.specs.state.AddressStates.{AddressState, heard_at, with_pool}
 use Rattle.vt_node.specs.ReceiverResults.{taken}
 use Rattle.vt_laws.specs.Destinations.{HasByte}
 use Rattle.vt_server.specs.frame.SessionEffects.{came, message_to_terminal}
 use Rattle.vt_server.specs.Steps.{JudgedInput, FrameAt, ActionAt, step, before, changes, heard_at_source, acts, answer_to, is_lost_by, is_defended, defence, settled, sent_by_settling, losing, acting, no_step, step_frame, has_no_set, selecting, at_shown, no_set, step_action}
-use Rattle.vt_server.specs.Terminals.{State, Sent, ToOne, ToAll, part, after_act, after_acts, sent_by_act, sent_by_acts, to_address, refusal}
+use Rattle.vt_server.specs.Terminals.{State, Sent, ToOne, ToAll, part, after_act, after_acts, sent_by_act, sent_by_acts, to_address, sent_refusal}
 use Rattle.vt_server.specs.message.Verdicts.{Verdict}
 use Rattle.vt_node.specs.declared.bus.FrameMeaning.{FrameMeaning}
 use Rattle.vt_node.specs.declared.bus.FrameMeaning.TheVariants.{Claim, ClaimRequest, Master, Member, Message, Tp, Etp, Nothing}
@@ -39,16 +39,16 @@ use Rattle.vt_server.proofs.lemmas.acts.ComposedActs.{sent_by_one-is}
 
 -- ---- the outputs of an act
 
-outputs-length : (a : ℕ) (after : AddressOutcome) → length (to_address a after) ≡ length after.frames + length (refusal after.refused)
+outputs-length : (a : ℕ) (after : AddressOutcome) → length (to_address a after) ≡ length after.frames + length (sent_refusal after.refused)
 outputs-length a after =
-    length-append (map (ToOne a) after.frames) (refusal after.refused)
-    ∙ ap (λ n. n + length (refusal after.refused)) (length-map after.frames (ToOne a))
+    length-append (map (ToOne a) after.frames) (sent_refusal after.refused)
+    ∙ ap (λ n. n + length (sent_refusal after.refused)) (length-map after.frames (ToOne a))
 
 -- An outcome without a refusal sends its frames alone.
 frames-few : (a n : ℕ) (after : AddressOutcome) → after.refused ≡ None → length after.frames ≤ n → length (to_address a after) ≤ n
 frames-few a n after none few =
     let is = outputs-length a after in
-    let zero-more : length (refusal after.refused) ≡ 0 = ap (λ o. length (refusal o)) none in
+    let zero-more : length (sent_refusal after.refused) ≡ 0 = ap (λ o. length (sent_refusal o)) none in
     omega arith
 
 message-few : (a : ℕ) (p : AddressView) (verdict : Verdict) (o : Option Set) (bytes : Option (List ℕ)) → length (after_message a p verdict o bytes).frames ≤ one_if bytes
@@ -90,7 +90,7 @@ came-few now own a place Etp frame small =
     omega arith
 came-few now own a place Nothing frame small = omega arith
 
-silent-none : (a : ℕ) (p : AddressView) (verdict : Verdict) (o : Option Set) → length (to_address a (behind [] (after_message a p verdict o None))) ≤ 0
+silent-none : (a : ℕ) (p : AddressView) (verdict : Verdict) (o : Option Set) → length (to_address a (with_frames_first [] (after_message a p verdict o None))) ≤ 0
 silent-none a p verdict None = omega arith
 silent-none a p verdict (Some set) = omega arith
 

@@ -15,7 +15,7 @@ use Rattle.vt_verify.specs.Triggers.{listing}
 use Rattle.vt_effects.specs.Effects.{effect}
 use Rattle.vt_effects.specs.Soundness.{shape_in}
 use Rattle.vt_machine.specs.SetStates.{SetState, working_set_in}
-use Rattle.vt_macros.specs.Machines.{events_of, joined}
+use Rattle.vt_macros.specs.Machines.{events_of, event_commands}
 use Rattle.vt_machine.specs.OperatorActions as operating
 use Rattle.vt_server.specs.message.CommandEffects.{after_done, deletes, state_after}
 use Rattle.vt_server.specs.Findings.{ends_transfer}
@@ -25,12 +25,12 @@ use Rattle.vt_server.specs.operator.ActionEffects.{action_on, is_busy, message_f
 use Rattle.vt_server.specs.state.AddressViews.{AddressView, Act, Hears, Rebinds, Preloads, TpExpires, EtpExpires, SendingExpires, FallsSilent, Operates, Raises, outcome, after_action, after_change, after_claim_heard, after_master, after_member, after_message, after_operator, raised_on, refused_by, stays_under, unchanged, with_place, without_set}
 use Rattle.vt_server.specs.state.AddressStates.{SetPool, heard_at, with_pool}
 use Rattle.vt_server.specs.frame.SessionEffects.{came}
-use Rattle.vt_server.specs.message.Verdicts.{Verdict, Accepts, Faulty, Refuses, ended}
+use Rattle.vt_server.specs.message.Verdicts.{Verdict, Accepts, Faulty, Refuses, after_verdict}
 use Rattle.vt_server.specs.declared.output.OperatorFault.TheVariants.{Busy}
 use Rattle.vt_node.specs.declared.bus.FrameMeaning.{FrameMeaning}
 use Rattle.vt_node.specs.declared.bus.FrameMeaning.TheVariants.{Claim, ClaimRequest, Master, Member, Message, Tp, Etp, Nothing}
 use Rattle.vt_laws.specs.Headline.{Run, accepted_at, accepted_with, runs_of_effect, runs_of_command, runs_of_message, runs_of_action, runs_of_operator, runs_of_event, runs_at}
-use Rattle.vt_laws.specs.RunsOfSteps.{Lead, left_by}
+use Rattle.vt_laws.specs.RunsOfSteps.{Lead, objects_after_run}
 use Rattle.vt_laws.proofs.lemmas.pools.MessagesWithoutCommands.{piece-none, end-none, asked-none}
 use Rattle.vt_laws.proofs.lemmas.runs.NoRunSticks.{one-run}
 
@@ -56,7 +56,7 @@ follows-same (Some state) = refl
 -- Two lists of runs in sequence compose.
 pub lead-append : (old mid new : ObjectMap) (rs ss : List Run) → Lead old rs mid → Lead mid ss new → Lead old (rs ++ ss) new
 lead-append old mid new [] ss first second = subst (λ (x : ObjectMap). Lead x ss new) first second
-lead-append old mid new (run ∷ rs) ss first second = (first.0, lead-append (left_by run) mid new rs ss first.1 second)
+lead-append old mid new (run ∷ rs) ss first second = (first.0, lead-append (objects_after_run run) mid new rs ss first.1 second)
 
 -- Two lists of runs in sequence compose for pools that may be removed.
 pub follows-then : (x y z : Option SetState) (rs ss : List Run) → Follows x rs y → Follows y ss z → Follows x (rs ++ ss) z
@@ -108,7 +108,7 @@ asked-follows a content function bytes (Some reply) is = unheard a content.pool 
 
 -- The end of an upload that is not accepted leaves the pool unchanged.
 ended-follows : (a : ℕ) (content : SetPool) (verdict : Verdict) (bytes : List ℕ) → ((last : Option ObjectMap) → accepted_with true verdict last ≡ last)
-    → command_at bytes ≡ None → Follows content.pool (runs_of_command a content.pool (command_at bytes)) (ended content verdict).pool
+    → command_at bytes ≡ None → Follows content.pool (runs_of_command a content.pool (command_at bytes)) (after_verdict content verdict).pool
 ended-follows a content (Accepts objects) bytes accepts none = let some : Some objects ≡ None = accepts None in absurd cc
 ended-follows a content (Faulty fault) bytes accepts none = unheard a content.pool bytes none
 ended-follows a content (Refuses refusal) bytes accepts none = unheard a content.pool bytes none
@@ -209,7 +209,7 @@ raised-leads : (a : ℕ) (state : SetState) (e : Event)
 raised-leads a state e =
     let shape = shape_in state.objects in
     let set = working_set_in state.objects in
-    (refl, one-run state.objects (budget shape set (event_number e)) (joined shape (listing set (event_number e))))
+    (refl, one-run state.objects (budget shape set (event_number e)) (event_commands shape (listing set (event_number e))))
 
 -- The pool after Activate or Deactivate is the result of its run.
 event-follows : (a event : ℕ) → (event ≡ 2) ⊎ (event ≡ 1) → (o : Option SetState) → Follows o (runs_of_event a o event) (option_map (λ state. raised_on state event) o)

@@ -20,7 +20,7 @@ use Rattle.vt_machine.specs.OperatorActions as operating
 use Rattle.vt_node.specs.Bus.{notice_of}
 use Rattle.vt_node.specs.AddressFunctions.{with_at}
 use Rattle.vt_server.specs.shown.ShownSet.{choosing, shown_now, events_of_change}
-use Rattle.vt_server.specs.frame.TimeoutActs.{at_time, lapsed, silences, silent, after_tp_timeouts, after_etp_timeouts, after_timeouts}
+use Rattle.vt_server.specs.frame.TimeoutActs.{at_time, lapsed, silences, set_is_silent, after_tp_timeouts, after_etp_timeouts, after_timeouts}
 use Rattle.vt_server.specs.operator.ActionEffects.{action_on, is_busy}
 use Rattle.vt_server.specs.state.AddressViews.{AddressView, Act, Hears, Rebinds, Preloads, TpExpires, EtpExpires, SendingExpires, FallsSilent, Operates, Raises, AddressOutcome, outcome}
 use Rattle.vt_server.specs.state.AddressStates.{AddressState}
@@ -196,7 +196,7 @@ lapsed-follows s q =
     let tp = due-follows s (λ a. is_overdue s.now (s.places a).tp) TpExpires q (λ a. tt) (λ a now p. refl) in
     let etp = due-follows t (λ a. is_overdue t.now (t.places a).etp) EtpExpires q (λ a. tt) (λ a now p. refl) in
     let sending = due-follows u (λ a. is_overdue u.now (u.places a).sending) SendingExpires q (λ a. tt) (λ a now p. refl) in
-    let silence = lapse-follows v (silences v) q (silences-plain (filter (silent v) v.sets)) (silences-none (filter (silent v) v.sets)) in
+    let silence = lapse-follows v (silences v) q (silences-plain (filter (set_is_silent v) v.sets)) (silences-none (filter (set_is_silent v) v.sets)) in
     follows-then (pool_of s q) (pool_of t q) (pool_of w q) [] [] tp
     (follows-then (pool_of t q) (pool_of u q) (pool_of w q) [] [] etp
     (follows-then (pool_of u q) (pool_of v q) (pool_of w q) [] [] sending silence))

@@ -16,7 +16,7 @@ use Rattle.vt_node.specs.Bus.{notice_of}
 use Rattle.vt_server.specs.shown.ShownSet.{choosing, shown_now, events_of_change, raised_at, ACTIVATE, DEACTIVATE}
 use Rattle.vt_server.specs.Findings.{IsJudged, IsFound, AreFound, ends_transfer}
 use Rattle.vt_laws.specs.Headline.{Pools, IsPoolInForce, ArePoolsInForce, accepted_at, accepted_with, accepted_by_acts, accepted_in_hearing, accepted_after, accepted_after_all, Run, AllEnd, DrawsWhatIsThere, EventsKeep, KeepsPromise, NeverSticks, runs_at, runs_of_acts, runs_of_settling, runs_of_hearing, runs_of_operating, runs}
-use Rattle.vt_server.specs.frame.TimeoutActs.{at_time, lapsed, silences, silent, tp_due, etp_due, sending_due, after_tp_timeouts, after_etp_timeouts, after_timeouts}
+use Rattle.vt_server.specs.frame.TimeoutActs.{at_time, lapsed, silences, set_is_silent, tp_due, etp_due, sending_due, after_tp_timeouts, after_etp_timeouts, after_timeouts}
 use Rattle.vt_server.specs.state.AddressViews.{AddressView, Act, Hears, Rebinds, Preloads, TpExpires, EtpExpires, SendingExpires, FallsSilent, Operates, Raises, AddressOutcome, outcome}
 use Rattle.vt_server.specs.state.AddressStates.{empty, AddressState}
 use Rattle.vt_server.specs.States.{TakesInputs}
@@ -164,7 +164,7 @@ module _ (laws : Laws) where
       let t = after_tp_timeouts s in
       let u = after_etp_timeouts s in
       let v = after_timeouts s in
-      acts-in-force pools v (silences v) (silences-plain (filter (silent v) v.sets))
+      acts-in-force pools v (silences v) (silences-plain (filter (set_is_silent v) v.sets))
       (acts-in-force pools u (sending_due u) (at-below IsPlain (λ a. is_overdue u.now (u.places a).sending) SendingExpires 256 (λ a lt. tt))
       (acts-in-force pools t (etp_due t) (at-below IsPlain (λ a. is_overdue t.now (t.places a).etp) EtpExpires 256 (λ a lt. tt))
       (acts-in-force pools s (tp_due s) (at-below IsPlain (λ a. is_overdue s.now (s.places a).tp) TpExpires 256 (λ a lt. tt)) is)))

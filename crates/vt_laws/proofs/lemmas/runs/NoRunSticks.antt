@@ -26,7 +26,7 @@ use Rattle.vt_effects.specs.Changes.{left}
 use Rattle.vt_effects.specs.Effects.{effect, after}
 use Rattle.vt_machine.specs.OperatorEntries.{EntriesKeepOrder, EntriesKeepShapes, number_entered, number_place, put_at, with_number, with_text, text_entered, text_place}
 use Rattle.vt_machine.specs.SetStates.{SetState, active_in, with_objects, working_set_in}
-use Rattle.vt_macros.specs.Machines.{End, total_budget, events_of, joined, run, run_of}
+use Rattle.vt_macros.specs.Machines.{End, total_budget, events_of, event_commands, run, run_of}
 use Rattle.vt_effects.specs.Soundness.{shape_in}
 use Rattle.vt_machine.specs.OperatorActions as operating
 use Rattle.vt_macros.specs.Runs.{Ends, EventsEndInTurn, IsReady, NullIsNoObject, RunsEnd, PoolsAreReady}
@@ -42,7 +42,7 @@ use Rattle.vt_server.specs.operator.ActionEffects.{action_on, is_busy}
 use Rattle.vt_server.specs.state.AddressViews.{AddressView, Act, Hears, Rebinds, Preloads, TpExpires, EtpExpires, SendingExpires, FallsSilent, Operates, Raises, AddressOutcome, outcome, after_action, after_change, after_claim_heard, after_master, after_member, after_message, after_operator, raised_on, stays_under}
 use Rattle.vt_server.specs.state.AddressStates.{SetPool, heard_at}
 use Rattle.vt_server.specs.frame.SessionEffects.{came}
-use Rattle.vt_server.specs.message.Verdicts.{Verdict, Accepts, Faulty, Refuses, IsVerdict, ended, merged, with_objects_of}
+use Rattle.vt_server.specs.message.Verdicts.{Verdict, Accepts, Faulty, Refuses, IsVerdict, after_verdict, merged, with_objects_of}
 use Rattle.vt_node.specs.declared.bus.FrameMeaning.{FrameMeaning}
 use Rattle.vt_node.specs.declared.bus.FrameMeaning.TheVariants.{Claim, ClaimRequest, Master, Member, Message, Tp, Etp, Nothing}
 use Rattle.vt_laws.proofs.lemmas.runs.AtMostThreeEvents.{few-selected, few-entered}
@@ -156,7 +156,7 @@ module _ (laws : Laws) (last : Option ObjectMap) where
   -- ---- messages
 
   ended-keeps : (content : SetPool) (verdict : Verdict) → IsEach last content.pool → IsVerdict content verdict
-      → IsEach (accepted_by verdict last) (ended content verdict).pool
+      → IsEach (accepted_by verdict last) (after_verdict content verdict).pool
   ended-keeps content (Accepts objects) is right = cases content.pool
     where
       ready : IsReady (merged content.pool right.pool) objects
@@ -265,7 +265,7 @@ module _ (laws : Laws) (last : Option ObjectMap) where
       cases : (e : Option Bool) → ActsInForce (Some (operating.select_if state id e))
       cases None = tt
       cases (Some false) = tt
-      cases (Some true) = (same-objects state (operating.selecting state id) refl is, few-selected id state.input)
+      cases (Some true) = (same-objects state (operating.selecting_input state id) refl is, few-selected id state.input)
 
   put-in-force : (state : SetState) (new : ObjectMap) → shape_in new ≡ shape_in state.objects → IsSound new → IsPoolInForce last state → IsPoolInForce last (with_objects state new)
   put-in-force state new shape sound is = with-ready state new is (moved-ready is.accepted state.objects new shape sound is.ready)
@@ -315,8 +315,8 @@ module _ (laws : Laws) (last : Option ObjectMap) where
       let shape = shape_in state.objects in
       let set = working_set_in state.objects in
       let raised = raise set e ∷ [] in
-      with-ready state (store_of (run (budget shape set (event_number e)) state.objects (joined shape (listing set (event_number e))))) is
-      (subst (IsReady is.accepted) (sym (one-run state.objects (budget shape set (event_number e)) (joined shape (listing set (event_number e)))))
+      with-ready state (store_of (run (budget shape set (event_number e)) state.objects (event_commands shape (listing set (event_number e))))) is
+      (subst (IsReady is.accepted) (sym (one-run state.objects (budget shape set (event_number e)) (event_commands shape (listing set (event_number e)))))
       (ran-ready is.accepted state.objects raised is.verified is.ready))
 
   raised-in-force : (state : SetState) (event : ℕ) → (event ≡ 2) ⊎ (event ≡ 1) → IsPoolInForce last state → IsPoolInForce last (raised_on state event)

@@ -4,7 +4,7 @@ use Rattle.std.specs.Option.{option_eq}
 use Rattle.vt_can.specs.declared.frames.frame.Frame.{Frame}
 use Rattle.vt_can.specs.frames.Frame.{source_of}
 use Rattle.vt_names.specs.Claims.{Claimed, IsRisingByName}
-use Rattle.vt_names.specs.Registry.{Set, set_at, has_place, joined}
+use Rattle.vt_names.specs.Registry.{Set, set_at, has_place, with_member}
 use Rattle.vt_node.specs.Bus.{notice_of}
 use Rattle.vt_server.specs.shown.ShownSet.{choosing, shown_now, events_of_change}
 use Rattle.vt_laws.specs.Happenings.{NameIsHeld, SetIsHeld, SetsHoldTheirAddress}
@@ -39,7 +39,7 @@ master-held : (a : ℕ) (p : AddressView) (o : Option ℕ) (count : ℕ) → p.h
 master-held a p None count e has = has
 master-held a p (Some h) count e has = e
 
-join-held : (b : Bool) (set : Set) (name : ℕ) (holder : Option ℕ) → NameIsHeld set.name holder → NameIsHeld (cond b (joined set name) set).name holder
+join-held : (b : Bool) (set : Set) (name : ℕ) (holder : Option ℕ) → NameIsHeld set.name holder → NameIsHeld (cond b (with_member set name) set).name holder
 join-held true set name holder has = has
 join-held false set name holder has = has
 

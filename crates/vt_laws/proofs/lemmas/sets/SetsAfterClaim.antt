@@ -10,7 +10,7 @@ use Rattle.vt_laws.specs.Happenings.{NameIsHeld, SetIsHeld}
 use Rattle.vt_server.specs.state.AddressViews.{Act, Hears, Rebinds, unchanged, without_set, with_holder_name, after_change, after_claim_heard}
 use Rattle.vt_server.specs.state.AddressStates.{AddressState, heard_at}
 use Rattle.vt_laws.specs.SetLists.{stays, named_at}
-use Rattle.vt_server.specs.Steps.{before, changed, changed_left, left_holder, left_by, changes_by, heard_at_source, acts}
+use Rattle.vt_server.specs.Steps.{before, rebind_acts, rebind_left_acts, left_holder, left_by, changes_by, heard_at_source, acts}
 use Rattle.vt_server.specs.Terminals.{State, holder, part, after_act, after_acts, with_set_at}
 use Rattle.vt_server.specs.message.Verdicts.{Verdict}
 use Rattle.vt_node.specs.declared.bus.FrameMeaning.TheVariants.{Claim}
@@ -162,7 +162,7 @@ module _ (u : State) (a : ℕ) (apart : AreApart u.sets) where
       ∙ ap (λ b. cond b u.sets (without a u.sets))
       (stays-name x.name (holder u x.address) (subst (NameIsHeld x.name) (same ∙ ap (holder u) (sym (set_at-address a x u.sets e))) held)))
 
-  changed-list : (was : Option ℕ) → SetIsHeld (set_at a u.sets) was → (after_acts u (changed was u a)).sets ≡ filter (only_at a (stays u)) u.sets
+  changed-list : (was : Option ℕ) → SetIsHeld (set_at a u.sets) was → (after_acts u (rebind_acts was u a)).sets ≡ filter (only_at a (stays u)) u.sets
   changed-list was held = cases (option_eq nat_eq was (holder u a)) refl
     where
       cases : (b : Bool) → option_eq nat_eq was (holder u a) ≡ b → (after_acts u (cond b [] ((a, Rebinds) ∷ []))).sets ≡ filter (only_at a (stays u)) u.sets
@@ -201,15 +201,15 @@ module _ (law : OtherHoldersStay) (s : State) (rising : IsRisingByName s.claims.
   module _ (left : Option ℕ) (elsewhere : (l : ℕ) → left ≡ Some l → l ≢ source)
       (others : (q : ℕ) → q ≢ source → left ≢ Some q → address_of s.claims.addresses name ≢ Some q) where
     abbrev u : State
-    u = after_acts t (changed_left (left_holder s left) t left)
+    u = after_acts t (rebind_left_acts (left_holder s left) t left)
 
     u-claims : u.claims ≡ t.claims
-    u-claims = claims-acts t (changed_left (left_holder s left) t left)
+    u-claims = claims-acts t (rebind_left_acts (left_holder s left) t left)
 
     left-list : u.sets ≡ filter (left_test left) s.sets
     left-list = cases left
       where
-        cases : (o : Option ℕ) → (after_acts t (changed_left (left_holder s o) t o)).sets ≡ filter (left_test o) s.sets
+        cases : (o : Option ℕ) → (after_acts t (rebind_left_acts (left_holder s o) t o)).sets ≡ filter (left_test o) s.sets
         cases None = sym (filter-all s.sets)
         cases (Some l) = changed-list t l apart (holder s l) (held l)
 
@@ -224,10 +224,10 @@ module _ (law : OtherHoldersStay) (s : State) (rising : IsRisingByName s.claims.
     u-apart = subst AreApart (sym left-list) (apart-filter (left_test left) s.sets apart)
 
     abbrev v : State
-    v = after_acts u (changed (holder s source) t source)
+    v = after_acts u (rebind_acts (holder s source) t source)
 
     v-claims : v.claims ≡ t.claims
-    v-claims = claims-acts u (changed (holder s source) t source) ∙ u-claims
+    v-claims = claims-acts u (rebind_acts (holder s source) t source) ∙ u-claims
 
     v-list : v.sets ≡ filter (only_at source (stays t)) (filter (left_test left) s.sets)
     v-list =
@@ -296,7 +296,7 @@ module _ (law : OtherHoldersStay) (s : State) (rising : IsRisingByName s.claims.
     claimed-list frame verdict =
         let last = heard_at_source s.claims.own source (Claim name) frame verdict in
         ap (λ (x : State). x.sets) (acts-append t (changes_by s t left source) last)
-        ∙ ap (λ (x : State). (after_acts x last).sets) (acts-append t (changed_left (left_holder s left) t left) (changed (holder s source) t source))
+        ∙ ap (λ (x : State). (after_acts x last).sets) (acts-append t (rebind_left_acts (left_holder s left) t left) (rebind_acts (holder s source) t source))
         ∙ last-list frame verdict
 
   by-left : (o : Option ℕ) → address_of s.claims.addresses name ≡ o → (frame : Frame) (verdict : Verdict)

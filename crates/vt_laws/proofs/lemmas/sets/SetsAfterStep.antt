@@ -5,12 +5,12 @@ use Rattle.vt_can.specs.declared.frames.frame.Frame.{Frame}
 use Rattle.vt_can.specs.frames.Frame.{source_of}
 use Rattle.vt_can.specs.lines.Actions.{ActionValue}
 use Rattle.vt_names.specs.Claims.{Claimed, OtherHoldersStay, answer, holder_of}
-use Rattle.vt_names.specs.Registry.{AreApart, Set, set_at, with_set, without, registering, joining, mastered, joined, has_place, preloaded}
+use Rattle.vt_names.specs.Registry.{AreApart, Set, set_at, with_set, without, registering, joining, mastered, with_member, has_place, preloaded}
 use Rattle.vt_node.specs.Bus.{notice_of, frame_notice, unless_echo}
 use Rattle.vt_server.specs.shown.ShownSet.{choosing, shown_now, events_of_change}
 use Rattle.vt_laws.specs.Happenings.{loses, SetIsHeld}
 use Rattle.vt_server.specs.state.StateInvariants.{IsOrderly}
-use Rattle.vt_server.specs.frame.TimeoutActs.{at_time, lapsed, silent, after_timeouts}
+use Rattle.vt_server.specs.frame.TimeoutActs.{at_time, lapsed, set_is_silent, after_timeouts}
 use Rattle.vt_node.specs.Watches.{is_silent}
 use Rattle.vt_server.specs.state.AddressViews.{AddressView, Act, Hears, Preloads, FallsSilent, Operates, after_master, after_member, after_message, outcome}
 use Rattle.vt_server.specs.state.AddressStates.{AddressState, heard_at}
@@ -71,8 +71,8 @@ unfolding lapsed
 lapsed-list s time apart =
     let t = at_time s time in
     let u = after_timeouts t in
-    falls-list (filter (silent u) u.sets) u
-    ∙ gone-filter (silent u) u.sets (subst AreApart (sym (sets-third t)) apart)
+    falls-list (filter (set_is_silent u) u.sets) u
+    ∙ gone-filter (set_is_silent u) u.sets (subst AreApart (sym (sets-third t)) apart)
     ∙ (λ i. filter
     (λ set. not (is_silent (now-third t i) (places-third t (λ (x : AddressState). x.heard) set.address (λ now b p. refl) (λ now b p. refl) (λ now b p. refl) i)))
     (sets-third t i))
@@ -137,7 +137,7 @@ member-list : (s : State) (a name : ℕ) (place : AddressState) (o : Option Set)
 member-list s a name place None e = sets-same a s.sets (set_at a s.sets) refl
 member-list s a name place (Some set) e = cases (has_place set)
   where
-    cases : (b : Bool) → with_set (cond b (joined set name) set) s.sets ≡ cond b (with_set (joined set name) s.sets) s.sets
+    cases : (b : Bool) → with_set (cond b (with_member set name) set) s.sets ≡ cond b (with_set (with_member set name) s.sets) s.sets
     cases true = refl
     cases false = sets-same a s.sets (Some set) e
 
@@ -214,7 +214,7 @@ module _ (laws : Laws) (s : State) (orderly : IsOrderly s) (is : IsSettled s) wh
     u-settled : IsSettled u
     u-settled = record {
       elsewhere =
-          (λ i. set_at (u-claims i).own (u-list i)) ∙ none-filter s.claims.own (λ set. not (silent (at_time s time) set)) s.sets is.elsewhere;
+          (λ i. set_at (u-claims i).own (u-list i)) ∙ none-filter s.claims.own (λ set. not (set_is_silent (at_time s time) set)) s.sets is.elsewhere;
       held = λ a apart. lapsed-keeps (IsHeldAt a) (act-held a) (at_time s time) (is.held a (λ h. apart (h ∙ sym (ap (λ (c : Claimed). c.own) u-claims))));
     }
 
@@ -274,7 +274,7 @@ none-joining : (q source : ℕ) (o : Option Set) (name : ℕ) (sets : List Set) 
     → set_at q (joining o name sets) ≡ None
 none-joining q source None name sets there ne none = none
 none-joining q source (Some x) name sets there ne none =
-    none-join (has_place x) q (joined x name) sets (λ h. ne (sym (set_at-address source x sets there) ∙ h)) none
+    none-join (has_place x) q (with_member x name) sets (λ h. ne (sym (set_at-address source x sets there) ∙ h)) none
 
 none-registering : (q source : ℕ) (o : Option ℕ) (count : ℕ) (sets : List Set) → source ≢ q → set_at q sets ≡ None
     → set_at q (registering source o count sets) ≡ None
@@ -320,7 +320,7 @@ none-notice own name t f sets none =
 none-by : (s t : State) (e : JudgedInput) → set_at s.claims.own s.sets ≡ None → set_at s.claims.own (sets_by s t e) ≡ None
 none-by s t (FrameAt time f verdict) none =
     let sets = heard_sets s time in
-    let still = none-filter s.claims.own (λ set. not (silent (at_time s time) set)) s.sets none in
+    let still = none-filter s.claims.own (λ set. not (set_is_silent (at_time s time) set)) s.sets none in
     cases s.lost (loses s f) sets (sets_after t (source_of f) (notice_of s.claims.own s.claims.name f) sets) still
     (none-notice s.claims.own s.claims.name t f sets still)
   where

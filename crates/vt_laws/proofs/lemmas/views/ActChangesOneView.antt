@@ -4,14 +4,14 @@ use Rattle.std.specs.Option.{option_eq}
 use Rattle.vt_can.specs.declared.frames.frame.Frame.{Frame}
 use Rattle.vt_machine.specs.SetStates.{SetState}
 use Rattle.vt_machine.specs.OperatorActions as operating
-use Rattle.vt_names.specs.Registry.{Set, set_at, with_set, without, has_place, joined, preloaded}
+use Rattle.vt_names.specs.Registry.{Set, set_at, with_set, without, has_place, with_member, preloaded}
 use Rattle.vt_can.specs.lines.Actions.{ActionValue}
 use Rattle.vt_laws.specs.Responses.{response_of, frame_to, frames_to}
 use Rattle.vt_server.specs.operator.ActionEffects.{action_on, is_busy}
 use Rattle.vt_server.specs.state.AddressViews.{AddressView, AddressOutcome, Act, Hears, Rebinds, Preloads, TpExpires, EtpExpires, SendingExpires, FallsSilent, Operates, Raises, unchanged, without_set, outcome, after_change, with_holder_name, after_claim_heard, after_master, after_member, after_message, after_action, after_operator, untimed_part}
 use Rattle.vt_server.specs.state.AddressStates.{AddressState, heard_at}
 use Rattle.vt_server.specs.frame.SessionEffects.{came}
-use Rattle.vt_server.specs.Terminals.{State, Sent, ToOne, part, after_act, after_acts, sent_by_act, sent_by_acts, to_address, refusal, with_set_at}
+use Rattle.vt_server.specs.Terminals.{State, Sent, ToOne, part, after_act, after_acts, sent_by_act, sent_by_acts, to_address, sent_refusal, with_set_at}
 use Rattle.vt_server.specs.message.Verdicts.{Verdict}
 use Rattle.vt_node.specs.declared.bus.FrameMeaning.{FrameMeaning}
 use Rattle.vt_node.specs.declared.bus.FrameMeaning.TheVariants.{Claim, ClaimRequest, Master, Member, Message, Tp, Etp, Nothing}
@@ -116,7 +116,7 @@ master-address : (a : ℕ) (p : AddressView) (o : Option ℕ) (count : ℕ) → 
 master-address a p None count has = has
 master-address a p (Some h) count has = refl
 
-join-address : (b : Bool) (set : Set) (name : ℕ) → (cond b (joined set name) set).address ≡ set.address
+join-address : (b : Bool) (set : Set) (name : ℕ) → (cond b (with_member set name) set).address ≡ set.address
 join-address true set name = refl
 join-address false set name = refl
 
@@ -213,18 +213,18 @@ frames-other a b [] ne = refl
 frames-other a b (f ∷ frames) ne =
     ap (λ c. cond c (f ∷ []) [] ++ frames_to a (map (ToOne b) frames)) (ne_eqb b a (λ h. ne (sym h))) ∙ frames-other a b frames ne
 
-frames-refusal : (a : ℕ) (o : Option OperatorFault) → frames_to a (refusal o) ≡ []
+frames-refusal : (a : ℕ) (o : Option OperatorFault) → frames_to a (sent_refusal o) ≡ []
 frames-refusal a None = refl
 frames-refusal a (Some fault) = refl
 
 frames-there : (a : ℕ) (after : AddressOutcome) → frames_to a (to_address a after) ≡ after.frames
 frames-there a after =
-    frames-append a (map (ToOne a) after.frames) (refusal after.refused)
+    frames-append a (map (ToOne a) after.frames) (sent_refusal after.refused)
     ∙ (λ i. frames-own a after.frames i ++ frames-refusal a after.refused i) ∙ append-nil after.frames
 
 frames-elsewhere : (a b : ℕ) (after : AddressOutcome) → a ≢ b → frames_to a (to_address b after) ≡ []
 frames-elsewhere a b after ne =
-    frames-append a (map (ToOne b) after.frames) (refusal after.refused)
+    frames-append a (map (ToOne b) after.frames) (sent_refusal after.refused)
     ∙ (λ i. frames-other a b after.frames ne i ++ frames-refusal a after.refused i)
 
 -- ---- the acts at an address among all acts

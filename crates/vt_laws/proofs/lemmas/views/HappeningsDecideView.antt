@@ -17,7 +17,7 @@ use Rattle.vt_laws.specs.Responses.{Response, response_of}
 use Rattle.vt_server.specs.state.StateInvariants.{IsOrderly, IsOther}
 use Rattle.vt_server.specs.frame.TimeoutActs.{at_time, lapsed}
 use Rattle.vt_node.specs.Watches.{is_silent}
-use Rattle.vt_server.specs.operator.ActionEffects.{object_of}
+use Rattle.vt_server.specs.operator.ActionEffects.{object_acted_on}
 use Rattle.vt_server.specs.state.AddressViews.{AddressView, AddressOutcome, untimed_part}
 use Rattle.vt_server.specs.frame.SessionEffects.{Came}
 use Rattle.vt_server.specs.Steps.{JudgedInput, FrameAt, ActionAt, step, hear_claim}
@@ -40,7 +40,7 @@ use Rattle.vt_names.proofs.IndexAfterClaim.{option_same}
 
 abbrev IsOwnFound : ℕ → AddressView → Happening → Type 0
 IsOwnFound a p (FrameHeard f verdict) = IsJudged 0 a p (frame_notice p.terminal f) f verdict
-IsOwnFound a p (Operated action shown) = IsSeenIn p.place.content.pool (object_of action) shown
+IsOwnFound a p (Operated action shown) = IsSeenIn p.place.content.pool (object_acted_on action) shown
 IsOwnFound a p _ = Unit {0}
 
 abbrev AreOwnFound : ℕ → AddressView → List Happening → Type 0
@@ -194,13 +194,13 @@ module _ (laws : Laws) where
       found-append a (bare a s) (lapses a t) (frame_happenings a u f verdict) (plain-found a (bare a s) (lapses a t) (lapses-plain a t))
       (subst (λ p. AreOwnFound a p (frame_happenings a u f verdict)) lapse.part (hearing-found a u f verdict apart lapse.has judged))
 
-  action-found : (a : ℕ) (s : State) (action : ActionValue) (shown : Bool) → IsSeenIn (pool_at s s.shown) (object_of action) shown
+  action-found : (a : ℕ) (s : State) (action : ActionValue) (shown : Bool) → IsSeenIn (pool_at s s.shown) (object_acted_on action) shown
       → AreOwnFound a (bare a s) (if_so (is_at a s.shown) (Operated action shown) ++ events_at a s.shown (shown_now (after_action_at s action shown)))
   action-found a s action shown seen =
       let hs = if_so (is_at a s.shown) (Operated action shown) in
       let events = events_at a s.shown (shown_now (after_action_at s action shown)) in
       found-append a (bare a s) hs events
-      (cases (is_at a s.shown) (λ here. subst (λ o. IsSeenIn (pool_at s o) (object_of action) shown) (option-true s.shown (Some a) here) seen))
+      (cases (is_at a s.shown) (λ here. subst (λ o. IsSeenIn (pool_at s o) (object_acted_on action) shown) (option-true s.shown (Some a) here) seen))
       (plain-found a (part_after_all a (bare a s) hs) events (events-plain a s.shown (shown_now (after_action_at s action shown))))
     where
       cases : (b : Bool) → (b ≡ true → IsOwnFound a (bare a s) (Operated action shown)) → AreOwnFound a (bare a s) (if_so b (Operated action shown))
@@ -243,7 +243,7 @@ module _ (judging : Judging) (a : ℕ) where
       ap (λ (o : AddressOutcome). cond p.lost (record { part = p; frames = [] }) (response_of p o)) (heard-one judging 0 a p n f v w is right)
       ∙ ap (λ (x : Frame). response a p (FrameHeard x w)) same
   response-one p (Operated x b) (Operated y d) same is too =
-      let right = subst (λ (z : ActionValue). IsSeenIn p.place.content.pool (object_of z) d) (sym same) too in
+      let right = subst (λ (z : ActionValue). IsSeenIn p.place.content.pool (object_acted_on z) d) (sym same) too in
       ap (λ (o : AddressOutcome). cond p.lost (record { part = p; frames = [] }) (response_of p o)) (operator-one 0 a p x b d p.place.content.pool is right)
       ∙ ap (λ (z : ActionValue). response a p (Operated z d)) same
   response-one p h k same is too = ap (response a p) same

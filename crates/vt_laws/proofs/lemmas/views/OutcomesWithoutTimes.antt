@@ -22,7 +22,7 @@ use Rattle.vt_names.specs.Claims.{OtherHoldersStay}
 use Rattle.vt_names.specs.Registry.{Set}
 use Rattle.vt_server.specs.message.MessageEffects.{handled}
 use Rattle.vt_server.specs.operator.ActionEffects.{action_on, fault_of, is_long, is_busy, message_frames, sending_after, ran}
-use Rattle.vt_server.specs.state.AddressViews.{AddressView, AddressOutcome, Act, Hears, Rebinds, Preloads, TpExpires, EtpExpires, SendingExpires, FallsSilent, Operates, Raises, unchanged, without_set, answered, after_change, after_claim_heard, after_master, after_member, after_message, behind, after_came, after_notice, refused_by, with_place, after_action, after_operator, outcome, untimed_part, untimed_outcome}
+use Rattle.vt_server.specs.state.AddressViews.{AddressView, AddressOutcome, Act, Hears, Rebinds, Preloads, TpExpires, EtpExpires, SendingExpires, FallsSilent, Operates, Raises, unchanged, without_set, with_reply, after_change, after_claim_heard, after_master, after_member, after_message, with_frames_first, after_came, after_notice, refused_by, with_place, after_action, after_operator, outcome, untimed_part, untimed_outcome}
 use Rattle.vt_server.specs.state.AddressStates.{AddressState, no_content, with_content, with_pool, heard_at, untimed_place}
 use Rattle.vt_node.specs.ReceiverResults.{Taken, taken, taken_of}
 use Rattle.vt_server.specs.frame.SessionEffects.{Came, came, message_to_terminal, timeout_of, sending_timeout}
@@ -87,7 +87,7 @@ module _ (p : AddressView) (x : AddressState) (alike : untimed_place p.place ≡
   message-timeless a verdict None bytes = kept-timeless p.set
   message-timeless a verdict (Some set) None = kept-timeless p.set
   message-timeless a verdict (Some set) (Some bytes) =
-      ap (λ (u : AddressState). answered a (record p { place = u }) (handled u.content verdict bytes)) alike
+      ap (λ (u : AddressState). with_reply a (record p { place = u }) (handled u.content verdict bytes)) alike
 
 -- ---- sessions
 
@@ -144,7 +144,7 @@ module _ (laws : Laws) where
   -- The outcome of a frame depends only on the effect of the frame on the sessions, without times.
   came-outcome : (a : ℕ) (p : AddressView) (verdict : Verdict) (c : Came) → untimed_outcome (after_came a p verdict c) ≡ untimed_outcome (after_came a p verdict (untimed_came c))
   came-outcome a p verdict c =
-      ap (behind c.frames) (message-timeless (record p { place = c.place }) (untimed_place c.place) (place-twice c.place) a verdict p.set c.message)
+      ap (with_frames_first c.frames) (message-timeless (record p { place = c.place }) (untimed_place c.place) (place-twice c.place) a verdict p.set c.message)
 
   carried-timeless : (now a : ℕ) (p : AddressView) (x : AddressState) → untimed_place p.place ≡ untimed_place x → (n : FrameMeaning) (frame : Frame) (verdict : Verdict)
       → untimed_outcome (after_came a p verdict (came now p.terminal a p.place n frame)) ≡ untimed_outcome (after_came a p verdict (came 0 p.terminal a x n frame))

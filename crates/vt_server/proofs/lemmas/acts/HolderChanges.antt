@@ -5,7 +5,7 @@ use Rattle.std.proofs.lemmas.Bool.{eqb-true, false≢true}
 use Rattle.std.specs.Option.{option_eq}
 use Rattle.vt_names.specs.Claims.{IsRisingByName, OtherHoldersStay, address_of}
 use Rattle.vt_server.specs.state.AddressViews.{Act, Rebinds}
-use Rattle.vt_server.specs.Steps.{before, changed, left_by, changes, changes_by}
+use Rattle.vt_server.specs.Steps.{before, rebind_acts, left_by, changes, changes_by}
 use Rattle.vt_server.specs.Terminals.{State, holder, after_acts}
 use Rattle.vt_node.specs.declared.bus.FrameMeaning.{FrameMeaning}
 use Rattle.vt_node.specs.declared.bus.FrameMeaning.TheVariants.{Claim, ClaimRequest, Master, Member, Message, Tp, Etp, Nothing}
@@ -31,17 +31,17 @@ none-either : (b : Bool) → ◌≡◌ {A = List Act} [] (cond b [] [])
 none-either true = refl
 none-either false = refl
 
-of-changed : (a b : ℕ) (was : Option ℕ) (t : State) → of a (changed was t b) ≡ cond (eqb b a) (change was (holder t b)) []
+of-changed : (a b : ℕ) (was : Option ℕ) (t : State) → of a (rebind_acts was t b) ≡ cond (eqb b a) (change was (holder t b)) []
 of-changed a b was t = cases (option_eq nat_eq was (holder t b))
   where
     cases : (x : Bool) → of a (cond x [] ((b, Rebinds) ∷ [])) ≡ cond (eqb b a) (cond x [] (Rebinds ∷ [])) []
     cases true = none-either (eqb b a)
     cases false = refl
 
-of-changed_at : (a b : ℕ) (was : Option ℕ) (t : State) → b ≡ a → of a (changed was t b) ≡ change was (holder t b)
+of-changed_at : (a b : ℕ) (was : Option ℕ) (t : State) → b ≡ a → of a (rebind_acts was t b) ≡ change was (holder t b)
 of-changed_at a b was t is = of-changed a b was t ∙ ap (λ c. cond c (change was (holder t b)) []) (eq-eqb b a is)
 
-of-changed_other : (a b : ℕ) (was : Option ℕ) (t : State) → b ≢ a → of a (changed was t b) ≡ []
+of-changed_other : (a b : ℕ) (was : Option ℕ) (t : State) → b ≢ a → of a (rebind_acts was t b) ≡ []
 of-changed_other a b was t ne = of-changed a b was t ∙ ap (λ c. cond c (change was (holder t b)) []) (ne_eqb b a ne)
 
 module _ (law : OtherHoldersStay) (s : State) (rising : IsRisingByName s.claims.addresses) (a source name : ℕ) where
@@ -62,13 +62,13 @@ module _ (law : OtherHoldersStay) (s : State) (rising : IsRisingByName s.claims.
 
   of-some : (left : ℕ) → left ≢ source → address_of s.claims.addresses name ≡ Some left → of a (changes_by s t (Some left) source) ≡ change (holder s a) (holder t a)
   of-some left apart is-left =
-      of-append a (changed (holder s left) t left) (changed (holder s source) t source)
+      of-append a (rebind_acts (holder s left) t left) (rebind_acts (holder s source) t source)
       ∙ by_eq source a
       (λ is.
       (λ i. of-changed_other a left (holder s left) t (λ e. apart (e ∙ sym is)) i ++ of-changed_at a source (holder s source) t is i)
       ∙ (λ i. change (holder s (is i)) (holder t (is i))))
-      (λ ne. ap (λ l. of a (changed (holder s left) t left) ++ l) (of-changed_other a source (holder s source) t ne)
-      ∙ append-nil (of a (changed (holder s left) t left))
+      (λ ne. ap (λ l. of a (rebind_acts (holder s left) t left) ++ l) (of-changed_other a source (holder s source) t ne)
+      ∙ append-nil (of a (rebind_acts (holder s left) t left))
       ∙ by_eq left a
       (λ here. of-changed_at a left (holder s left) t here ∙ (λ i. change (holder s (here i)) (holder t (here i))))
       (λ other. of-changed_other a left (holder s left) t other

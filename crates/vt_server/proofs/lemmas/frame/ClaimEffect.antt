@@ -8,8 +8,8 @@ use Rattle.vt_node.specs.Messages.{claim_from}
 use Rattle.vt_server.specs.Outputs.{outputs_of}
 use Rattle.vt_server.specs.state.AddressViews.{AddressView, AddressOutcome, Act, Hears, Rebinds, unchanged, with_other_set, without_set, outcome, stays_under, with_holder_name, after_change, after_claim_heard}
 use Rattle.vt_server.specs.state.AddressStates.{AddressState, no_content, with_content, heard_at}
-use Rattle.vt_server.specs.Steps.{before, changed, changed_left, left_by, left_holder, changes_by, changes, heard_at_source, acts, acted, answer_to, is_defended, defence, sent_by_frame}
-use Rattle.vt_server.specs.Terminals.{State, Sent, ToOne, ToAll, holder, part, put, refusal, after_act, after_acts, sent_by_act, sent_by_acts}
+use Rattle.vt_server.specs.Steps.{before, rebind_acts, rebind_left_acts, left_by, left_holder, changes_by, changes, heard_at_source, acts, acted, answer_to, is_defended, defence, sent_by_frame}
+use Rattle.vt_server.specs.Terminals.{State, Sent, ToOne, ToAll, holder, part, put, sent_refusal, after_act, after_acts, sent_by_act, sent_by_acts}
 use Rattle.vt_node.specs.AddressFunctions.{with_at}
 use Rattle.vt_server.specs.message.Verdicts.{Verdict}
 use Rattle.vt_node.specs.declared.bus.FrameMeaning.TheVariants.{Claim}
@@ -62,25 +62,25 @@ module _ (s : State) (a : ℕ) where
 -- ---- a change of the holder
 
 module _ (s : State) (a : ℕ) (was : Option ℕ) where
-  pub rebind-same : option_eq nat_eq was (holder s a) ≡ true → s ≡ after_acts s (changed was s a)
+  pub rebind-same : option_eq nat_eq was (holder s a) ≡ true → s ≡ after_acts s (rebind_acts was s a)
   rebind-same same = ap (λ b. after_acts s (cond b [] ((a, Rebinds) ∷ []))) (sym same)
 
   module _ (other : option_eq nat_eq was (holder s a) ≡ false) where
-    acts-changed : after_acts s (changed was s a) ≡ put a (after_change (part a s) (set_at a s.sets)) s
+    acts-changed : after_acts s (rebind_acts was s a) ≡ put a (after_change (part a s) (set_at a s.sets)) s
     acts-changed = ap (λ b. after_acts s (cond b [] ((a, Rebinds) ∷ []))) other ∙ act-is s a Rebinds
 
-    pub rebind-none : None ≡ set_at a s.sets → s ≡ after_acts s (changed was s a)
+    pub rebind-none : None ≡ set_at a s.sets → s ≡ after_acts s (rebind_acts was s a)
     rebind-none none =
         sym (acts-changed ∙ ap (λ o. put a (after_change (part a s) o) s) (sym none) ∙ put-kept a s (unchanged (part a s)) refl refl)
 
-    pub rebind-kept : (set : Set) → Some set ≡ set_at a s.sets → stays_under set.name (holder s a) ≡ true → s ≡ after_acts s (changed was s a)
+    pub rebind-kept : (set : Set) → Some set ≡ set_at a s.sets → stays_under set.name (holder s a) ≡ true → s ≡ after_acts s (rebind_acts was s a)
     rebind-kept set there keeps =
         sym (acts-changed ∙ ap (λ o. put a (after_change (part a s) o) s) (sym there)
         ∙ ap (λ b. put a (cond b (unchanged (part a s)) (without_set (part a s))) s) keeps ∙ put-kept a s (unchanged (part a s)) refl refl)
 
     pub rebind-closed : (set : Set) (sets : List Set) (places : ℕ → AddressState) → Some set ≡ set_at a s.sets → stays_under set.name (holder s a) ≡ false
         → sets ≡ without a s.sets → places ≡ with_at a (with_content (s.places a) no_content) s.places
-        → record s { sets = sets; places = places } ≡ after_acts s (changed was s a)
+        → record s { sets = sets; places = places } ≡ after_acts s (rebind_acts was s a)
     rebind-closed set sets places there closes e f =
         (λ i. record s { sets = e i; places = f i })
         ∙ sym (acts-changed ∙ ap (λ o. put a (after_change (part a s) o) s) (sym there)
@@ -88,19 +88,19 @@ module _ (s : State) (a : ℕ) (was : Option ℕ) where
 
 -- ---- the changes of holders, then the claim at its source
 
-pub changed-same : (was : Option ℕ) (s t : State) (a : ℕ) → s.claims ≡ t.claims → changed was s a ≡ changed was t a
+pub changed-same : (was : Option ℕ) (s t : State) (a : ℕ) → s.claims ≡ t.claims → rebind_acts was s a ≡ rebind_acts was t a
 changed-same was s t a e = ap (λ (c : Claimed). cond (option_eq nat_eq was (holder_of c.addresses a)) [] ((a, Rebinds) ∷ [])) e
 
 pub after-changes : (s t u v : State) (source name : ℕ) (left l h : Option ℕ) → t ≡ before s source (Claim name)
     → left ≡ left_by source (address_of s.claims.addresses name) → l ≡ left_holder s left → h ≡ holder s source
-    → u ≡ after_acts t (changed_left l t left) → v ≡ after_acts u (changed h u source)
+    → u ≡ after_acts t (rebind_left_acts l t left) → v ≡ after_acts u (rebind_acts h u source)
     → v ≡ after_acts (before s source (Claim name)) (changes s source (Claim name))
 after-changes s t u v source name left l h t-is left-is l-is h-is u-is v-is =
-    let first = changed_left l t left in
-    let second = changed h t source in
+    let first = rebind_left_acts l t left in
+    let second = rebind_acts h t source in
     let same = changed-same h u t source (ap (λ (x : State). x.claims) u-is ∙ claims-acts t first) in
     v-is ∙ ap (after_acts u) same ∙ ap (λ x. after_acts x second) u-is ∙ sym (acts-append t first second)
-    ∙ (λ i. after_acts (t-is i) (changed_left (l-is i) (t-is i) left ++ changed (h-is i) (t-is i) source))
+    ∙ (λ i. after_acts (t-is i) (rebind_left_acts (l-is i) (t-is i) left ++ rebind_acts (h-is i) (t-is i) source))
     ∙ ap (λ o. after_acts (before s source (Claim name)) (changes_by s (before s source (Claim name)) o source)) left-is
 
 -- A claim counts as a frame of its source, and the source's set takes the holder's NAME.
@@ -143,7 +143,7 @@ record IsSilent (o : AddressOutcome) : Type 0 where
   pub refused : o.refused ≡ None
 
 sent-none : (s : State) (a : ℕ) (h : Act) → IsSilent (outcome s.now a (part a s) h) → sent_by_act s a h ≡ []
-sent-none s a h silent = sent_by_one-is s a h ∙ (λ i. map (ToOne a) (silent.frames i) ++ refusal (silent.refused i))
+sent-none s a h silent = sent_by_one-is s a h ∙ (λ i. map (ToOne a) (silent.frames i) ++ sent_refusal (silent.refused i))
 
 cond-silent : (b : Bool) (p : AddressView) → IsSilent (cond b (unchanged p) (without_set p))
 cond-silent true p = record { frames = refl; refused = refl }
@@ -157,14 +157,14 @@ claim-silent : (p : AddressView) (o : Option Set) → IsSilent (after_claim_hear
 claim-silent p None = record { frames = refl; refused = refl }
 claim-silent p (Some set) = record { frames = refl; refused = refl }
 
-sent-changed : (was : Option ℕ) (s t : State) (a : ℕ) → sent_by_acts s (changed was t a) ≡ []
+sent-changed : (was : Option ℕ) (s t : State) (a : ℕ) → sent_by_acts s (rebind_acts was t a) ≡ []
 sent-changed was s t a = cases (option_eq nat_eq was (holder t a))
   where
     cases : (b : Bool) → sent_by_acts s (cond b [] ((a, Rebinds) ∷ [])) ≡ []
     cases true = refl
     cases false = append-nil (sent_by_act s a Rebinds) ∙ sent-none s a Rebinds (change-silent (part a s) (set_at a s.sets))
 
-sent-left : (was : Option ℕ) (s t : State) (left : Option ℕ) → sent_by_acts s (changed_left was t left) ≡ []
+sent-left : (was : Option ℕ) (s t : State) (left : Option ℕ) → sent_by_acts s (rebind_left_acts was t left) ≡ []
 sent-left was s t None = refl
 sent-left was s t (Some left) = sent-changed was s t left
 
@@ -186,8 +186,8 @@ sent-acts : (s : State) (source name : ℕ) (frame : Frame) (verdict : Verdict) 
 sent-acts s source name frame verdict =
     let t = before s source (Claim name) in
     let left = left_by source (address_of s.claims.addresses name) in
-    let first = changed_left (left_holder s left) t left in
-    let second = changed (holder s source) t source in
+    let first = rebind_left_acts (left_holder s left) t left in
+    let second = rebind_acts (holder s source) t source in
     both-none t (first ++ second) (heard_at_source s.claims.own source (Claim name) frame verdict)
     (both-none t first second (sent-left (left_holder s left) t t left) (sent-changed (holder s source) (after_acts t first) t source))
     (sent-heard s.claims.own source name frame verdict (after_acts t (first ++ second)))

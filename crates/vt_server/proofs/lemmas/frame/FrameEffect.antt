@@ -8,11 +8,11 @@ use Rattle.vt_names.specs.Registry.{set_at}
 use Rattle.vt_server.specs.Findings.{IsJudged, ends_transfer}
 use Rattle.vt_server.specs.frame.FrameContracts.{Handles, TakesNotice, TakesFrame, IsNoClaim}
 use Rattle.vt_server.specs.Outputs.{frames_of, outputs_of}
-use Rattle.vt_server.specs.state.AddressViews.{AddressView, AddressOutcome, Hears, after_message, after_came, after_notice, behind}
+use Rattle.vt_server.specs.state.AddressViews.{AddressView, AddressOutcome, Hears, after_message, after_came, after_notice, with_frames_first}
 use Rattle.vt_server.specs.state.AddressStates.{AddressState, heard_at}
 use Rattle.vt_server.specs.frame.SessionEffects.{Came, came}
 use Rattle.vt_server.specs.Steps.{acted, sent_by_frame, defence, heard_at_source}
-use Rattle.vt_server.specs.Terminals.{State, Sent, ToOne, part, put, refusal, to_address, after_acts, sent_by_act, sent_by_acts}
+use Rattle.vt_server.specs.Terminals.{State, Sent, ToOne, part, put, sent_refusal, to_address, after_acts, sent_by_act, sent_by_acts}
 use Rattle.vt_node.specs.AddressFunctions.{with_at}
 use Rattle.vt_server.specs.message.Verdicts.{Verdict, Faulty, IsVerdict}
 use Rattle.vt_records.specs.declared.fault.PoolFault.TheVariants as faults
@@ -54,10 +54,10 @@ module _ (s : State) (frame : Frame) (notice : FrameMeaning) (c : Came) (is : ca
   abbrev u : State
   u = with_place_at a c.place s
 
-  after-came : (v : Verdict) → after_notice s.now a (part a s) notice frame v ≡ behind c.frames (after_message a (part a u) v (part a u).set c.message)
+  after-came : (v : Verdict) → after_notice s.now a (part a s) notice frame v ≡ with_frames_first c.frames (after_message a (part a u) v (part a u).set c.message)
   after-came v =
       after-is (part a s) v ∙ ap (after_came a (part a s) v) is
-      ∙ ap (λ (p : AddressView). behind c.frames (after_message a p v p.set c.message)) (sym (part-at a c.place s))
+      ∙ ap (λ (p : AddressView). with_frames_first c.frames (after_message a p v p.set c.message)) (sym (part-at a c.place s))
 
   pub takes-came : (t : State) (reply : Option Frame) (before after : List Output) → Handles u a c.message reply t
       → after ≡ (before ++ frames_of c.frames) ++ frames_of (option_to_list reply) → TakesNotice s notice frame t before after
@@ -88,8 +88,8 @@ outputs-append xs ys = map-append _ xs ys
 
 pub accepted-frames : (a : ℕ) (o : AddressOutcome) → o.refused ≡ None → outputs_of (to_address a o) ≡ frames_of o.frames
 accepted-frames a o none =
-    outputs-append (map (ToOne a) o.frames) (refusal o.refused)
-    ∙ ap (λ r. outputs_of (map (ToOne a) o.frames) ++ outputs_of (refusal r)) none
+    outputs-append (map (ToOne a) o.frames) (sent_refusal o.refused)
+    ∙ ap (λ r. outputs_of (map (ToOne a) o.frames) ++ outputs_of (sent_refusal r)) none
     ∙ append-nil (outputs_of (map (ToOne a) o.frames)) ∙ frames-to_one a o.frames
 
 -- ---- a frame other than a claim, from the terminal's own address or another one

@@ -4,7 +4,7 @@ use Rattle.vt_can.specs.declared.frames.frame.Frame.{Frame}
 use Rattle.vt_can.specs.frames.Frame.{source_of}
 use Rattle.vt_can.specs.transport.Receivers.{HasCapacityFor}
 use Rattle.vt_names.specs.Claims.{Claimed}
-use Rattle.vt_names.specs.Registry.{Set, set_at, registering, joining, mastered, joined, has_place, with_set}
+use Rattle.vt_names.specs.Registry.{Set, set_at, registering, joining, mastered, with_member, has_place, with_set}
 use Rattle.vt_transport.specs.Protocol as tp
 use Rattle.vt_transport.specs.Wire.{tp_frame}
 use Rattle.vt_extended.specs.Protocol as etp
@@ -15,7 +15,7 @@ use Rattle.vt_server.specs.frame.FrameContracts.{FitsMessage, FitsOneFrame, Fits
 use Rattle.vt_server.specs.frame.HoldersBeforeClaim.{AreFormer}
 use Rattle.vt_server.specs.frame.TimeoutActs.{at_time, lapsed, sent_by_lapses}
 use Rattle.vt_server.specs.Outputs.{outputs_of, frames_of}
-use Rattle.vt_server.specs.state.AddressViews.{AddressView, AddressOutcome, unchanged, after_message, after_master, after_member, after_notice, behind, with_other_set}
+use Rattle.vt_server.specs.state.AddressViews.{AddressView, AddressOutcome, unchanged, after_message, after_master, after_member, after_notice, with_frames_first, with_other_set}
 use Rattle.vt_node.specs.Registries.{Watched}
 use Rattle.vt_server.specs.state.AddressStates.{SetPool, AddressState, heard_at}
 use Rattle.vt_node.specs.ReceiverResults.{taken}
@@ -72,8 +72,8 @@ takes-nothing s n frame outputs idle = record {
     p = part a s
 
     left : (n : FrameMeaning) → IsIdle n → after_notice s.now a p n frame any_verdict ≡ unchanged p
-    left notices.ClaimRequest _ = ap (behind []) (none-left a p any_verdict p.set)
-    left notices.Nothing _ = ap (behind []) (none-left a p any_verdict p.set)
+    left notices.ClaimRequest _ = ap (with_frames_first []) (none-left a p any_verdict p.set)
+    left notices.Nothing _ = ap (with_frames_first []) (none-left a p any_verdict p.set)
     left (notices.Claim name) is = absurd is
     left (notices.Master count) is = absurd is
     left (notices.Member name) is = absurd is
@@ -160,9 +160,9 @@ member-put : (s : State) (a name : ℕ) (o : Option Set) → o ≡ set_at a s.se
 member-put s a name None is = sym (put-kept a s (unchanged (part a s)) refl refl)
 member-put s a name (Some set) is = cases (has_place set)
   where
-    cases : (b : Bool) → record s { sets = cond b (with_set (joined set name) s.sets) s.sets }
-        ≡ put a (with_other_set (part a s) (Some (cond b (joined set name) set))) s
-    cases true = sym (put-set a s (with_other_set (part a s) (Some (joined set name))) refl)
+    cases : (b : Bool) → record s { sets = cond b (with_set (with_member set name) s.sets) s.sets }
+        ≡ put a (with_other_set (part a s) (Some (cond b (with_member set name) set))) s
+    cases true = sym (put-set a s (with_other_set (part a s) (Some (with_member set name))) refl)
     cases false = sym (put-kept a s (with_other_set (part a s) (Some set)) is refl)
 
 pub takes-member : (s : State) (name : ℕ) (frame : Frame) (outputs : List Output) (sets : List Set)

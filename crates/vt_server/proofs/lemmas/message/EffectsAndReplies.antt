@@ -8,11 +8,11 @@ use Rattle.vt_commands.specs.Commands.{command_at}
 use Rattle.vt_server.specs.message.CommandEffects.{content_after, error_after}
 use Rattle.vt_server.specs.Findings.{ends_transfer}
 use Rattle.vt_server.specs.message.MessageEffects.{Handled, handled, asked, commanded, transferred, end_handled, TRANSFER, END_OF_POOL}
-use Rattle.vt_server.specs.frame.FrameContracts.{HandlesMessage, IsReplyTo, begins_with, is_other, with_content_at, IsJudgedAt}
+use Rattle.vt_server.specs.frame.FrameContracts.{HandlesMessage, IsReplyTo, BeginsWithByte, is_other, with_content_at, IsJudgedAt}
 use Rattle.vt_node.specs.Messages.{message_to, technical_reply}
-use Rattle.vt_server.specs.state.AddressViews.{AddressOutcome, unchanged, answered, after_message}
+use Rattle.vt_server.specs.state.AddressViews.{AddressOutcome, unchanged, with_reply, after_message}
 use Rattle.vt_server.specs.state.AddressStates.{SetPool, AddressState, with_content}
-use Rattle.vt_server.specs.message.CommandReplies.{reply_to}
+use Rattle.vt_server.specs.message.CommandReplies.{command_reply}
 use Rattle.vt_server.specs.Terminals.{State, part, put}
 use Rattle.vt_node.specs.AddressFunctions.{with_at}
 use Rattle.vt_server.specs.message.Verdicts.{Verdict, IsVerdict}
@@ -39,11 +39,11 @@ module _ (s : State) (a : ℕ) (bytes : List ℕ) where
     pub is-commanded : (command : Command) (places : ℕ → AddressState) (found : Option ℕ) → Some command ≡ command_at bytes
         → places ≡ with_at a (with_content (s.places a) (content_after command (s.places a).content)) s.places
         → found ≡ error_after command (s.places a).content.pool
-        → IsReplyTo s a bytes (option_map (reply_to command) found) (record s { places = places })
+        → IsReplyTo s a bytes (option_map (command_reply command) found) (record s { places = places })
     is-commanded command places found is left error =
         let e = asked-is ∙ ap (commanded (s.places a).content) (sym is) in record {
           state = ap (λ (p : ℕ → AddressState). record s { places = p }) left ∙ sym (ap (λ (h : Handled). with_content_at a h.content s) e);
-          reply_is = ap (option_map (reply_to command)) error ∙ sym (ap (λ (h : Handled). h.reply) e);
+          reply_is = ap (option_map (command_reply command)) error ∙ sym (ap (λ (h : Handled). h.reply) e);
         }
 
 -- ---- a message at an address
@@ -71,13 +71,13 @@ module _ (s : State) (a : ℕ) (bytes : List ℕ) where
 
   -- With a set a message is handled.
   module _ (some : true ≡ is_some (set_at a s.sets)) where
-    heard : (verdict : Verdict) (o : Option Set) → true ≡ is_some o → answer_by verdict o ≡ answered a (part a s) (handled (s.places a).content verdict bytes)
+    heard : (verdict : Verdict) (o : Option Set) → true ≡ is_some o → answer_by verdict o ≡ with_reply a (part a s) (handled (s.places a).content verdict bytes)
     heard verdict None e = absurd (true≢false e)
     heard verdict (Some set) e = refl
 
     module _ (verdict : Verdict) (done : Handled) (is : handled (s.places a).content verdict bytes ≡ done) where
-      outcome-is : answer_by verdict (set_at a s.sets) ≡ answered a (part a s) done
-      outcome-is = heard verdict (set_at a s.sets) some ∙ ap (answered a (part a s)) is
+      outcome-is : answer_by verdict (set_at a s.sets) ≡ with_reply a (part a s) done
+      outcome-is = heard verdict (set_at a s.sets) some ∙ ap (with_reply a (part a s)) is
 
       pub answers-by : (t : State) (reply : Option Frame) → IsJudgedAt (part a s) bytes verdict
           → t ≡ with_content_at a done.content s
@@ -85,7 +85,7 @@ module _ (s : State) (a : ℕ) (bytes : List ℕ) where
       answers-by t reply judged left said = record {
         verdict = verdict;
         judged = judged;
-        state = left ∙ sym (ap (λ (o : AddressOutcome). put a o s) outcome-is ∙ put-place a s (answered a (part a s) done) refl);
+        state = left ∙ sym (ap (λ (o : AddressOutcome). put a o s) outcome-is ∙ put-place a s (with_reply a (part a s) done) refl);
         reply_is = said ∙ sym (ap (λ (o : AddressOutcome). o.frames) outcome-is);
       }
 
@@ -98,19 +98,19 @@ other-handled content verdict (byte ∷ bytes) other =
     (ne_eqb byte TRANSFER other.0)
     ∙ ap (λ b. cond b (end_handled content verdict) (asked content (byte ∷ bytes) (technical_reply (byte ∷ bytes)))) (ne_eqb byte END_OF_POOL other.1)
 
-pub piece-handled : (content : SetPool) (verdict : Verdict) (bytes : List ℕ) → begins_with TRANSFER bytes → handled content verdict bytes ≡ transferred content (drop 1 bytes)
+pub piece-handled : (content : SetPool) (verdict : Verdict) (bytes : List ℕ) → BeginsWithByte TRANSFER bytes → handled content verdict bytes ≡ transferred content (drop 1 bytes)
 piece-handled content verdict [] begins = absurd begins
 piece-handled content verdict (byte ∷ bytes) begins =
     ap (λ b. cond b (transferred content bytes) (cond (eqb byte END_OF_POOL) (end_handled content verdict) (asked content (byte ∷ bytes) (technical_reply (byte ∷ bytes)))))
     (eq-eqb byte TRANSFER begins)
 
-pub end-handled : (content : SetPool) (verdict : Verdict) (bytes : List ℕ) → begins_with END_OF_POOL bytes → handled content verdict bytes ≡ end_handled content verdict
+pub end-handled : (content : SetPool) (verdict : Verdict) (bytes : List ℕ) → BeginsWithByte END_OF_POOL bytes → handled content verdict bytes ≡ end_handled content verdict
 end-handled content verdict [] begins = absurd begins
 end-handled content verdict (byte ∷ bytes) begins =
     ap (λ (n : ℕ). handled content verdict (n ∷ bytes)) begins
 
 -- A piece of a pool does not end an upload.
-pub piece-ends_none : (o : Option Set) (bytes : List ℕ) → begins_with TRANSFER bytes → ends_transfer o (Some bytes) ≡ true → (P : Type 0) → P
+pub piece-ends_none : (o : Option Set) (bytes : List ℕ) → BeginsWithByte TRANSFER bytes → ends_transfer o (Some bytes) ≡ true → (P : Type 0) → P
 piece-ends_none None bytes begins ends P = absurd (true≢false (sym ends))
 piece-ends_none (Some set) [] begins ends P = absurd begins
 piece-ends_none (Some set) (byte ∷ bytes) begins ends P = absurd (true≢false (sym (ap (λ n. eqb n END_OF_POOL) (sym begins) ∙ ends)))

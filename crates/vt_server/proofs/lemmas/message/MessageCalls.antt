@@ -13,7 +13,7 @@ use Rattle.vt_transport.specs.Wire.{tp_frame}
 use Rattle.vt_server.specs.message.Judgements.{IsEnded}
 use Rattle.vt_server.specs.Findings.{ends_transfer}
 use Rattle.vt_server.specs.message.MessageEffects.{asked, transferred, end_handled, TRANSFER, END_OF_POOL}
-use Rattle.vt_server.specs.frame.FrameContracts.{HandlesMessage, Handles, IsReplyTo, TakesNotice, begins_with, is_other, with_content_at}
+use Rattle.vt_server.specs.frame.FrameContracts.{HandlesMessage, Handles, IsReplyTo, TakesNotice, BeginsWithByte, is_other, with_content_at}
 use Rattle.vt_node.specs.Messages.{message_to, technical_reply}
 use Rattle.vt_node.specs.Nodes.{NodeState, HasTaken, HasAnswered, tp_taken, etp_taken, sender_answer}
 use Rattle.vt_server.specs.Outputs.{frames_of}
@@ -24,7 +24,7 @@ use Rattle.vt_server.specs.frame.SessionEffects.{Came, came_tp, came_etp, messag
 use Rattle.vt_server.specs.States.{state_of, places_by}
 use Rattle.vt_server.specs.Terminals.{State, part, put}
 use Rattle.vt_node.specs.AddressFunctions.{with_at}
-use Rattle.vt_server.specs.message.Verdicts.{ended}
+use Rattle.vt_server.specs.message.Verdicts.{after_verdict}
 use Rattle.vt_server.specs.state.PoolTables.{content_of}
 use Rattle.vt_node.specs.Watches.{heard_of}
 use Rattle.vt_server.specs.declared.pools.PoolTable.{PoolTable}
@@ -52,13 +52,13 @@ contents-state t contents a x is =
 -- ---- the three kinds of messages: a piece, the end of an upload, any other
 
 module _ (s : State) (a : ℕ) (bytes : List ℕ) (some : true ≡ is_some (set_at a s.sets)) where
-  pub piece-answered : (t : State) → begins_with TRANSFER bytes → t ≡ with_content_at a (with_piece (s.places a).content (drop 1 bytes)) s → HandlesMessage s a bytes None t
+  pub piece-answered : (t : State) → BeginsWithByte TRANSFER bytes → t ≡ with_content_at a (with_piece (s.places a).content (drop 1 bytes)) s → HandlesMessage s a bytes None t
   piece-answered t begins left =
       answers-by s a bytes some any_verdict (transferred (s.places a).content (drop 1 bytes)) (piece-handled (s.places a).content any_verdict bytes begins) t None
       (λ ends. piece-ends_none (set_at a s.sets) bytes begins ends _) left refl
 
-  pub end-answered : (t : State) (judgement : Judgement) (reply : List ℕ) (new : ℕ → SetPool) → begins_with END_OF_POOL bytes
-      → (is : IsEnded (λ q. (s.places q).content) a judgement reply new) → t ≡ with_content_at a (ended (s.places a).content is.verdict) s
+  pub end-answered : (t : State) (judgement : Judgement) (reply : List ℕ) (new : ℕ → SetPool) → BeginsWithByte END_OF_POOL bytes
+      → (is : IsEnded (λ q. (s.places q).content) a judgement reply new) → t ≡ with_content_at a (after_verdict (s.places a).content is.verdict) s
       → HandlesMessage s a bytes (Some (message_to s.claims.own a reply)) t
   end-answered t judgement reply new begins is left =
       answers-by s a bytes some is.verdict (end_handled (s.places a).content is.verdict) (end-handled (s.places a).content is.verdict bytes begins) t

@@ -24,7 +24,7 @@ use Rattle.vt_shown.specs.ShownElements.{IsShown}
 use Rattle.vt_server.specs.operator.ActionContracts.{IsSeenIn, Comes, Performs, PerformsAt, IsActedOn, WouldBeRefused, IsShort, TakesAction, happens}
 use Rattle.vt_server.specs.shown.ShownSet.{pool_shown, pool_shown_by, with_pool_at}
 use Rattle.vt_node.specs.Nodes.{NodeState}
-use Rattle.vt_server.specs.operator.ActionEffects.{action_on, object_of, fault_of, is_long, message_frames, ran}
+use Rattle.vt_server.specs.operator.ActionEffects.{action_on, object_acted_on, fault_of, is_long, message_frames, ran}
 use Rattle.vt_server.specs.Outputs.{outputs_of}
 use Rattle.vt_server.specs.state.AddressViews as parts
 use Rattle.vt_server.specs.state.AddressViews.{Act, Operates, unchanged, refused_by, with_place, after_action, outcome}
@@ -160,13 +160,13 @@ module _ (s : State) (action : ActionValue) (kept : (selecting s action ≡ s) �
       (λ a at. no-action u.now a (part a u) action false (pool_of u a) (ap (λ (v : State). pool_of v a) kept.0 ∙ ap (pool_at s) (sym at) ∙ empty)) in
       record {
         shown = false;
-        seen = seen-none s (object_of action) false empty;
+        seen = seen-none s (object_acted_on action) false empty;
         state = sym kept.0 ∙ sym idle.0;
         sent = e ∙ sym (λ i. before ++ outputs_of (no_set ((kept.1 ∙ ap (λ (q : Option SetState). not (is_some q)) empty) i) ++ idle.1 i));
       }
 
   -- The outcome of an action on the shown set.
-  module _ (a : ℕ) (there : IsShownAt (pool_of s) s.shown a) (shown : Bool) (seen : IsSeenIn there.state (object_of action) shown) where
+  module _ (a : ℕ) (there : IsShownAt (pool_of s) s.shown a) (shown : Bool) (seen : IsSeenIn there.state (object_acted_on action) shown) where
     abbrev pub came : parts.AddressOutcome
     came = after_action s.now a (part a s) (action_on there.state shown action)
 
@@ -180,7 +180,7 @@ module _ (s : State) (action : ActionValue) (kept : (selecting s action ≡ s) �
         → TakesAction s action t before out
     takes after is t state before out sent = record {
       shown = shown;
-      seen = subst (λ (q : Option SetState). IfSome (object_of action) (λ id. IfSome q (λ p. Decides shown (IsShown p.objects (active_in p.objects) id)))) (sym at-pool) seen;
+      seen = subst (λ (q : Option SetState). IfSome (object_acted_on action) (λ id. IfSome q (λ p. Decides shown (IsShown p.objects (active_in p.objects) id)))) (sym at-pool) seen;
       state =
           state ∙ ap (λ (o : parts.AddressOutcome). put a o s) (sym (act-came ∙ is)) ∙ sym (act-is s a (Operates action shown))
           ∙ (λ i. after_acts (sym kept.0 i) (at_shown (sym there.at i) (Operates action shown)));

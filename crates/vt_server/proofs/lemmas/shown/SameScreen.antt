@@ -18,7 +18,7 @@ use Rattle.vt_commands.specs.declared.raising.Raised.{Raised}
 use Rattle.vt_server.specs.operator.ActionContracts.{PerformsAt}
 use Rattle.vt_server.specs.message.CommandEffects.{after_done, content_after, deletes, error_after, error_in, error_of, state_after}
 use Rattle.vt_server.specs.frame.FrameContracts.{FitsBeforeTimeouts}
-use Rattle.vt_server.specs.frame.TimeoutActs.{at_time, lapsed, silences, silent, tp_due, etp_due, sending_due, after_tp_timeouts, after_etp_timeouts, after_timeouts}
+use Rattle.vt_server.specs.frame.TimeoutActs.{at_time, lapsed, silences, set_is_silent, tp_due, etp_due, sending_due, after_tp_timeouts, after_etp_timeouts, after_timeouts}
 use Rattle.vt_server.specs.operator.ActionEffects.{action_on}
 use Rattle.vt_server.specs.state.AddressViews.{Act, AddressView, Hears, Rebinds, TpExpires, EtpExpires, SendingExpires, FallsSilent, outcome, unchanged, without_set, stays_under, after_change, after_claim_heard}
 use Rattle.vt_server.specs.state.AddressStates.{SetPool, AddressState, heard_at, no_content}
@@ -27,7 +27,7 @@ use Rattle.vt_server.specs.States.{state_of}
 use Rattle.vt_server.specs.Steps.{before, changes, heard_at_source, acts, acted}
 use Rattle.vt_server.specs.Terminals.{State, pool_of, pool_at, part, put, after_act, after_acts}
 use Rattle.vt_node.specs.AddressFunctions.{with_at}
-use Rattle.vt_server.specs.message.Verdicts.{Verdict, Accepts, Faulty, Refuses, ended, end_of_pool, end_reply}
+use Rattle.vt_server.specs.message.Verdicts.{Verdict, Accepts, Faulty, Refuses, after_verdict, end_of_pool, end_reply}
 use Rattle.vt_server.specs.state.PoolTables.{content_of}
 use Rattle.vt_node.specs.declared.bus.FrameMeaning.{FrameMeaning}
 use Rattle.vt_node.specs.declared.bus.FrameMeaning.TheVariants.{Claim}
@@ -119,7 +119,7 @@ command-same command content other = cases (deletes command) other
     cases true other = absurd (other refl)
     cases false other = refused-command command content.pool other
 
-pub end-same : (content : SetPool) (verdict : Verdict) → end_reply verdict ≢ end_of_pool 0 null_id null_id 0 → (ended content verdict).pool ≡ content.pool
+pub end-same : (content : SetPool) (verdict : Verdict) → end_reply verdict ≢ end_of_pool 0 null_id null_id 0 → (after_verdict content verdict).pool ≡ content.pool
 end-same content (Accepts objects) other = absurd (other refl)
 end-same content (Faulty fault) other = refl
 end-same content (Refuses refusal) other = refl
@@ -227,7 +227,7 @@ lapsed-stays s b =
     (acts-stay s b (tp_due s) (at-below (λ a h. ActStays h) _ TpExpires 256 (λ a lt. λ now q p. λ some. refl)))
     (acts-stay t b (etp_due t) (at-below (λ a h. ActStays h) _ EtpExpires 256 (λ a lt. λ now q p. λ some. refl))))
     (acts-stay u b (sending_due u) (at-below (λ a h. ActStays h) _ SendingExpires 256 (λ a lt. λ now q p. λ some. refl))))
-    (acts-stay v b (silences v) (silent-all (filter (silent v) v.sets)))
+    (acts-stay v b (silences v) (silent-all (filter (set_is_silent v) v.sets)))
 
 shown-lapsed : (s : State) → (lapsed s).shown ≡ s.shown
 shown-lapsed s = lapsed-keeps (λ t. t.shown ≡ s.shown) (λ t a h is. ap (λ (u : State). u.shown) (act-is t a h) ∙ is) s refl

@@ -4,7 +4,7 @@ use Rattle.std.specs.FinMap as finite
 use Rattle.vt_machine.specs.SetStates.{SetState}
 use Rattle.vt_names.specs.Registry.{Set, with_set, preloaded}
 use Rattle.vt_stores.specs.Stores.{ObjectMap}
-use Rattle.vt_server.specs.message.CommandEffects.{fresh}
+use Rattle.vt_server.specs.message.CommandEffects.{fresh_set}
 use Rattle.vt_node.specs.Nodes.{NodeState}
 use Rattle.vt_server.specs.state.AddressViews.{Preloads}
 use Rattle.vt_server.specs.state.AddressStates.{SetPool, AddressState}
@@ -15,12 +15,12 @@ use Rattle.vt_server.proofs.lemmas.acts.ComposedActs.{act-is}
 use Rattle.vt_node.proofs.ByAddress.{at-own, at-other}
 use Rattle.vt_node.proofs.ByAddress.{places-written}
 
-module _ (contents : ℕ → SetPool) (node : NodeState) (heard : ℕ → Option ℕ) (a : ℕ) (objects : ObjectMap) (pool : SetState) (is : pool ≡ fresh objects) where
+module _ (contents : ℕ → SetPool) (node : NodeState) (heard : ℕ → Option ℕ) (a : ℕ) (objects : ObjectMap) (pool : SetState) (is : pool ≡ fresh_set objects) where
   abbrev pub content_then : SetPool
   content_then = record { pool = Some pool; transfer = [] }
 
   abbrev pub place_then : AddressState
-  place_then = record (places_by contents node heard a) { content = record { pool = Some (fresh objects); transfer = [] }; heard = None }
+  place_then = record (places_by contents node heard a) { content = record { pool = Some (fresh_set objects); transfer = [] }; heard = None }
 
   pub preloaded-place : places_by (with_at a content_then contents) node (with_at a None heard) ≡ with_at a place_then (places_by contents node heard)
   preloaded-place =
@@ -46,6 +46,6 @@ module _ (contents : ℕ → SetPool) (node : NodeState) (heard : ℕ → Option
       (λ i. record s { sets = left i; places = preloaded-place i })
       ∙ (λ i. record s {
         sets = with_set (preloaded a) s.sets;
-        places = with_at a (record (sym places i a) { content = record { pool = Some (fresh objects); transfer = [] }; heard = None }) (sym places i);
+        places = with_at a (record (sym places i a) { content = record { pool = Some (fresh_set objects); transfer = [] }; heard = None }) (sym places i);
       })
       ∙ sym (act-is s a (Preloads objects))

@@ -9,7 +9,7 @@ use Rattle.vt_machine.specs.SetStates.{SetState}
 use Rattle.vt_pool.specs.PoolUploads.{Arrived}
 use Rattle.vt_node.proofs.ByAddress.{places-same, places-written, place-written}
 use Rattle.vt_server.specs.States.{places_by}
-use Rattle.vt_server.specs.state.PoolTables.{bytes_of, content_by}
+use Rattle.vt_server.specs.state.PoolTables.{bytes_arrived, content_by}
 use Rattle.vt_server.specs.Terminals.{State, part, put, after_act, with_set_at}
 use Rattle.vt_node.specs.AddressFunctions.{with_at}
 use Rattle.vt_server.proofs.lemmas.acts.ComposedActs.{sets-same, act-is}
@@ -19,22 +19,22 @@ use Rattle.vt_node.proofs.ByAddress.{at-own, at-other}
 pub contents-written : (pools : List (Option SetState)) (transfers : List (Option Arrived)) (a n m : ℕ) (pool : Option SetState) (transfer : Option Arrived)
     → n ≡ a → m ≡ a → a < length pools → a < length transfers
     → (λ (q : ℕ). content_by (slice_set pools n pool) (slice_set transfers m transfer) q)
-    ≡ with_at a (record { pool = pool; transfer = bytes_of transfer }) (content_by pools transfers)
+    ≡ with_at a (record { pool = pool; transfer = bytes_arrived transfer }) (content_by pools transfers)
 contents-written pools transfers a n m pool transfer is same within inside =
     let written = place-written pools a n pool is within in let uploaded = place-written transfers a m transfer same inside in
-    places-written a (content_by pools transfers) (content_by (slice_set pools n pool) (slice_set transfers m transfer)) (record { pool = pool; transfer = bytes_of transfer })
-    (λ i. record { pool = (ap (λ (f : ℕ → Option SetState). f a) written ∙ at-own a (λ q. get_or pools q None) pool) i; transfer = bytes_of ((ap (λ (f : ℕ → Option Arrived). f a) uploaded ∙ at-own a (λ q. get_or transfers q None) transfer) i) })
-    (λ b ne. λ i. record { pool = (ap (λ (f : ℕ → Option SetState). f b) written ∙ at-other a b (λ q. get_or pools q None) pool ne) i; transfer = bytes_of ((ap (λ (f : ℕ → Option Arrived). f b) uploaded ∙ at-other a b (λ q. get_or transfers q None) transfer ne) i) })
+    places-written a (content_by pools transfers) (content_by (slice_set pools n pool) (slice_set transfers m transfer)) (record { pool = pool; transfer = bytes_arrived transfer })
+    (λ i. record { pool = (ap (λ (f : ℕ → Option SetState). f a) written ∙ at-own a (λ q. get_or pools q None) pool) i; transfer = bytes_arrived ((ap (λ (f : ℕ → Option Arrived). f a) uploaded ∙ at-own a (λ q. get_or transfers q None) transfer) i) })
+    (λ b ne. λ i. record { pool = (ap (λ (f : ℕ → Option SetState). f b) written ∙ at-other a b (λ q. get_or pools q None) pool ne) i; transfer = bytes_arrived ((ap (λ (f : ℕ → Option Arrived). f b) uploaded ∙ at-other a b (λ q. get_or transfers q None) transfer ne) i) })
 
 -- A write of an upload at one address.
 pub upload-written : (pools : List (Option SetState)) (transfers : List (Option Arrived)) (a n : ℕ) (transfer : Option Arrived) → n ≡ a → a < length transfers
     → (λ (q : ℕ). content_by pools (slice_set transfers n transfer) q)
-    ≡ with_at a (record (content_by pools transfers a) { transfer = bytes_of transfer }) (content_by pools transfers)
+    ≡ with_at a (record (content_by pools transfers a) { transfer = bytes_arrived transfer }) (content_by pools transfers)
 upload-written pools transfers a n transfer is within =
     let uploaded = place-written transfers a n transfer is within in
-    places-written a (content_by pools transfers) (content_by pools (slice_set transfers n transfer)) (record (content_by pools transfers a) { transfer = bytes_of transfer })
-    (λ i. record { pool = get_or pools a None; transfer = bytes_of ((ap (λ (f : ℕ → Option Arrived). f a) uploaded ∙ at-own a (λ q. get_or transfers q None) transfer) i) })
-    (λ b ne. λ i. record { pool = get_or pools b None; transfer = bytes_of ((ap (λ (f : ℕ → Option Arrived). f b) uploaded ∙ at-other a b (λ q. get_or transfers q None) transfer ne) i) })
+    places-written a (content_by pools transfers) (content_by pools (slice_set transfers n transfer)) (record (content_by pools transfers a) { transfer = bytes_arrived transfer })
+    (λ i. record { pool = get_or pools a None; transfer = bytes_arrived ((ap (λ (f : ℕ → Option Arrived). f a) uploaded ∙ at-own a (λ q. get_or transfers q None) transfer) i) })
+    (λ b ne. λ i. record { pool = get_or pools b None; transfer = bytes_arrived ((ap (λ (f : ℕ → Option Arrived). f b) uploaded ∙ at-other a b (λ q. get_or transfers q None) transfer ne) i) })
 
 -- ---- states of addresses with one changed member
 

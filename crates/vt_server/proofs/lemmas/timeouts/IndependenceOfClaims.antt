@@ -1,7 +1,7 @@
 -- Timeouts and closings do not depend on the address claims.
 use Rattle.std.proofs.Common.{◌≡◌, ℕ, List, [], ◌∷◌, ◌++◌, refl, sym, ap, ◌∙◌}
 use Rattle.vt_names.specs.Claims.{Claimed}
-use Rattle.vt_server.specs.frame.TimeoutActs.{lapsed, sent_by_lapses, tp_due, etp_due, sending_due, silences, silent, after_tp_timeouts, after_etp_timeouts, after_timeouts}
+use Rattle.vt_server.specs.frame.TimeoutActs.{lapsed, sent_by_lapses, tp_due, etp_due, sending_due, silences, set_is_silent, after_tp_timeouts, after_etp_timeouts, after_timeouts}
 use Rattle.vt_server.specs.state.AddressViews.{Act, TpExpires, EtpExpires, SendingExpires, FallsSilent, AddressOutcome, outcome}
 use Rattle.vt_server.specs.Terminals.{State, part, put, to_address, after_act, after_acts, sent_by_act, sent_by_acts}
 use Rattle.vt_server.proofs.lemmas.acts.ActLists.{AllActs, all-below, all-silences}
@@ -86,7 +86,7 @@ module _ (c : Claimed) where
     unfolding lapsed
     lapsed-unclaimed =
         ap (λ (x : State). after_acts x (silences x)) third
-        ∙ acts-unclaimed v (silences v) (all-silences IsUnclaimed (silent v) v.sets silent-unclaimed) (own-acts u (sending_due u) own-u)
+        ∙ acts-unclaimed v (silences v) (all-silences IsUnclaimed (set_is_silent v) v.sets silent-unclaimed) (own-acts u (sending_due u) own-u)
 
     pub lapses-unclaimed : sent_by_lapses (with_claims c s) ≡ sent_by_lapses s
     unfolding sent_by_lapses

@@ -3,7 +3,7 @@ use Rattle.std.proofs.Common.{◌≡◌, ◌≢◌, ◌<◌, ◌≤◌, ℕ, Boo
 use Rattle.std.proofs.lemmas.Option.{same_Some}
 use Rattle.std.specs.List.{filter}
 use Rattle.vt_names.specs.Registry.{Set, is_of, set_at, without}
-use Rattle.vt_server.specs.frame.TimeoutActs.{first_silent, silent, silences}
+use Rattle.vt_server.specs.frame.TimeoutActs.{first_silent, set_is_silent, silences}
 use Rattle.vt_node.specs.Watches.{is_silent}
 use Rattle.vt_server.specs.state.AddressViews.{Act, FallsSilent}
 use Rattle.vt_server.specs.state.AddressStates.{SetPool, AddressState, no_content, with_content}
@@ -129,30 +129,30 @@ skip a t out (x ∷ sets) =
 module _ (s : State) where
   -- The first silent set is closed first.
   step : (t : State) (sets : List Set) (a : ℕ) → first_silent s sets ≡ Some a
-      → after_acts t (falls (filter (silent s) sets)) ≡ after_acts (closed a t) (falls (filter (silent s) (without a sets)))
+      → after_acts t (falls (filter (set_is_silent s) sets)) ≡ after_acts (closed a t) (falls (filter (set_is_silent s) (without a sets)))
   step t [] a first = none-some first
-  step t (x ∷ sets) a first = cases (step t sets a) (silent s x) refl first
+  step t (x ∷ sets) a first = cases (step t sets a) (set_is_silent s x) refl first
     where
-      cases : (first_silent s sets ≡ Some a → after_acts t (falls (filter (silent s) sets)) ≡ after_acts (closed a t) (falls (filter (silent s) (without a sets))))
-          → (b : Bool) → silent s x ≡ b → cond b (Some x.address) (first_silent s sets) ≡ Some a
-          → after_acts t (falls (cond b (x ∷ filter (silent s) sets) (filter (silent s) sets))) ≡ after_acts (closed a t) (falls (filter (silent s) (without a (x ∷ sets))))
+      cases : (first_silent s sets ≡ Some a → after_acts t (falls (filter (set_is_silent s) sets)) ≡ after_acts (closed a t) (falls (filter (set_is_silent s) (without a sets))))
+          → (b : Bool) → set_is_silent s x ≡ b → cond b (Some x.address) (first_silent s sets) ≡ Some a
+          → after_acts t (falls (cond b (x ∷ filter (set_is_silent s) sets) (filter (set_is_silent s) sets))) ≡ after_acts (closed a t) (falls (filter (set_is_silent s) (without a (x ∷ sets))))
       cases rest true e first =
           let is : x.address ≡ a = same_Some x.address a first in
-          ap (λ (u : State). after_acts u (falls (filter (silent s) sets))) (closed-is x.address t ∙ ap (λ b. closed b t) is)
-          ∙ skip a (closed a t) (out-own a t) (filter (silent s) sets)
-          ∙ ap (λ l. after_acts (closed a t) (falls l)) (both (λ set. not (is_of a set)) (silent s) sets)
-          ∙ ap (λ l. after_acts (closed a t) (falls (filter (silent s) l))) (sym (without-first a x sets is))
+          ap (λ (u : State). after_acts u (falls (filter (set_is_silent s) sets))) (closed-is x.address t ∙ ap (λ b. closed b t) is)
+          ∙ skip a (closed a t) (out-own a t) (filter (set_is_silent s) sets)
+          ∙ ap (λ l. after_acts (closed a t) (falls l)) (both (λ set. not (is_of a set)) (set_is_silent s) sets)
+          ∙ ap (λ l. after_acts (closed a t) (falls (filter (set_is_silent s) l))) (sym (without-first a x sets is))
       cases rest false e first =
           rest first
           ∙ by_eq x.address a
-          (λ is. ap (λ l. after_acts (closed a t) (falls (filter (silent s) l))) (sym (without-first a x sets is)))
+          (λ is. ap (λ l. after_acts (closed a t) (falls (filter (set_is_silent s) l))) (sym (without-first a x sets is)))
           (λ ne. ap (λ l. after_acts (closed a t) (falls l))
-          (sym (ap (filter (silent s)) (without-later a x sets ne)
-          ∙ ap (λ b. cond b (x ∷ filter (silent s) (without a sets)) (filter (silent s) (without a sets))) e)))
+          (sym (ap (filter (set_is_silent s)) (without-later a x sets ne)
+          ∙ ap (λ b. cond b (x ∷ filter (set_is_silent s) (without a sets)) (filter (set_is_silent s) (without a sets))) e)))
 
   pub fewer : (sets : List Set) (a : ℕ) → first_silent s sets ≡ Some a → length (without a sets) < length sets
   fewer [] a first = none-some first
-  fewer (x ∷ sets) a first = cases (fewer sets a) (silent s x) first
+  fewer (x ∷ sets) a first = cases (fewer sets a) (set_is_silent s x) first
     where
       cases : (first_silent s sets ≡ Some a → length (without a sets) < length sets)
           → (b : Bool) → cond b (Some x.address) (first_silent s sets) ≡ Some a → length (without a (x ∷ sets)) < length (x ∷ sets)
@@ -165,12 +165,12 @@ module _ (s : State) where
           (λ is. subst (λ (l : List Set). length l < length (x ∷ sets)) (sym (without-first a x sets is)) (omega arith))
           (λ ne. subst (λ (l : List Set). length l < length (x ∷ sets)) (sym (without-later a x sets ne)) (omega arith))
 
-  nothing : (sets : List Set) → first_silent s sets ≡ None → filter (silent s) sets ≡ []
+  nothing : (sets : List Set) → first_silent s sets ≡ None → filter (set_is_silent s) sets ≡ []
   nothing [] none = refl
-  nothing (x ∷ sets) none = cases (nothing sets) (silent s x) none
+  nothing (x ∷ sets) none = cases (nothing sets) (set_is_silent s x) none
     where
-      cases : (first_silent s sets ≡ None → filter (silent s) sets ≡ []) → (b : Bool) → cond b (Some x.address) (first_silent s sets) ≡ None
-          → cond b (x ∷ filter (silent s) sets) (filter (silent s) sets) ≡ []
+      cases : (first_silent s sets ≡ None → filter (set_is_silent s) sets ≡ []) → (b : Bool) → cond b (Some x.address) (first_silent s sets) ≡ None
+          → cond b (x ∷ filter (set_is_silent s) sets) (filter (set_is_silent s) sets) ≡ []
       cases rest true none = none-some (sym none)
       cases rest false none = rest none
 

@@ -19,7 +19,7 @@ use Rattle.vt_kinds.specs.declared.object.Object.{Object}
 use Rattle.vt_commands.specs.Pieces.{cut}
 use Rattle.vt_kinds.specs.Records.{Seen, seen, kind_of}
 use Rattle.vt_kinds.specs.declared.kind.Kind.{Kind}
-use Rattle.vt_stores.specs.Stores.{shown, Objects, IsRising}
+use Rattle.vt_stores.specs.Stores.{seen_entry, Objects, IsRising}
 use Rattle.vt_rank.specs.declared.graph.Item.{Item}
 use Rattle.vt_rank.specs.declared.graph.Item.TheVariants as items
 use Rattle.vt_verify.specs.declared.listing.Listing.{Listing}
@@ -28,7 +28,7 @@ use Rattle.vt_stores.specs.Shapes.{Shape, Fixed, fixed, shape_of, fixed_at}
 use Rattle.vt_commands.specs.declared.command.Command.{Command}
 use Rattle.vt_commands.specs.declared.command.Command.TheVariants.{DeletePool}
 use Rattle.vt_commands.specs.Commands.{command_at}
-use Rattle.vt_verify.specs.Macros.{Piece, bytes_in, named_macro, macros, is_whole, pieces, pieces_of, placed, cut_or_none, is_allowed, but_delete_pool, macro_command, commands_of, commands}
+use Rattle.vt_verify.specs.Macros.{Piece, macro_bytes_in, named_macro, macros, is_whole, pieces, pieces_of, with_offsets, cut_or_none, is_allowed, but_delete_pool, macro_command, commands_of, commands}
 use Rattle.vt_verify.specs.Triggers.{listing, is_mask, masks, is_event, macros_at, listed, listed_in}
 use Rattle.vt_verify.proofs.lemmas.rules.FirstFailure.{all_pass, each_of_each}
 use Rattle.vt_stores.proofs.ObjectShapes.{seen_kind}
@@ -77,19 +77,19 @@ hidden_case events false e rest = refl
 
 module _ {B : Type 0} (events : List Listing) where
   hidden_of : List (ℕ × Object B) → List ℕ
-  hidden_of es = groups_of events (map (λ mask. listing mask 4) (masks (shape_of (map shown es))))
+  hidden_of es = groups_of events (map (λ mask. listing mask 4) (masks (shape_of (map seen_entry es))))
 
   first_hidden : (e : ℕ × Object B) (es : List (ℕ × Object B))
       → hidden_of (e ∷ es) ≡ cond (is_mask (kind_of e.1)) (option_to_list (group_of_event events (listing e.0 4))) [] ++ hidden_of es
   unfolding hidden_of
   first_hidden e es =
-      hidden_case events (is_mask (kind_of (seen e.1))) (e.0, fixed (seen e.1)) (filter (λ e. is_mask e.1.kind) (shape_of (map shown es)))
+      hidden_case events (is_mask (kind_of (seen e.1))) (e.0, fixed (seen e.1)) (filter (λ e. is_mask e.1.kind) (shape_of (map seen_entry es)))
       ∙ ap (λ (kind : Kind). cond (is_mask kind) (option_to_list (group_of_event events (listing e.0 4))) [] ++ hidden_of es) (seen_kind e.1)
 
   pub next_hidden : (made : List ℕ) (es : List (ℕ × Object B)) (i : ℕ) (e : ℕ × Object B) (all : List ℕ) → i < length es → e ≡ get_or es i e
-      → made ++ groups_of events (map (λ mask. listing mask 4) (masks (shape_of (map shown (drop i es))))) ≡ all
+      → made ++ groups_of events (map (λ mask. listing mask 4) (masks (shape_of (map seen_entry (drop i es))))) ≡ all
       → (made ++ cond (is_mask (kind_of e.1)) (option_to_list (group_of_event events (listing e.0 4))) [])
-      ++ groups_of events (map (λ mask. listing mask 4) (masks (shape_of (map shown (drop (i + 1) es))))) ≡ all
+      ++ groups_of events (map (λ mask. listing mask 4) (masks (shape_of (map seen_entry (drop (i + 1) es))))) ≡ all
   unfolding hidden_of
   next_hidden made es i e all lt is left =
       moved made (cond (is_mask (kind_of e.1)) (option_to_list (group_of_event events (listing e.0 4))) []) (hidden_of (drop (i + 1) es)) all
@@ -117,17 +117,17 @@ module _ {R : Type 0} (test : R → Bool) (made : ℕ × Fixed → List R) where
 
 named_bytes : (id : ℕ) (found : Option Fixed)
     → flat_map (λ f. named_macro (id, f)) (option_to_list found)
-    ≡ map (λ bytes. (id, bytes)) (flat_map (λ f. option_to_list (bytes_in id f)) (option_to_list found))
+    ≡ map (λ bytes. (id, bytes)) (flat_map (λ f. option_to_list (macro_bytes_in id f)) (option_to_list found))
 named_bytes id None = refl
 named_bytes id (Some f) =
-    append-nil (named_macro (id, f)) ∙ ap (map (λ bytes. (id, bytes))) (sym (append-nil (option_to_list (bytes_in id f))))
+    append-nil (named_macro (id, f)) ∙ ap (map (λ bytes. (id, bytes))) (sym (append-nil (option_to_list (macro_bytes_in id f))))
 
 passed : (b : Bool) (m : ℕ × List ℕ) → cond b None (Some m) ≡ None → IsTrue b
 passed true m is = refl
 passed false m is = absurd cc
 
 pub whole_bytes : (shape : Shape) (id : ℕ) (found : Option (List ℕ)) (bytes : List ℕ) → first_failing is_whole (macros shape) ≡ None
-    → option_to_list found ≡ flat_map (λ f. option_to_list (bytes_in id f)) (option_to_list (fixed_at shape id)) → found ≡ Some bytes → IsTrue (is_some (cut bytes))
+    → option_to_list found ≡ flat_map (λ f. option_to_list (macro_bytes_in id f)) (option_to_list (fixed_at shape id)) → found ≡ Some bytes → IsTrue (is_some (cut bytes))
 whole_bytes shape id found bytes all is some =
     passed (is_some (cut bytes)) (id, bytes)
     (ap (λ (found : Option (List ℕ)). first_failing is_whole (map (λ bytes. (id, bytes)) (option_to_list found))) (sym some)
@@ -138,17 +138,17 @@ whole_bytes shape id found bytes all is some =
 -- ---- each macro command of a whole macro is a command
 
 pieces_under : (shape : Shape) (id : ℕ) (found : Option (List ℕ))
-    → option_to_list found ≡ flat_map (λ f. option_to_list (bytes_in id f)) (option_to_list (fixed_at shape id))
+    → option_to_list found ≡ flat_map (λ f. option_to_list (macro_bytes_in id f)) (option_to_list (fixed_at shape id))
     → flat_map (λ f. flat_map pieces_of (named_macro (id, f))) (option_to_list (fixed_at shape id)) ≡ flat_map pieces_of (map (λ bytes. (id, bytes)) (option_to_list found))
 pieces_under shape id found is =
     sym (each_of_each pieces_of (λ (f : Fixed). named_macro (id, f)) (option_to_list (fixed_at shape id)))
     ∙ ap (flat_map pieces_of) (named_bytes id (fixed_at shape id) ∙ ap (map (λ bytes. (id, bytes))) (sym is))
 
 pub allowed_pieces : (shape : Shape) (id : ℕ) (found : Option (List ℕ)) (bytes : List ℕ) → first_failing is_allowed (pieces shape) ≡ None
-    → option_to_list found ≡ flat_map (λ f. option_to_list (bytes_in id f)) (option_to_list (fixed_at shape id)) → found ≡ Some bytes
-    → first_failing is_allowed (placed id 0 (cut_or_none bytes)) ≡ None
+    → option_to_list found ≡ flat_map (λ f. option_to_list (macro_bytes_in id f)) (option_to_list (fixed_at shape id)) → found ≡ Some bytes
+    → first_failing is_allowed (with_offsets id 0 (cut_or_none bytes)) ≡ None
 allowed_pieces shape id found bytes all is some =
-    ap (first_failing is_allowed) (sym (append-nil (placed id 0 (cut_or_none bytes))))
+    ap (first_failing is_allowed) (sym (append-nil (with_offsets id 0 (cut_or_none bytes))))
     ∙ ap (λ (found : Option (List ℕ)). first_failing is_allowed (flat_map pieces_of (map (λ bytes. (id, bytes)) (option_to_list found)))) (sym some)
     ∙ ap (first_failing is_allowed) (sym (pieces_under shape id found is))
     ∙ passing_under is_allowed (λ e. flat_map pieces_of (named_macro e)) shape id
@@ -165,19 +165,19 @@ command_case (Some DeletePool) later cs is rest = absurd cc
 command_case (Some c) later cs is rest = ap (λ (l : List (Option Command)). Some c ∷ l) rest
 
 -- if all macro commands are allowed, their bytes read as the commands
-pub pieces_read : (id at : ℕ) (ps : List (List ℕ)) → first_failing is_allowed (placed id at ps) ≡ None
+pub pieces_read : (id at : ℕ) (ps : List (List ℕ)) → first_failing is_allowed (with_offsets id at ps) ≡ None
     → map command_at ps ≡ map Some (flat_map (λ piece. option_to_list (macro_command piece)) ps)
 pieces_read id at [] all = refl
 pieces_read id at (p ∷ ps) all =
-    let parts = allowed_case (is_some (macro_command p)) (first_failing is_allowed (placed id (at + length p) ps)) (record { id = id; at = at; bytes = p }) all in
+    let parts = allowed_case (is_some (macro_command p)) (first_failing is_allowed (with_offsets id (at + length p) ps)) (record { id = id; at = at; bytes = p }) all in
     command_case (command_at p) (map command_at ps) (flat_map (λ piece. option_to_list (macro_command piece)) ps) parts.0 (pieces_read id (at + length p) ps parts.1)
 
 -- the bytes of a macro have its commands
 pub commands_found : (shape : Shape) (id : ℕ) (found : Option (List ℕ))
-    → option_to_list found ≡ flat_map (λ f. option_to_list (bytes_in id f)) (option_to_list (fixed_at shape id)) → flat_map commands_of (option_to_list found) ≡ commands shape id
+    → option_to_list found ≡ flat_map (λ f. option_to_list (macro_bytes_in id f)) (option_to_list (fixed_at shape id)) → flat_map commands_of (option_to_list found) ≡ commands shape id
 unfolding commands
 commands_found shape id found is =
-    ap (flat_map commands_of) is ∙ each_of_each commands_of (λ (f : Fixed). option_to_list (bytes_in id f)) (option_to_list (fixed_at shape id))
+    ap (flat_map commands_of) is ∙ each_of_each commands_of (λ (f : Fixed). option_to_list (macro_bytes_in id f)) (option_to_list (fixed_at shape id))
 
 -- ---- the numbers of events, in order
 
@@ -274,37 +274,37 @@ others q (e ∷ shape) all =
     ∙ neither (has (events_of e) q) (has (flat_map events_of shape) q) (other_events q e.0 e.1 event_numbers all.0) (others q shape all.1)
 
 module _ {B : Type 0} where
-  below_at : (a : ℕ) (es : List (ℕ × Object B)) (i : ℕ) (e : ℕ × Object B) → i < length es → e ≡ get_or es i e → IsTrue (below_all nat_cmp a (map shown es)) → a < e.0
+  below_at : (a : ℕ) (es : List (ℕ × Object B)) (i : ℕ) (e : ℕ × Object B) → i < length es → e ≡ get_or es i e → IsTrue (below_all nat_cmp a (map seen_entry es)) → a < e.0
   below_at a [] i e lt is all = absurd (omega arith)
   below_at a (x ∷ es) zero e lt is all =
-      let parts = both_true (is_lt (nat_cmp a x.0)) (below_all nat_cmp a (map shown es)) all in
+      let parts = both_true (is_lt (nat_cmp a x.0)) (below_all nat_cmp a (map seen_entry es)) all in
       subst (λ (e : ℕ × Object B). a < e.0) (sym is) (is_below a x.0 (three a x.0) parts.0)
   below_at a (x ∷ es) (suc i) e lt is all =
-      let parts = both_true (is_lt (nat_cmp a x.0)) (below_all nat_cmp a (map shown es)) all in
+      let parts = both_true (is_lt (nat_cmp a x.0)) (below_all nat_cmp a (map seen_entry es)) all in
       below_at a es i e (omega arith) is parts.1
 
-  apart : (es : List (ℕ × Object B)) (i : ℕ) (e : ℕ × Object B) → i < length es → e ≡ get_or es i e → IsRising (map shown es)
-      → AllByRecursion (λ x. nat_eq e.0 x.0 ≡ false) (shape_of (map shown (take i es)))
+  apart : (es : List (ℕ × Object B)) (i : ℕ) (e : ℕ × Object B) → i < length es → e ≡ get_or es i e → IsRising (map seen_entry es)
+      → AllByRecursion (λ x. nat_eq e.0 x.0 ≡ false) (shape_of (map seen_entry (take i es)))
   apart [] i e lt is rising = absurd (omega arith)
   apart (x ∷ es) zero e lt is rising = tt
   apart (x ∷ es) (suc i) e lt is rising =
-      let parts = both_true (below_all nat_cmp x.0 (map shown es)) (finite.is_sorted nat_cmp (map shown es)) rising in
+      let parts = both_true (below_all nat_cmp x.0 (map seen_entry es)) (finite.is_sorted nat_cmp (map seen_entry es)) rising in
       let less = below_at x.0 es i e (omega arith) is parts.0 in
       (ne_eqb e.0 x.0 (λ alike. absurd (omega (arith, alike))), apart es i e (omega arith) is parts.1)
 
-  pub not_yet : (es : List (ℕ × Object B)) (i : ℕ) (e : ℕ × Object B) (event : ℕ) → i < length es → e ≡ get_or es i e → IsRising (map shown es)
-      → has (flat_map events_of (shape_of (map shown (take i es)))) (listing e.0 event) ≡ false
-  not_yet es i e event lt is rising = others (listing e.0 event) (shape_of (map shown (take i es))) (apart es i e lt is rising)
+  pub not_yet : (es : List (ℕ × Object B)) (i : ℕ) (e : ℕ × Object B) (event : ℕ) → i < length es → e ≡ get_or es i e → IsRising (map seen_entry es)
+      → has (flat_map events_of (shape_of (map seen_entry (take i es)))) (listing e.0 event) ≡ false
+  not_yet es i e event lt is rising = others (listing e.0 event) (shape_of (map seen_entry (take i es))) (apart es i e lt is rising)
 
   -- the list of one more object comes last
   pub one_more : {A : Type 0} (F : ℕ × Fixed → List A) (es : List (ℕ × Object B)) (i : ℕ) (e : ℕ × Object B) → i < length es → e ≡ get_or es i e
-      → flat_map F (shape_of (map shown (take (i + 1) es))) ≡ flat_map F (shape_of (map shown (take i es))) ++ F (e.0, fixed (seen e.1))
+      → flat_map F (shape_of (map seen_entry (take (i + 1) es))) ≡ flat_map F (shape_of (map seen_entry (take i es))) ++ F (e.0, fixed (seen e.1))
   one_more F es i e lt is =
-      ap (λ (xs : List (ℕ × Object B)). flat_map F (shape_of (map shown xs))) (take_more es i e lt ∙ ap (λ (x : ℕ × Object B). take i es ++ x ∷ []) (sym is))
-      ∙ ap (λ (objects : Objects). flat_map F (shape_of objects)) (map-append shown (take i es) (e ∷ []))
-      ∙ ap (flat_map F) (map-append (λ (e : ℕ × Seen). (e.0, fixed e.1)) (map shown (take i es)) (shown e ∷ []))
-      ∙ flat_map-append F (shape_of (map shown (take i es))) ((e.0, fixed (seen e.1)) ∷ [])
-      ∙ ap (λ more. flat_map F (shape_of (map shown (take i es))) ++ more) (append-nil (F (e.0, fixed (seen e.1))))
+      ap (λ (xs : List (ℕ × Object B)). flat_map F (shape_of (map seen_entry xs))) (take_more es i e lt ∙ ap (λ (x : ℕ × Object B). take i es ++ x ∷ []) (sym is))
+      ∙ ap (λ (objects : Objects). flat_map F (shape_of objects)) (map-append seen_entry (take i es) (e ∷ []))
+      ∙ ap (flat_map F) (map-append (λ (e : ℕ × Seen). (e.0, fixed e.1)) (map seen_entry (take i es)) (seen_entry e ∷ []))
+      ∙ flat_map-append F (shape_of (map seen_entry (take i es))) ((e.0, fixed (seen e.1)) ∷ [])
+      ∙ ap (λ more. flat_map F (shape_of (map seen_entry (take i es))) ++ more) (append-nil (F (e.0, fixed (seen e.1))))
 
 -- ---- the events found are those at which macros are listed
 

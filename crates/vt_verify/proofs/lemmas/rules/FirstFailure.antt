@@ -5,7 +5,7 @@ use Rattle.std.proofs.lemmas.Grind.{flat_map-append}
 use Rattle.std.specs.List.{flat_map}
 use Rattle.vt_kinds.specs.declared.object.Object.{Object}
 use Rattle.vt_kinds.specs.Records.{Seen}
-use Rattle.vt_stores.specs.Stores.{shown, Objects}
+use Rattle.vt_stores.specs.Stores.{seen_entry, Objects}
 use Rattle.std.specs.Option.{option_map}
 use Rattle.vt_verify.specs.Lists.{first_failing}
 use Rattle.vt_stores.specs.Shapes.{Fixed, fixed, shape_of}
@@ -46,31 +46,31 @@ module _ {R : Type 0} (test : R → Bool) where
   module _ {B : Type 0} (list : ℕ × Seen → List R) where
     -- the remaining list begins with the list of the next object
     next : (items : List (ℕ × Object B)) (i : ℕ) (item : ℕ × Object B) → i < length items → item ≡ get_or items i item
-        → flat_map list (map shown (drop i items)) ≡ list (shown item) ++ flat_map list (map shown (drop (i + 1) items))
+        → flat_map list (map seen_entry (drop i items)) ≡ list (seen_entry item) ++ flat_map list (map seen_entry (drop (i + 1) items))
     next items i item lt is =
         let one : suc i ≡ i + 1 = omega arith in
-        ap (λ (l : List (ℕ × Object B)). flat_map list (map shown l)) (drop-cons items i item lt)
-        ∙ ap (λ (x : ℕ × Object B). list (shown x) ++ flat_map list (map shown (drop (suc i) items))) (sym is)
-        ∙ ap (λ (k : ℕ). list (shown item) ++ flat_map list (map shown (drop k items))) one
+        ap (λ (l : List (ℕ × Object B)). flat_map list (map seen_entry l)) (drop-cons items i item lt)
+        ∙ ap (λ (x : ℕ × Object B). list (seen_entry x) ++ flat_map list (map seen_entry (drop (suc i) items))) (sym is)
+        ∙ ap (λ (k : ℕ). list (seen_entry item) ++ flat_map list (map seen_entry (drop k items))) one
 
     pub all_pass_at : (items : List (ℕ × Object B)) (i : ℕ) (item : ℕ × Object B) → i < length items → item ≡ get_or items i item
-        → first_failing test (flat_map list (map shown (drop i items))) ≡ None
-        → (first_failing test (list (shown item)) ≡ None) × (first_failing test (flat_map list (map shown (drop (i + 1) items))) ≡ None)
+        → first_failing test (flat_map list (map seen_entry (drop i items))) ≡ None
+        → (first_failing test (list (seen_entry item)) ≡ None) × (first_failing test (flat_map list (map seen_entry (drop (i + 1) items))) ≡ None)
     all_pass_at items i item lt is all =
-        all_pass (list (shown item)) _ (sym (ap (first_failing test) (next items i item lt is)) ∙ all)
+        all_pass (list (seen_entry item)) _ (sym (ap (first_failing test) (next items i item lt is)) ∙ all)
 
     pub fails_at : (all : Option R) (items : List (ℕ × Object B)) (i : ℕ) (item : ℕ × Object B) (r : R) (found : Option R) → i < length items → item ≡ get_or items i item
-        → all ≡ first_failing test (flat_map list (map shown (drop i items))) → found ≡ first_failing test (list (shown item)) → found ≡ Some r → all ≡ Some r
+        → all ≡ first_failing test (flat_map list (map seen_entry (drop i items))) → found ≡ first_failing test (list (seen_entry item)) → found ≡ Some r → all ≡ Some r
     fails_at all items i item r found lt is left fails some =
         left ∙ ap (first_failing test) (next items i item lt is)
-        ∙ fails_in (list (shown item)) _ r (sym fails ∙ some)
+        ∙ fails_in (list (seen_entry item)) _ r (sym fails ∙ some)
 
     pub passes_at : (all : Option R) (items : List (ℕ × Object B)) (i : ℕ) (item : ℕ × Object B) (found : Option R) → i < length items → item ≡ get_or items i item
-        → all ≡ first_failing test (flat_map list (map shown (drop i items))) → found ≡ first_failing test (list (shown item)) → found ≡ None
-        → all ≡ first_failing test (flat_map list (map shown (drop (i + 1) items)))
+        → all ≡ first_failing test (flat_map list (map seen_entry (drop i items))) → found ≡ first_failing test (list (seen_entry item)) → found ≡ None
+        → all ≡ first_failing test (flat_map list (map seen_entry (drop (i + 1) items)))
     passes_at all items i item found lt is left fails none =
         left ∙ ap (first_failing test) (next items i item lt is)
-        ∙ passes_in (list (shown item)) _ (sym fails ∙ none)
+        ∙ passes_in (list (seen_entry item)) _ (sym fails ∙ none)
 
 -- ---- a result made of the failing element
 
@@ -86,20 +86,20 @@ module _ {R S : Type 0} (test : R → Bool) (told : R → S) where
 
   module _ {B : Type 0} (list : ℕ × Seen → List R) where
     pub told_fails : (all : Option S) (items : List (ℕ × Object B)) (i : ℕ) (item : ℕ × Object B) (s : S) (found : Option S) → i < length items → item ≡ get_or items i item
-        → all ≡ option_map told (first_failing test (flat_map list (map shown (drop i items)))) → found ≡ option_map told (first_failing test (list (shown item))) → found ≡ Some s → all ≡ Some s
+        → all ≡ option_map told (first_failing test (flat_map list (map seen_entry (drop i items)))) → found ≡ option_map told (first_failing test (list (seen_entry item))) → found ≡ Some s → all ≡ Some s
     told_fails all items i item s found lt is left fails some =
         left ∙ ap (λ (rs : List R). option_map told (first_failing test rs)) (next test list items i item lt is)
-        ∙ fails_case (first_failing test (list (shown item))) (first_failing test (list (shown item) ++ flat_map list (map shown (drop (i + 1) items)))) found s
-        (λ r. fails_in test (list (shown item)) _ r) fails some
+        ∙ fails_case (first_failing test (list (seen_entry item))) (first_failing test (list (seen_entry item) ++ flat_map list (map seen_entry (drop (i + 1) items)))) found s
+        (λ r. fails_in test (list (seen_entry item)) _ r) fails some
 
     pub told_passes : (all : Option S) (items : List (ℕ × Object B)) (i : ℕ) (item : ℕ × Object B) (found : Option S) → i < length items → item ≡ get_or items i item
-        → all ≡ option_map told (first_failing test (flat_map list (map shown (drop i items)))) → found ≡ option_map told (first_failing test (list (shown item))) → found ≡ None
-        → all ≡ option_map told (first_failing test (flat_map list (map shown (drop (i + 1) items))))
+        → all ≡ option_map told (first_failing test (flat_map list (map seen_entry (drop i items)))) → found ≡ option_map told (first_failing test (list (seen_entry item))) → found ≡ None
+        → all ≡ option_map told (first_failing test (flat_map list (map seen_entry (drop (i + 1) items))))
     told_passes all items i item found lt is left fails none =
         left ∙ ap (λ (rs : List R). option_map told (first_failing test rs)) (next test list items i item lt is)
         ∙ ap (option_map told)
-        (passes_case (first_failing test (list (shown item))) _ (first_failing test (flat_map list (map shown (drop (i + 1) items)))) found
-        (passes_in test (list (shown item)) _) fails none)
+        (passes_case (first_failing test (list (seen_entry item))) _ (first_failing test (flat_map list (map seen_entry (drop (i + 1) items)))) found
+        (passes_in test (list (seen_entry item)) _) fails none)
 
 -- ---- lists made of the shape of objects
 

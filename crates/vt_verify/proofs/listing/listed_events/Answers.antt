@@ -1,7 +1,7 @@
 use Rattle.std.proofs.Common.{ℕ, List, ◌++◌, ◌≤◌, length, map, sym, ap, ap₂, refl, subst, ◌∙◌, arith}
 use Rattle.std.proofs.lemmas.List.{take_all}
 use Rattle.std.specs.List.{flat_map}
-use Rattle.vt_stores.specs.Stores.{shown, Objects, IsRising}
+use Rattle.vt_stores.specs.Stores.{seen_entry, Objects, IsRising}
 use Rattle.vt_verify.specs.declared.listing.Listing.{Listing}
 use Rattle.vt_stores.specs.Shapes.{shape_of}
 use Rattle.vt_verify.specs.Triggers.{listing}
@@ -35,7 +35,7 @@ returns-clause-events c =
     let items = c.entries-id-items.result.now in
     let end : length items ≤ c.loop-id.id-index = omega (arith, c.loop-id-test.false) in
     c.loop-id.invariant.1
-    ∙ ap (λ (objects : Objects). flat_map events_of (shape_of objects)) (ap (map shown) (take_all c.loop-id.id-index items end) ∙ c.entries-id-items.ensures.all)
+    ∙ ap (λ (objects : Objects). flat_map events_of (shape_of objects)) (ap (map seen_entry) (take_all c.loop-id.id-index items end) ∙ c.entries-id-items.ensures.all)
     ∙ events_listed c.args.objects.now c.entries-id-items.ensures.stored.rising
 
 pub returns-clause-groups : goal.returns-clause-groups
@@ -43,5 +43,5 @@ returns-clause-groups c =
     let items = c.entries-id-items.result.now in
     let end : length items ≤ c.loop-id.id-index = omega (arith, c.loop-id-test.false) in
     c.loop-id.invariant.2
-    ∙ ap (λ (objects : Objects). flat_map groups_of_events (shape_of objects)) (ap (map shown) (take_all c.loop-id.id-index items end) ∙ c.entries-id-items.ensures.all)
+    ∙ ap (λ (objects : Objects). flat_map groups_of_events (shape_of objects)) (ap (map seen_entry) (take_all c.loop-id.id-index items end) ∙ c.entries-id-items.ensures.all)
     ∙ groups_listed c.args.objects.now c.entries-id-items.ensures.stored.rising

@@ -2,7 +2,7 @@ use Rattle.std.proofs.Common.{ℕ, List, Option, ◌-◌, length, sym, ap, ◌�
 use Rattle.std.specs.Option.{option_map}
 use Rattle.vt_verify.specs.Lists.{first_failing}
 use Rattle.vt_stores.specs.Shapes.{shape_of}
-use Rattle.vt_verify.specs.Macros.{Piece, placed, cut_or_none}
+use Rattle.vt_verify.specs.Macros.{Piece, with_offsets, cut_or_none}
 use Rattle.vt_verify.specs.Targets.{piece_passes}
 use Rattle.vt_verify.proofs.lemmas.macros.MacroBytes.{next_piece, no_piece, rest_is_whole}
 use Rattle.vt_verify.proofs.lemmas.macros.CommandTests.{fails_here, passes_here, next_at, shorter}
@@ -28,7 +28,7 @@ loop-piece-preserved c =
       rest_is_whole c.cut_is_one.ensures rest c.in-Some.piece.now c.in-Some.next.now split c.loop-piece.invariant.1,
       c.loop-piece.invariant.2
           ∙ passes_here c.args.test (shape_of c.args.objects.now) c.args.id at rest c.in-Some.piece.now (cut_or_none c.in-Some.next.now) first (sym c.if-not-passes.ensures)
-          ∙ ap (λ (k : ℕ). first_failing test (placed c.args.id k (cut_or_none c.in-Some.next.now)))
+          ∙ ap (λ (k : ℕ). first_failing test (with_offsets c.args.id k (cut_or_none c.in-Some.next.now)))
           (next_at c.args.bytes.now rest c.in-Some.piece.now c.in-Some.next.now split c.loop-piece.invariant.0),
     )
 
@@ -38,5 +38,5 @@ returns c =
     let rest = c.loop-piece.rest.now in
     sym (ap (λ (found : Option Piece). option_map {U = ℕ × ℕ} (λ p. (p.id, p.at)) found)
     (c.loop-piece.invariant.2
-    ∙ ap (λ (pieces : List (List ℕ)). first_failing test (placed c.args.id (length c.args.bytes.now - length rest) pieces))
+    ∙ ap (λ (pieces : List (List ℕ)). first_failing test (with_offsets c.args.id (length c.args.bytes.now - length rest) pieces))
     (no_piece c.cut_is_one.ensures rest c.in_default.ensures.none c.loop-piece.invariant.1)))

@@ -3,7 +3,7 @@ use Rattle.std.specs.Prelude.{is_some, IsTrue}
 use Rattle.vt_commands.specs.Pieces.{cut}
 use Rattle.vt_verify.specs.Lists.{first_failing}
 use Rattle.vt_stores.specs.Shapes.{shape_of}
-use Rattle.vt_verify.specs.Macros.{placed, pieces_of, cut_or_none}
+use Rattle.vt_verify.specs.Macros.{with_offsets, pieces_of, cut_or_none}
 use Rattle.vt_verify.specs.Targets.{piece_passes}
 use Rattle.vt_verify.proofs.macros.failing_in.Given as goal
 
@@ -12,7 +12,7 @@ invariant-loop-piece l =
     (length l.rest ≤ length l.bytes)
     × IsTrue (is_some (cut l.rest))
     × (first_failing (piece_passes l.test (shape_of l.objects)) (pieces_of (l.id, l.bytes))
-    ≡ first_failing (piece_passes l.test (shape_of l.objects)) (placed l.id (length l.bytes - length l.rest) (cut_or_none l.rest)))
+    ≡ first_failing (piece_passes l.test (shape_of l.objects)) (with_offsets l.id (length l.bytes - length l.rest) (cut_or_none l.rest)))
 
 abbrev pub decreases-loop-piece : goal.decreases-loop-piece
 decreases-loop-piece l = length l.rest

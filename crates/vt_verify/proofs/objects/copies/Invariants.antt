@@ -1,6 +1,6 @@
 use Rattle.std.proofs.Common.{◌≡◌, take, map}
-use Rattle.vt_stores.specs.Stores.{shown}
+use Rattle.vt_stores.specs.Stores.{seen_entry}
 use Rattle.vt_verify.proofs.objects.copies.Given as goal
 
 abbrev pub invariant-loop-id : goal.invariant-loop-id
-invariant-loop-id l = (map shown l.objects ≡ l.pool) × (map shown l.entries.items ≡ map shown (take l.id-index l.objects))
+invariant-loop-id l = (map seen_entry l.objects ≡ l.pool) × (map seen_entry l.entries.items ≡ map seen_entry (take l.id-index l.objects))

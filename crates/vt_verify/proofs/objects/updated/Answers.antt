@@ -1,7 +1,7 @@
 use Rattle.std.proofs.Common.{◌≡◌, IfOk, map, sym, subst, arith}
 use Rattle.std.specs.FinMap as finite
 use Rattle.vt_kinds.specs.Records.{seen}
-use Rattle.vt_stores.specs.Stores.{Objects, shown}
+use Rattle.vt_stores.specs.Stores.{Objects, seen_entry}
 use Rattle.vt_verify.proofs.lemmas.stores.DistinctIds.{named_of}
 use Rattle.vt_chains.proofs.IdIndices.{count_is}
 use Rattle.vt_verify.proofs.lemmas.stores.UpdatedStore.{IsUpdating, updating_begins, updating_step, updating_ends}
@@ -23,7 +23,7 @@ entry-id-requires g c =
 
 pub loop-place-preserved : goal.loop-place-preserved
 loop-place-preserved g c =
-    updating_step (g.S.Store.contents c.args.store.now) c.args.update.now (map shown c.loop-place.entries.items) _ c.loop-place.place c.entry-id.result.0 (seen c.entry-id.result.1.now)
+    updating_step (g.S.Store.contents c.args.store.now) c.args.update.now (map seen_entry c.loop-place.entries.items) _ c.loop-place.place c.entry-id.result.0 (seen c.entry-id.result.1.now)
     c.entry-id.ensures.stands c.entry-id.ensures.object c.count-place-end.ensures.named c.in_ok-put_unless_updated.ensures c.loop-place.invariant
 
 pub from_vec-requires : goal.from_vec-requires
@@ -36,4 +36,4 @@ returns-clause-made g c =
     let len = c.count-place-end.ensures.count in
     let end = c.loop-place-test.false in
     subst (λ (l : Objects). IfOk c.from_vec.result (λ objects. objects ≡ l))
-    (updating_ends m c.args.update.now (map shown c.loop-place.entries.items) c.loop-place.place (omega (arith, all, len, end)) c.loop-place.invariant) c.from_vec.ensures.made
+    (updating_ends m c.args.update.now (map seen_entry c.loop-place.entries.items) c.loop-place.place (omega (arith, all, len, end)) c.loop-place.invariant) c.from_vec.ensures.made

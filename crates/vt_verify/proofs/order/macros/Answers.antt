@@ -1,7 +1,7 @@
 use Rattle.std.proofs.Common.{ℕ, List, ◌≤◌, ◌++◌, length, map, sym, ap, ◌∙◌, arith}
 use Rattle.std.proofs.lemmas.List.{take_all}
 use Rattle.vt_kinds.specs.Records.{seen}
-use Rattle.vt_stores.specs.Stores.{shown, Objects}
+use Rattle.vt_stores.specs.Stores.{seen_entry, Objects}
 use Rattle.vt_stores.specs.Shapes.{Fixed, fixed, shape_of}
 use Rattle.vt_verify.specs.Triggers.{run_by_name}
 use Rattle.vt_verify.specs.Orders.{named_macros}
@@ -22,4 +22,4 @@ returns c =
     let items = c.entries-id-items.result.now in
     let end : length items ≤ c.loop-id.id-index = omega (arith, c.loop-id-test.false) in
     c.loop-id.invariant.1
-    ∙ ap (λ (objects : Objects). named_macros (shape_of objects)) (ap (map shown) (take_all c.loop-id.id-index items end) ∙ c.entries-id-items.ensures.all)
+    ∙ ap (λ (objects : Objects). named_macros (shape_of objects)) (ap (map seen_entry) (take_all c.loop-id.id-index items end) ∙ c.entries-id-items.ensures.all)

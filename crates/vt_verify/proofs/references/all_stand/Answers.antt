@@ -1,6 +1,6 @@
 use Rattle.std.proofs.Common.{None, refl, sym}
 use Rattle.vt_stores.specs.Shapes.{shape_of}
-use Rattle.vt_verify.specs.References.{is_there, fits, slot_references, values_of}
+use Rattle.vt_verify.specs.References.{is_there, fits, slot_references, slot_values}
 use Rattle.vt_verify.proofs.lemmas.rules.FirstFailure.{passes_at}
 use Rattle.vt_verify.proofs.references.all_stand.Goals as goal
 
@@ -12,6 +12,6 @@ loop-id-preserved c =
       c.loop-id.invariant.0,
       passes_at (is_there shape) slot_references _ items c.loop-id.id-index c.loop-id-item.result None c.loop-id-test.true c.loop-id-item.is c.loop-id.invariant.1
           (sym (stand.there refl)) refl,
-      passes_at (fits shape) (values_of c.args.objects.now) _ items c.loop-id.id-index c.loop-id-item.result None c.loop-id-test.true c.loop-id-item.is c.loop-id.invariant.2
+      passes_at (fits shape) (slot_values c.args.objects.now) _ items c.loop-id.id-index c.loop-id-item.result None c.loop-id-test.true c.loop-id-item.is c.loop-id.invariant.2
           (sym (stand.fit refl)) refl,
     )

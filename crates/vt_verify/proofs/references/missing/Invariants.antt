@@ -1,6 +1,6 @@
 use Rattle.std.proofs.Common.{◌≡◌, drop, map}
 use Rattle.std.specs.List.{flat_map}
-use Rattle.vt_stores.specs.Stores.{shown}
+use Rattle.vt_stores.specs.Stores.{seen_entry}
 use Rattle.vt_verify.specs.Lists.{first_failing}
 use Rattle.vt_stores.specs.Shapes.{shape_of}
 use Rattle.vt_verify.specs.References.{is_there, slot_references}
@@ -9,5 +9,5 @@ use Rattle.vt_verify.proofs.references.missing.Given as goal
 
 abbrev pub invariant-loop-id : goal.invariant-loop-id
 invariant-loop-id l =
-    (map shown l.id-items ≡ l.objects)
-    × (rules.missing l.objects ≡ first_failing (is_there (shape_of l.objects)) (flat_map slot_references (map shown (drop l.id-index l.id-items))))
+    (map seen_entry l.id-items ≡ l.objects)
+    × (rules.missing l.objects ≡ first_failing (is_there (shape_of l.objects)) (flat_map slot_references (map seen_entry (drop l.id-index l.id-items))))

@@ -1,13 +1,13 @@
 use Rattle.std.proofs.Common.{◌≡◌, drop, map}
 use Rattle.std.specs.List.{flat_map}
-use Rattle.vt_stores.specs.Stores.{shown}
+use Rattle.vt_stores.specs.Stores.{seen_entry}
 use Rattle.vt_verify.specs.Lists.{first_failing}
 use Rattle.vt_stores.specs.Shapes.{shape_of}
-use Rattle.vt_verify.specs.References.{fits, values_of}
+use Rattle.vt_verify.specs.References.{fits, slot_values}
 use Rattle.vt_verify.specs.Rules as rules
 use Rattle.vt_verify.proofs.references.wrong_kind.Given as goal
 
 abbrev pub invariant-loop-id : goal.invariant-loop-id
 invariant-loop-id l =
-    (map shown l.id-items ≡ l.objects)
-    × (rules.wrong_kind l.objects ≡ first_failing (fits (shape_of l.objects)) (flat_map (values_of l.objects) (map shown (drop l.id-index l.id-items))))
+    (map seen_entry l.id-items ≡ l.objects)
+    × (rules.wrong_kind l.objects ≡ first_failing (fits (shape_of l.objects)) (flat_map (slot_values l.objects) (map seen_entry (drop l.id-index l.id-items))))

@@ -1,14 +1,14 @@
 use Rattle.std.proofs.Common.{not, ◌&&◌, set, sym, ap, ap₂, ◌∙◌, arith}
 use Rattle.std.specs.Prelude.{slice_index_or, ◌==◌}
 use Rattle.vt_kinds.specs.declared.entries.Child.{Child}
-use Rattle.vt_effects.specs.Changes.{shifted, fits_record}
+use Rattle.vt_effects.specs.Changes.{moved_child, fits_record}
 use Rattle.vt_effects.proofs.lemmas.objects.EntryChanges.{up_to_next, up_to_fails}
 use Rattle.vt_effects.proofs.lemmas.objects.ChildMoves.{shifted_all}
 use Rattle.vt_effects.proofs.changes.children.shift.Goals as goal
 
 pub shifted_child-requires : goal.shifted_child-requires
 shifted_child-requires c = let old = c.index-as_slice-from.result in
-    up_to_fails (λ (e : Child). e.id == c.args.child && not (fits_record (shifted c.args.dx c.args.dy e))) _ c.loop-index.index c.args.children.now c.loop-index.children old
+    up_to_fails (λ (e : Child). e.id == c.args.child && not (fits_record (moved_child c.args.dx c.args.dy e))) _ c.loop-index.index c.args.children.now c.loop-index.children old
     (sym c.leaves.ensures ∙ c.if-leaves.false) c.loop-index.invariant (omega (arith, c.loop-index-test.true, c.len-index-end.ensures))
     (c.index-as_slice-from.is ∙ ap₂ (λ xs i. slice_index_or xs i old) c.as_slice.ensures.value c.from.ensures)
 

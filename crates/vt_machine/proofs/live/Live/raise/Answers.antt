@@ -2,7 +2,7 @@ use Rattle.std.proofs.Common.{ap, subst, ◌∙◌}
 use Rattle.vt_stores.specs.Stores.{ObjectMap}
 use Rattle.vt_verify.specs.Budgets.{budget}
 use Rattle.vt_verify.specs.Triggers.{listing}
-use Rattle.vt_macros.specs.Machines.{joined}
+use Rattle.vt_macros.specs.Machines.{event_commands}
 use Rattle.vt_effects.specs.Soundness.{shape_in}
 use Rattle.vt_machine.specs.SetStates.{HasRun}
 use Rattle.vt_machine.proofs.StateBeforeAndAfter.{key_stays, has_run, kind_stays, marks_stay}
@@ -11,9 +11,9 @@ use Rattle.vt_machine.proofs.live.Live.raise.Goals as goal
 pub returns-clause-run : goal.returns-clause-run
 returns-clause-run g c =
     let m = g.S.Store.contents c.self.inside.store in
-    subst (λ (o : ObjectMap). HasRun o (joined (shape_in o) (listing c.args.id c.args.event)) (budget (shape_in o) c.args.id c.args.event) c.raise.result (g.S.Store.contents c.raise.new.store))
+    subst (λ (o : ObjectMap). HasRun o (event_commands (shape_in o) (listing c.args.id c.args.event)) (budget (shape_in o) c.args.id c.args.event) c.raise.result (g.S.Store.contents c.raise.new.store))
     (ap (λ s. s.objects) c.self.view_is)
-    (has_run c.self.inside.index m (joined (shape_in m) (listing c.args.id c.args.event)) (budget (shape_in m) c.args.id c.args.event) c.raise.result
+    (has_run c.self.inside.index m (event_commands (shape_in m) (listing c.args.id c.args.event)) (budget (shape_in m) c.args.id c.args.event) c.raise.result
     (g.S.Store.contents c.raise.new.store) c.raise.new.levels c.raise.ensures)
 
 pub invariant_of-self : goal.invariant_of-self

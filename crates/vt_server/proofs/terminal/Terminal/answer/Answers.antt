@@ -7,7 +7,7 @@ use Rattle.vt_server.specs.state.AddressStates.{SetPool, with_piece}
 use Rattle.vt_server.specs.States.{state_of}
 use Rattle.vt_node.specs.AddressFunctions.{with_at}
 use Rattle.vt_kinds.specs.Ids.{null_id}
-use Rattle.vt_server.specs.message.Verdicts.{ended, end_of_pool}
+use Rattle.vt_server.specs.message.Verdicts.{after_verdict, end_of_pool}
 use Rattle.vt_server.specs.state.PoolTables.{content_of, room_of}
 use Rattle.vt_server.proofs.lemmas.message.EffectsAndReplies.{answers-none}
 use Rattle.vt_server.proofs.lemmas.frame.FrameEffect.{any_verdict}
@@ -62,7 +62,7 @@ returns-after-eq-clause-answers c =
     (ap (λ own. message_to own a c.end-reply.result) (sym c.own-own.ensures) ∙ sym c.message_to-in-End.ensures)
     (end-answered (state_of t) a c.args.bytes.now some (state_of (record t { contents = c.end-reply.new.self })) c.in-End.judgement c.end-reply.result
     (content_of c.end-reply.new.self) ready.0 c.end-reply.ensures
-    (contents-state t c.end-reply.new.self a (ended (content_of t.contents a) c.end-reply.ensures.verdict) c.end-reply.ensures.content))
+    (contents-state t c.end-reply.new.self a (after_verdict (content_of t.contents a) c.end-reply.ensures.verdict) c.end-reply.ensures.content))
 
 pub returns-in-Piece-clause-tells : goal.returns-in-Piece-clause-tells
 returns-in-Piece-clause-tells c none =
@@ -75,7 +75,7 @@ returns-after-eq-clause-tells c none =
     let t = c.args.self.now in
     let a = c.args.source in
     let ended-by = c.end-reply.ensures in
-    let left : SetPool = ended (content_of t.contents a) ended-by.verdict in
+    let left : SetPool = after_verdict (content_of t.contents a) ended-by.verdict in
     let told = either_false t.redraws c.if-eq.self none in (
       told.0,
       elim c.if-eq.branch [
