@@ -250,7 +250,7 @@ fn attributes_of(kind: Kind) -> &'static [Attribute]
 
 /// The attribute at a number, counted from 1.
 fn numbered(attributes: &[Attribute], number: u8) -> Option<Attribute>
-    ensures { result ≡ table.at_number attributes.now number }
+    ensures { result ≡ table.attribute_numbered attributes.now number }
 {
     let index = usize::from(number).checked_sub(1)?;
     attributes.get(index).copied()

@@ -26,22 +26,22 @@ pub All-joined : {A : Type 0} (P : A → Type 0) (xs bs : List A) → AllByRecur
 All-joined P [] bs p q = q
 All-joined P (a ∷ xs) bs p q = (p.0, All-joined P xs bs p.1 q)
 
-with_lines-append : (c : Counts) (rs qs : List LineReading) → with_lines_counted c (rs ++ qs) ≡ with_lines_counted (with_lines_counted c rs) qs
-with_lines-append c [] qs = refl
-with_lines-append c (r ∷ rs) qs = with_lines-append (with_line_counted c r) rs qs
+with_lines_counted-append : (c : Counts) (rs qs : List LineReading) → with_lines_counted c (rs ++ qs) ≡ with_lines_counted (with_lines_counted c rs) qs
+with_lines_counted-append c [] qs = refl
+with_lines_counted-append c (r ∷ rs) qs = with_lines_counted-append (with_line_counted c r) rs qs
 
-with_line-lines : (c : Counts) (r : LineReading) → (with_line_counted c r).lines ≡ c.lines + 1
-with_line-lines c (Ok (FrameAt time frame)) = refl
-with_line-lines c (Ok (OperatorAction action)) = refl
-with_line-lines c (Ok (SkippedFrame why)) = refl
-with_line-lines c (Ok CommentLine) = refl
-with_line-lines c (Err fault) = refl
+with_line_counted-lines : (c : Counts) (r : LineReading) → (with_line_counted c r).lines ≡ c.lines + 1
+with_line_counted-lines c (Ok (FrameAt time frame)) = refl
+with_line_counted-lines c (Ok (OperatorAction action)) = refl
+with_line_counted-lines c (Ok (SkippedFrame why)) = refl
+with_line_counted-lines c (Ok CommentLine) = refl
+with_line_counted-lines c (Err fault) = refl
 
-with_lines-lines : (c : Counts) (rs : List LineReading) → (with_lines_counted c rs).lines ≡ c.lines + length rs
-with_lines-lines c [] = omega arith
-with_lines-lines c (r ∷ rs) =
-    let rest = with_lines-lines (with_line_counted c r) rs in
-    let first = with_line-lines c r in
+with_lines_counted-lines : (c : Counts) (rs : List LineReading) → (with_lines_counted c rs).lines ≡ c.lines + length rs
+with_lines_counted-lines c [] = omega arith
+with_lines_counted-lines c (r ∷ rs) =
+    let rest = with_lines_counted-lines (with_line_counted c r) rs in
+    let first = with_line_counted-lines c r in
     omega arith
 
 -- Lines are taken after other lines, and their numbers go on from those.
@@ -95,7 +95,7 @@ takes_one a b line r reads short one = record {
 
 -- The count of lines grows by the lines taken.
 pub takes-lines : (a b : ReplayPoint) (lines : List (List ℕ)) (takes : Takes a lines b) → b.counts.lines ≡ a.counts.lines + length takes.readings
-takes-lines a b lines takes = ap (λ (k : Counts). k.lines) takes.counts ∙ with_lines-lines a.counts takes.readings
+takes-lines a b lines takes = ap (λ (k : Counts). k.lines) takes.counts ∙ with_lines_counted-lines a.counts takes.readings
 
 pub takes_more : (a b c : ReplayPoint) (xs ys : List (List ℕ)) → Takes a xs b → Takes b ys c → Takes a (xs ++ ys) c
 takes_more a b c xs ys p q =
@@ -105,7 +105,7 @@ takes_more a b c xs ys p q =
       short = All-joined (λ line. length line ≤ 4096) xs ys p.short q.short;
       printed = p.printed ++ q.printed;
       takes = readings-append a.scene b.scene c.scene a.counts.lines b.counts.lines p.readings q.readings p.printed q.printed p.takes n q.takes;
-      counts = q.counts ∙ ap (λ (k : Counts). with_lines_counted k q.readings) p.counts ∙ sym (with_lines-append a.counts p.readings q.readings);
+      counts = q.counts ∙ ap (λ (k : Counts). with_lines_counted k q.readings) p.counts ∙ sym (with_lines_counted-append a.counts p.readings q.readings);
       text = Appends-trans a.held b.held c.held p.printed q.printed p.text q.text;
     }
 

@@ -17,7 +17,7 @@ use Rattle.vt_records.specs.RecordFaults.{IsStop}
 use Rattle.vt_records.proofs.Numbers.{IsBytes, IsBytes-rest}
 use Rattle.vt_records.proofs.Tables.{values_take, values_again}
 use Rattle.vt_records.proofs.Misfits.{IsMisfit, misfit_is, fitting_err}
-use Rattle.vt_records.proofs.RecordHeads.{kind_at-kind_number, of_values, of_kind, record_at-short, record_at-long}
+use Rattle.vt_records.proofs.RecordHeads.{kind_of_type-kind_number, of_values, of_kind, record_at-short, record_at-long}
 use Rattle.vt_records.proofs.ReadInvertsWrite.{record_again}
 
 -- an error of `record_at` means that no record begins there
@@ -108,7 +108,7 @@ record_stops (a ∷ b ∷ c ∷ rest) stop fits e =
 -- ---- each cause excludes a record
 
 pub kind_there : (rest : List ℕ) (id : ℕ) (o : Seen) (tail : List ℕ) → rest ≡ record_of id o ++ tail → kind_of_type (type_at rest) ≡ Some (kind_of o)
-kind_there rest id o tail parts = ap (λ (r : List ℕ). kind_of_type (type_at r)) parts ∙ kind_at-kind_number (kind_of o)
+kind_there rest id o tail parts = ap (λ (r : List ℕ). kind_of_type (type_at r)) parts ∙ kind_of_type-kind_number (kind_of o)
 
 pub truncated_none : (rest : List ℕ) → IsTruncated rest → NoRecordBegins rest
 truncated_none rest (inl lt) id o tail has parts = let len = ap length parts in absurd (omega arith)

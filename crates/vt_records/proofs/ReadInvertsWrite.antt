@@ -20,7 +20,7 @@ use Rattle.vt_records.proofs.Numbers.{IsBytes, IsBytes-rest, IsBytes-take, numbe
 use Rattle.vt_records.proofs.Tables.{values_take, values_again}
 use Rattle.vt_records.proofs.Misfits.{proper, no_misfit, fitting_ok}
 use Rattle.vt_records.proofs.FromValues.{object_from, same_object}
-use Rattle.vt_records.proofs.RecordHeads.{kind_at_is, kind_at-kind_number, held, of_values, of_kind, behind, record_at-short, record_at-long}
+use Rattle.vt_records.proofs.RecordHeads.{kind_at_is, kind_of_type-kind_number, held, of_values, of_kind, behind, record_at-short, record_at-long}
 
 -- ---- records read
 
@@ -89,7 +89,7 @@ record_again id o rest has =
     let back : little_number 2 bytes ≡ id = little_number-reads_back 2 id [] (omega arith) in
     let other : eqb id null_id ≡ false = ne_eqb id null_id (omega arith) in
     record_at-long (get_or bytes 0 0) (get_or bytes 1 0) (kind_number k) (fields_spelling (fields_of k) (values_of o) ++ rest)
-    ∙ rw (back, other, kind_at-kind_number k, values_again (fields_of k) no_counts (values_of o) rest has.fields_fit, no_misfit 3 (fields_of k) (values_of o) has.proper) refl
+    ∙ rw (back, other, kind_of_type-kind_number k, values_again (fields_of k) no_counts (values_of o) rest has.fields_fit, no_misfit 3 (fields_of k) (values_of o) has.proper) refl
 
 -- two records at the front of the same bytes are equal
 pub record AreSame (a b : ℕ) (o p : Seen) (rest tail : List ℕ) : Type 0 where

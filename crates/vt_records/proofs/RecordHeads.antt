@@ -27,36 +27,36 @@ kind_among_is (k0 ∷ ks) n k e = among_cases (eqb n (kind_number k0)) k0 (kind_
 pub kind_at_is : (n : ℕ) (k : Kind) → kind_of_type n ≡ Some k → n ≡ kind_number k
 kind_at_is n k e = kind_among_is every_kind n k e
 
-pub kind_at-kind_number : (k : Kind) → kind_of_type (kind_number k) ≡ Some k
-kind_at-kind_number kinds.WorkingSet = refl
-kind_at-kind_number kinds.DataMask = refl
-kind_at-kind_number kinds.AlarmMask = refl
-kind_at-kind_number kinds.Container = refl
-kind_at-kind_number kinds.SoftKeyMask = refl
-kind_at-kind_number kinds.Key = refl
-kind_at-kind_number kinds.Button = refl
-kind_at-kind_number kinds.InputBoolean = refl
-kind_at-kind_number kinds.InputString = refl
-kind_at-kind_number kinds.InputNumber = refl
-kind_at-kind_number kinds.InputList = refl
-kind_at-kind_number kinds.OutputString = refl
-kind_at-kind_number kinds.OutputNumber = refl
-kind_at-kind_number kinds.Line = refl
-kind_at-kind_number kinds.Rectangle = refl
-kind_at-kind_number kinds.Ellipse = refl
-kind_at-kind_number kinds.Polygon = refl
-kind_at-kind_number kinds.Meter = refl
-kind_at-kind_number kinds.LinearBar = refl
-kind_at-kind_number kinds.ArchedBar = refl
-kind_at-kind_number kinds.Picture = refl
-kind_at-kind_number kinds.NumberVariable = refl
-kind_at-kind_number kinds.StringVariable = refl
-kind_at-kind_number kinds.Font = refl
-kind_at-kind_number kinds.LineAttributes = refl
-kind_at-kind_number kinds.FillAttributes = refl
-kind_at-kind_number kinds.InputAttributes = refl
-kind_at-kind_number kinds.ObjectPointer = refl
-kind_at-kind_number kinds.Macro = refl
+pub kind_of_type-kind_number : (k : Kind) → kind_of_type (kind_number k) ≡ Some k
+kind_of_type-kind_number kinds.WorkingSet = refl
+kind_of_type-kind_number kinds.DataMask = refl
+kind_of_type-kind_number kinds.AlarmMask = refl
+kind_of_type-kind_number kinds.Container = refl
+kind_of_type-kind_number kinds.SoftKeyMask = refl
+kind_of_type-kind_number kinds.Key = refl
+kind_of_type-kind_number kinds.Button = refl
+kind_of_type-kind_number kinds.InputBoolean = refl
+kind_of_type-kind_number kinds.InputString = refl
+kind_of_type-kind_number kinds.InputNumber = refl
+kind_of_type-kind_number kinds.InputList = refl
+kind_of_type-kind_number kinds.OutputString = refl
+kind_of_type-kind_number kinds.OutputNumber = refl
+kind_of_type-kind_number kinds.Line = refl
+kind_of_type-kind_number kinds.Rectangle = refl
+kind_of_type-kind_number kinds.Ellipse = refl
+kind_of_type-kind_number kinds.Polygon = refl
+kind_of_type-kind_number kinds.Meter = refl
+kind_of_type-kind_number kinds.LinearBar = refl
+kind_of_type-kind_number kinds.ArchedBar = refl
+kind_of_type-kind_number kinds.Picture = refl
+kind_of_type-kind_number kinds.NumberVariable = refl
+kind_of_type-kind_number kinds.StringVariable = refl
+kind_of_type-kind_number kinds.Font = refl
+kind_of_type-kind_number kinds.LineAttributes = refl
+kind_of_type-kind_number kinds.FillAttributes = refl
+kind_of_type-kind_number kinds.InputAttributes = refl
+kind_of_type-kind_number kinds.ObjectPointer = refl
+kind_of_type-kind_number kinds.Macro = refl
 
 -- ---- the fields after the ID and the type
 

@@ -28,7 +28,7 @@ use Rattle.vt_verify.specs.Targets.{macro_reference, entry_references, command_r
 use Rattle.vt_verify.specs.Triggers.{is_event, run_by_name, macros_at, listed_in, listed, may_raise, triggered_by, triggered}
 use Rattle.vt_set_laws.specs.MacroOrder.{TriggeredStandBefore}
 use Rattle.vt_macros.proofs.MacroTargetsExist.{all_append, all_flat, all_of, front_passes, each_passes}
-use Rattle.vt_records.proofs.RecordHeads.{kind_at-kind_number}
+use Rattle.vt_records.proofs.RecordHeads.{kind_of_type-kind_number}
 use Rattle.vt_stores.proofs.SortedEntries.{both_true}
 use Rattle.vt_verify.proofs.lemmas.graphs.EventGroups.{tied_same}
 
@@ -74,7 +74,7 @@ macro-only : (kind : Kind) → is_member sets.Macros kind ≡ true → kind ≡ 
 macro-only kind is =
     let number : kind_number kinds.Macro ≡ kind_number kind =
     eqb-true (kind_number kinds.Macro) (kind_number kind) (or-false (eqb (kind_number kinds.Macro) (kind_number kind)) is) in
-    same_Some kind kinds.Macro (sym (kind_at-kind_number kind) ∙ ap kind_of_type (sym number) ∙ kind_at-kind_number kinds.Macro)
+    same_Some kind kinds.Macro (sym (kind_of_type-kind_number kind) ∙ ap kind_of_type (sym number) ∙ kind_of_type-kind_number kinds.Macro)
 
 may-be : (n : ℕ) (f : Fixed) → may_stand sets.Macros n f.kind ≡ true → may_be_named n f ≡ true
 may-be n f may =

@@ -19,7 +19,7 @@ use Rattle.vt_server.proofs.lemmas.steps.StepInvariants.{none-filter, apart-filt
 use Rattle.vt_laws.proofs.lemmas.views.ActChangesOneView.{named-address}
 use Rattle.vt_server.proofs.lemmas.acts.ComposedActs.{sets-same, act-is, acts-append}
 use Rattle.vt_node.proofs.Sets.{none-same}
-use Rattle.vt_server.proofs.lemmas.frame.ClaimEffect.{changed-same}
+use Rattle.vt_server.proofs.lemmas.frame.ClaimEffect.{rebind_acts-same}
 use Rattle.vt_names.proofs.SetsByAddress.{set_at-first, set_at-later, with_set-first, with_set-later, without-first, without-later, set_at-address}
 use Rattle.vt_names.proofs.AddressesAfterClaim.{by_eq, none-some}
 
@@ -231,7 +231,7 @@ module _ (law : OtherHoldersStay) (s : State) (rising : IsRisingByName s.claims.
 
     v-list : v.sets ≡ filter (only_at source (stays t)) (filter (left_test left) s.sets)
     v-list =
-        ap (λ (hs : List (ℕ × Act)). (after_acts u hs).sets) (changed-same (holder s source) t u source (sym u-claims))
+        ap (λ (hs : List (ℕ × Act)). (after_acts u hs).sets) (rebind_acts-same (holder s source) t u source (sym u-claims))
         ∙ changed-list u source u-apart (holder s source)
         (subst (λ o. SetIsHeld o (holder s source)) (sym (ap (set_at source) left-list ∙ source-stays)) (held source))
         ∙ ap (λ (c : Claimed). filter (only_at source (stays (record t { claims = c }))) u.sets) u-claims

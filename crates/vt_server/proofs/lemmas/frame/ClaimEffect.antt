@@ -88,8 +88,8 @@ module _ (s : State) (a : ℕ) (was : Option ℕ) where
 
 -- ---- the changes of holders, then the claim at its source
 
-pub changed-same : (was : Option ℕ) (s t : State) (a : ℕ) → s.claims ≡ t.claims → rebind_acts was s a ≡ rebind_acts was t a
-changed-same was s t a e = ap (λ (c : Claimed). cond (option_eq nat_eq was (holder_of c.addresses a)) [] ((a, Rebinds) ∷ [])) e
+pub rebind_acts-same : (was : Option ℕ) (s t : State) (a : ℕ) → s.claims ≡ t.claims → rebind_acts was s a ≡ rebind_acts was t a
+rebind_acts-same was s t a e = ap (λ (c : Claimed). cond (option_eq nat_eq was (holder_of c.addresses a)) [] ((a, Rebinds) ∷ [])) e
 
 pub after-changes : (s t u v : State) (source name : ℕ) (left l h : Option ℕ) → t ≡ before s source (Claim name)
     → left ≡ left_by source (address_of s.claims.addresses name) → l ≡ left_holder s left → h ≡ holder s source
@@ -98,7 +98,7 @@ pub after-changes : (s t u v : State) (source name : ℕ) (left l h : Option ℕ
 after-changes s t u v source name left l h t-is left-is l-is h-is u-is v-is =
     let first = rebind_left_acts l t left in
     let second = rebind_acts h t source in
-    let same = changed-same h u t source (ap (λ (x : State). x.claims) u-is ∙ claims-acts t first) in
+    let same = rebind_acts-same h u t source (ap (λ (x : State). x.claims) u-is ∙ claims-acts t first) in
     v-is ∙ ap (after_acts u) same ∙ ap (λ x. after_acts x second) u-is ∙ sym (acts-append t first second)
     ∙ (λ i. after_acts (t-is i) (rebind_left_acts (l-is i) (t-is i) left ++ rebind_acts (h-is i) (t-is i) source))
     ∙ ap (λ o. after_acts (before s source (Claim name)) (changes_by s (before s source (Claim name)) o source)) left-is
