@@ -87,7 +87,7 @@ falling_there m levels from to above below but one other less =
             there = stands_of (finite.entries m) below to other.object other.there;
             less = subst (λ (p : ℕ). slice_index levels.levels.items below < slice_index levels.levels.items p) (sym at) less;
           });
-      room = but.room;
+      spare_length = but.spare_length;
     }
 
 pub falling_nowhere : (m : ObjectMap) (levels : Levels) (from to : ℕ) → AreLevelsBut m levels from to → finite.get m to ≡ None → AreLevels m levels
@@ -95,7 +95,7 @@ falling_nowhere m levels from to but none =
     record {
       certificate = one_more (ids_of m) (inclusions_of m) levels.levels.items from to but.certificate
           (λ place there h. absurd (never_included m from to but.certificate.closed none h));
-      room = but.room;
+      spare_length = but.spare_length;
     }
 
 pub falling_from_nowhere : (m : ObjectMap) (levels : Levels) (from to : ℕ) → AreLevelsBut m levels from to → finite.get m from ≡ None → AreLevels m levels
@@ -103,5 +103,5 @@ falling_from_nowhere m levels from to but none =
     record {
       certificate = one_more (ids_of m) (inclusions_of m) levels.levels.items from to but.certificate
           (λ place there h. absurd (missing_nowhere m place from there none));
-      room = but.room;
+      spare_length = but.spare_length;
     }

@@ -28,14 +28,14 @@ HasLongChain store = IsShallow terminal.inclusions (inclusions_of store) → ⊥
 -- the levels of a store, with a spare buffer of the same length
 pub record AreLevels (store : ObjectMap) (levels : Levels) : Type 0 where
   pub certificate : IsCertificate (ids_of store) (inclusions_of store) levels.levels.items
-  pub room : length levels.spare.items ≡ length (ids_of store)
+  pub spare_length : length levels.spare.items ≡ length (ids_of store)
 
 -- the levels of a store, except that they may not fall with one inclusion
 pub record AreLevelsBut (store : ObjectMap) (levels : Levels) (from to : ℕ) : Type 0 where
   pub certificate : IsCertificateBut (ids_of store) (inclusions_of store) levels.levels.items from to
-  pub room : length levels.spare.items ≡ length (ids_of store)
+  pub spare_length : length levels.spare.items ≡ length (ids_of store)
 
 -- the levels and the length of the spare buffer are unchanged
 pub record HasSameLevels (old new : Levels) : Type 0 where
   pub levels : new.levels.items ≡ old.levels.items
-  pub room : length new.spare.items ≡ length old.spare.items
+  pub spare_length : length new.spare.items ≡ length old.spare.items

@@ -86,7 +86,7 @@ impl Levels {
 
     /// Finds all levels again; false, with the levels unchanged, if a chain is too long.
     fn search<S: Store>(&mut self, store: &S) -> bool
-        requires room { length self.old.spare.items ≡ length (ids_of (S.contents store.now)) }
+        requires spare_length { length self.old.spare.items ≡ length (ids_of (S.contents store.now)) }
         requires levels { length self.old.levels.items ≡ length (ids_of (S.contents store.now)) }
         requires closed { IsClosed (ids_of (S.contents store.now)) (inclusions_of (S.contents store.now)) }
         ensures short { result ≡ true → AreLevels (S.contents store.now) self.new }

@@ -54,7 +54,7 @@ impl Model for Receiver {
 
     ghost coded = { receiver_state_code session_state_code };
 
-    ghost view = { λ r. record { own_address = r.own_address; sessions = r.sessions; room = vec_capacity r.spare } };
+    ghost view = { λ r. record { own_address = r.own_address; sessions = r.sessions; spare = vec_capacity r.spare } };
 
     ghost invariant = { λ r. vec_len r.spare ≡ 0 };
 }
@@ -64,7 +64,7 @@ impl Receiver {
     pub fn new(alloc: Global, own_address: u8) -> Receiver
         ensures own_address { result.own_address ≡ own_address }
         ensures sessions { result.sessions ≡ finite.empty }
-        ensures room { result.room ≡ 0 }
+        ensures spare { result.spare ≡ 0 }
     {
         Receiver {
             own_address,
@@ -80,8 +80,8 @@ impl Receiver {
         ensures step { IfOk result (λ heard. MakesStep protocol self.old self.new (source_of frame.now) (outcome protocol self.old now frame.now) heard) }
         ensures others { OthersStay self.old self.new (source_of frame.now) }
         ensures err { OnErr result (self.new ≡ self.old) }
-        ensures ready { HasCapacityFor protocol (etp_frame self.old.own_address frame.now) self.old.room → IsOk result }
-        ensures room { OpensNone protocol (etp_frame self.old.own_address frame.now) → self.new.room ≡ self.old.room }
+        ensures ready { HasCapacityFor protocol (etp_frame self.old.own_address frame.now) self.old.spare → IsOk result }
+        ensures spare { OpensNone protocol (etp_frame self.old.own_address frame.now) → self.new.spare ≡ self.old.spare }
     {
         let source = frame.id.source();
         match wire::etp_frame(self.own_address, frame) {
@@ -97,7 +97,7 @@ impl Receiver {
     /// "Timeouts".
     pub fn expire(&mut self, now: u64) -> Option<Frame>
         ensures own_address { self.new.own_address ≡ self.old.own_address }
-        ensures room { self.new.room ≡ self.old.room }
+        ensures spare { self.new.spare ≡ self.old.spare }
         ensures some { IfSome result (λ frame. TimesOut protocol self.old self.new now frame) }
         ensures none { IfNone result (self.new ≡ self.old) }
         ensures all { IfNone result ((source : ℕ) → is_overdue now (finite.get self.old.sessions source) ≡ false) }
@@ -117,9 +117,9 @@ impl Receiver {
     pub fn prepare(&mut self, now: u64, frame: &Frame) -> Result<Option<(usize, u8)>, OutOfMemory>
         ensures own_address { self.new.own_address ≡ self.old.own_address }
         ensures sessions { self.new.sessions ≡ self.old.sessions }
-        ensures ready { OnOk result (HasCapacityFor protocol (etp_frame self.old.own_address frame.now) self.new.room) }
-        ensures free { HasCapacityFor protocol (etp_frame self.old.own_address frame.now) self.old.room → IsOk result }
-        ensures room { OpensNone protocol (etp_frame self.old.own_address frame.now) → self.new.room ≡ self.old.room }
+        ensures ready { OnOk result (HasCapacityFor protocol (etp_frame self.old.own_address frame.now) self.new.spare) }
+        ensures free { HasCapacityFor protocol (etp_frame self.old.own_address frame.now) self.old.spare → IsOk result }
+        ensures spare { OpensNone protocol (etp_frame self.old.own_address frame.now) → self.new.spare ≡ self.old.spare }
         ensures answer { IfOk result (λ answer. answer ≡ size_and_first_byte (timely_outcome protocol self.old now frame.now).message) }
     {
         match wire::etp_frame(self.own_address, frame) {
@@ -138,8 +138,8 @@ impl Receiver {
         ensures step { IfOk result (λ heard. MakesStep protocol self.old self.new source (after_rts now opening) heard) }
         ensures others { OthersStay self.old self.new source }
         ensures err { OnErr result (self.new ≡ self.old) }
-        ensures ready { HasCapacityFor protocol (Some (declared.Rts opening)) self.old.room → IsOk result }
-        ensures room { opens opening ≡ false → self.new.room ≡ self.old.room }
+        ensures ready { HasCapacityFor protocol (Some (declared.Rts opening)) self.old.spare → IsOk result }
+        ensures spare { opens opening ≡ false → self.new.spare ≡ self.old.spare }
     {
         if !opening.opens() {
             self.sessions.remove(source);
@@ -154,7 +154,7 @@ impl Receiver {
     fn receive_part(&mut self, now: u64, source: u8, part: Part) -> Heard
         ensures step { MakesStep protocol self.old self.new source (after_part now (finite.get self.old.sessions source) part) result }
         ensures others { OthersStay self.old self.new source }
-        ensures room { self.new.room ≡ self.old.room }
+        ensures spare { self.new.spare ≡ self.old.spare }
     {
         let Some(Timed { last, session }) = self.sessions.take(source) else {
             return Heard::Nothing;
@@ -177,7 +177,7 @@ impl Receiver {
     fn aborted(&mut self, source: u8) -> Heard
         ensures step { MakesStep protocol self.old self.new source (step 0 (finite.get self.old.sessions source) declared.Aborted) result }
         ensures others { OthersStay self.old self.new source }
-        ensures room { self.new.room ≡ self.old.room }
+        ensures spare { self.new.spare ≡ self.old.spare }
     {
         self.sessions.remove(source);
         Heard::Nothing
@@ -186,9 +186,9 @@ impl Receiver {
     fn set_aside(&mut self, opening: Opening) -> Result<(), OutOfMemory>
         ensures own_address { self.new.own_address ≡ self.old.own_address }
         ensures sessions { self.new.sessions ≡ self.old.sessions }
-        ensures ready { OnOk result (HasCapacityFor protocol (Some (declared.Rts opening)) self.new.room) }
-        ensures free { HasCapacityFor protocol (Some (declared.Rts opening)) self.old.room → IsOk result }
-        ensures room { opens opening ≡ false → self.new.room ≡ self.old.room }
+        ensures ready { OnOk result (HasCapacityFor protocol (Some (declared.Rts opening)) self.new.spare) }
+        ensures free { HasCapacityFor protocol (Some (declared.Rts opening)) self.old.spare → IsOk result }
+        ensures spare { opens opening ≡ false → self.new.spare ≡ self.old.spare }
     {
         if opening.opens() {
             self.spare.reserve_exact(opening.size as usize)?;

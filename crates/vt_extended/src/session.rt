@@ -45,7 +45,7 @@ impl Session {
     pub(crate) fn new(opening: Opening, bytes: Vec<u8>) -> Session
         requires opened { opens opening ≡ true }
         requires empty { vec_len bytes ≡ 0 }
-        requires room { opening.size ≤ vec_capacity bytes }
+        requires capacity { opening.size ≤ vec_capacity bytes }
         ensures { result ≡ fresh opening }
     {
         Session {

@@ -76,30 +76,30 @@ less_both n m = by (nat_lt n m) refl
     by true is = let lt = ltb-true n m is in sym (lt-ltb (suc n) (suc m) (omega (arith, lt)))
     by false is = let ge = ltb-false n m is in sym (le-ltb (suc n) (suc m) (omega (arith, ge)))
 
--- `room` more lines fit on a page
-room_left : (n room : ℕ) → n + room ≡ 2000 → (t : List ℕ) (lines : List (List ℕ)) → finished (with_lines lines (record { text = t; count = n }))
-    ≡ t ++ (flat_map (λ line. line) (take room lines) ++ cond (nat_lt room (length lines)) (codes "more\n") [])
-room_left n zero is t [] =
+-- `spare` more lines fit on a page
+rest_of_page : (n spare : ℕ) → n + spare ≡ 2000 → (t : List ℕ) (lines : List (List ℕ)) → finished (with_lines lines (record { text = t; count = n }))
+    ≡ t ++ (flat_map (λ line. line) (take spare lines) ++ cond (nat_lt spare (length lines)) (codes "more\n") [])
+rest_of_page n zero is t [] =
     let all : n ≡ 2000 = omega (arith, is) in
     ap (λ (b : Bool). t ++ cond b (codes "more\n") []) (not_over n (omega (arith, all)))
-room_left n (suc room) is t [] =
-    ap (λ (b : Bool). t ++ cond b (codes "more\n") []) (not_over n (omega (arith, is)) ∙ sym (le-ltb (suc room) 0 (omega arith)))
-room_left n zero is t (l ∷ lines) =
+rest_of_page n (suc spare) is t [] =
+    ap (λ (b : Bool). t ++ cond b (codes "more\n") []) (not_over n (omega (arith, is)) ∙ sym (le-ltb (suc spare) 0 (omega arith)))
+rest_of_page n zero is t (l ∷ lines) =
     let all : n ≡ 2000 = omega (arith, is) in
     ap (λ (sheet : Sheet). finished (with_lines lines sheet)) (last_line l (record { text = t; count = n }) (omega (arith, all)))
     ∙ ap finished (full_stays lines (record { text = t; count = 2001 }) refl)
     ∙ ap (λ (b : Bool). t ++ cond b (codes "more\n") []) (sym (lt-ltb 0 (suc (length lines)) (omega arith)))
-room_left n (suc room) is t (l ∷ lines) =
-    let more : List ℕ = flat_map (λ line. line) (take room lines) in
+rest_of_page n (suc spare) is t (l ∷ lines) =
+    let more : List ℕ = flat_map (λ line. line) (take spare lines) in
     let end : Bool → List ℕ = λ b. cond b (codes "more\n") [] in
     ap (λ (sheet : Sheet). finished (with_lines lines sheet)) (next_line l (record { text = t; count = n }) (omega (arith, is)))
-    ∙ room_left (suc n) room (omega (arith, is)) (t ++ l) lines
-    ∙ append_assoc t l (more ++ end (nat_lt room (length lines)))
-    ∙ ap (λ text. t ++ text) (sym (append_assoc l more (end (nat_lt room (length lines)))))
-    ∙ ap (λ (b : Bool). t ++ ((l ++ more) ++ end b)) (less_both room (length lines))
+    ∙ rest_of_page (suc n) spare (omega (arith, is)) (t ++ l) lines
+    ∙ append_assoc t l (more ++ end (nat_lt spare (length lines)))
+    ∙ ap (λ text. t ++ text) (sym (append_assoc l more (end (nat_lt spare (length lines)))))
+    ∙ ap (λ (b : Bool). t ++ ((l ++ more) ++ end b)) (less_both spare (length lines))
 
 pub page_text : (t : List ℕ) (lines : List (List ℕ)) → finished (with_lines lines (record { text = t; count = 0 })) ≡ t ++ shortened lines
-page_text t lines = room_left 0 2000 refl t lines
+page_text t lines = rest_of_page 0 2000 refl t lines
 
 -- ---- the drawing of a store in order
 

@@ -145,7 +145,7 @@ module _ (m : ObjectMap) (id : ℕ) (old new : Seen) (at : finite.get m id ≡ S
           within = are.certificate.within;
           falls = λ place q there x h. are.certificate.falls place q there x (subst (λ (l : List ℕ). Contains l x) (included q) h);
         });
-    room = are.room ∙ sym (ap length (ids_by n m still_shaped));
+    spare_length = are.spare_length ∙ sym (ap length (ids_by n m still_shaped));
   }
 
   pub still_runs : (index : Index) (levels : Levels) → CanRun index m levels → CanRun index n levels

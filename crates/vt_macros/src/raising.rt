@@ -55,7 +55,7 @@ fn mask_events(active: ObjectId, working_set: ObjectId, mask: ObjectId) -> Array
 /// The Hide event of a mask; no event for NULL.
 fn hide(mask: ObjectId) -> ArrayVec<Raised, 3>
     ensures events { result.items ≡ machines.hide mask }
-    ensures room { length result.items ≤ 1 }
+    ensures few { length result.items ≤ 1 }
 {
     let mut events = ArrayVec::new();
     if !mask.is_null() {

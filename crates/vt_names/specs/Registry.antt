@@ -18,12 +18,12 @@ set_code =
 -- the sets in order, and the capacity reserved for one more, 1 or 0
 pub record Registered : Type 0 where
   pub sets : List Set
-  pub room : ℕ
+  pub capacity : ℕ
 
 abbrev pub registered_code : Coded Registered
 registered_code =
     code_by (List Set × ℕ) (coded× (coded_list set_code) coded_ℕ)
-    (λ r. (r.sets, r.room)) (λ p. record { sets = p.0; room = p.1 }) (λ _. refl)
+    (λ r. (r.sets, r.capacity)) (λ p. record { sets = p.0; capacity = p.1 }) (λ _. refl)
 
 abbrev pub is_of : ℕ → Set → Bool
 is_of address set = set.address == address

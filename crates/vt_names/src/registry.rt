@@ -62,7 +62,7 @@ impl Model for Registry {
 
     ghost coded = { registered_code };
 
-    ghost view = { λ r. record { sets = values r.sets; room = if is_some r.vacant then min 1 (spare r.sets) else 0 } };
+    ghost view = { λ r. record { sets = values r.sets; capacity = if is_some r.vacant then min 1 (spare r.sets) else 0 } };
 
     ghost invariant = { λ r. AreFiled r.sets.entries };
 }
@@ -91,7 +91,7 @@ impl Registry {
         ensures not_claimed { IfNone holder (result ≡ Err declared.NotClaimed) }
         ensures claimed { IfSome holder (λ _. IfErr result (λ fault. fault ≡ declared.OutOfMemory)) }
         ensures there { IfSome holder (λ _. IfSome (set_at address self.old.sets) (λ _. IsOk result)) }
-        ensures room { 0 < self.old.room → result ≢ Err declared.OutOfMemory }
+        ensures capacity { 0 < self.old.capacity → result ≢ Err declared.OutOfMemory }
         ensures sets { result ≢ Err declared.OutOfMemory → self.new.sets ≡ registering address holder count self.old.sets }
         ensures err { OnErr result (self.new.sets ≡ self.old.sets) }
     {
@@ -113,7 +113,7 @@ impl Registry {
         ensures set { IfSome (set_at address self.old.sets)
             (λ set. result ≡ (if has_place set then Ok tt else Err declared.TooManyMembers)) }
         ensures sets { self.new.sets ≡ joining (set_at address self.old.sets) name self.old.sets }
-        ensures room { self.new.room ≡ self.old.room }
+        ensures capacity { self.new.capacity ≡ self.old.capacity }
     {
         let Some(set) = self.sets.get_mut(&address) else {
             return Err(RegistryFault::NotMaster);
@@ -129,7 +129,7 @@ impl Registry {
     pub fn close(&mut self, address: u8) -> bool
         ensures found { result ≡ is_some (set_at address self.old.sets) }
         ensures sets { self.new.sets ≡ without address self.old.sets }
-        ensures room { self.old.room ≤ self.new.room }
+        ensures capacity { self.old.capacity ≤ self.new.capacity }
     {
         // The contract of `len` says that no two sets have the same address.
         let _count = self.sets.len();
@@ -186,7 +186,7 @@ impl Registry {
     pub fn bind(&mut self, address: u8, name: Name)
         requires unnamed { IsUnnamed (set_at address self.old.sets) }
         ensures sets { self.new.sets ≡ binding (set_at address self.old.sets) name self.old.sets }
-        ensures room { self.new.room ≡ self.old.room }
+        ensures capacity { self.new.capacity ≡ self.old.capacity }
     {
         if let Some(set) = self.sets.get_mut(&address) {
             set.bind(name);
@@ -196,20 +196,20 @@ impl Registry {
     /// Reserves capacity for one more set, so that the next `master` or `member` is not refused memory.
     /// The sets are unchanged.
     pub fn reserve(&mut self, _address: u8) -> Result<(), OutOfMemory>
-        ensures ok { OnOk result (0 < self.new.room) }
+        ensures ok { OnOk result (0 < self.new.capacity) }
         ensures sets { self.new.sets ≡ self.old.sets }
-        ensures room { self.old.room ≤ self.new.room }
+        ensures capacity { self.old.capacity ≤ self.new.capacity }
     {
-        self.make_room()
+        self.reserve_one()
     }
 
     // Inserts a set without members under its address.
     fn add(&mut self, address: u8, name: Option<Name>, count: u8) -> Result<(), OutOfMemory>
         ensures ok { OnOk result (self.new.sets ≡ with_set (record { address = address; name = name; count = member_count count; members = [] }) self.old.sets) }
         ensures err { OnErr result (self.new.sets ≡ self.old.sets) }
-        ensures room { 0 < self.old.room → IsOk result }
+        ensures capacity { 0 < self.old.capacity → IsOk result }
     {
-        self.make_room()?;
+        self.reserve_one()?;
         let members = self.vacant.take().unwrap();
         self.sets
             .insert(address, Set::new(address, name, count, members))
@@ -218,11 +218,11 @@ impl Registry {
     }
 
     // Reserves capacity for one more set and for its members. After a refusal, memory reserved so far is kept.
-    fn make_room(&mut self) -> Result<(), OutOfMemory>
-        ensures ok { OnOk result (0 < self.new.room) }
+    fn reserve_one(&mut self) -> Result<(), OutOfMemory>
+        ensures ok { OnOk result (0 < self.new.capacity) }
         ensures sets { self.new.sets ≡ self.old.sets }
-        ensures room { self.old.room ≤ self.new.room }
-        ensures made { 0 < self.old.room → IsOk result }
+        ensures capacity { self.old.capacity ≤ self.new.capacity }
+        ensures made { 0 < self.old.capacity → IsOk result }
     {
         if self.vacant.is_none() {
             self.vacant = Some(Box::new(self.alloc, ArrayVec::new())?);

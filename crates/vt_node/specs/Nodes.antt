@@ -26,8 +26,8 @@ pub record NodeState : Type 0 where
   pub tp : ByAddress tp_session.SessionState
   pub etp : ByAddress etp_session.SessionState
   pub sending : ByAddress Message
-  pub tp_room : ℕ
-  pub etp_room : ℕ
+  pub tp_spare : ℕ
+  pub etp_spare : ℕ
 
 abbrev pub node_code : Coded NodeState
 node_code =
@@ -36,8 +36,8 @@ node_code =
     (coded× (finite.code coded_ℕ (timed_code tp_session.session_state_code))
     (coded× (finite.code coded_ℕ (timed_code etp_session.session_state_code))
     (coded× (finite.code coded_ℕ (timed_code message_code)) (coded× coded_ℕ coded_ℕ)))))
-    (λ n. (n.claims, (n.tp, (n.etp, (n.sending, (n.tp_room, n.etp_room))))))
-    (λ p. record { claims = p.0; tp = p.1.0; etp = p.1.1.0; sending = p.1.1.1.0; tp_room = p.1.1.1.1.0; etp_room = p.1.1.1.1.1 })
+    (λ n. (n.claims, (n.tp, (n.etp, (n.sending, (n.tp_spare, n.etp_spare))))))
+    (λ p. record { claims = p.0; tp = p.1.0; etp = p.1.1.0; sending = p.1.1.1.0; tp_spare = p.1.1.1.1.0; etp_spare = p.1.1.1.1.1 })
     (λ _. refl)
 
 -- the result of a frame in each receiver, at a time

@@ -7,13 +7,13 @@ use Rattle.vt_node.specs.Watches.{Times, times_code}
 -- the sets in order, the capacity reserved for one more (1 or 0), and the time of the last frame of each address
 pub record Watched : Type 0 where
   pub sets : List Set
-  pub room : ℕ
+  pub capacity : ℕ
   pub watch : Times
 
 abbrev pub watched_code : Coded Watched
 watched_code =
     code_by (List Set × (ℕ × Times)) (coded× (coded_list set_code) (coded× coded_ℕ times_code))
-    (λ w. (w.sets, (w.room, w.watch))) (λ p. record { sets = p.0; room = p.1.0; watch = p.1.1 }) (λ _. refl)
+    (λ w. (w.sets, (w.capacity, w.watch))) (λ p. record { sets = p.0; capacity = p.1.0; watch = p.1.1 }) (λ _. refl)
 
 -- The time of an address is absent, or not before `earliest`.
 abbrev pub IsHeardSince : ℕ → Option ℕ → Type 0

@@ -53,7 +53,7 @@ impl Model for Node {
 
     ghost coded = { node_code };
 
-    ghost view = { λ n. record { claims = n.claims; tp = n.tp.sessions; etp = n.etp.sessions; sending = n.sender.sessions; tp_room = n.tp.room; etp_room = n.etp.room } };
+    ghost view = { λ n. record { claims = n.claims; tp = n.tp.sessions; etp = n.etp.sessions; sending = n.sender.sessions; tp_spare = n.tp.spare; etp_spare = n.etp.spare } };
 
     ghost invariant = { λ n. (n.tp.own_address ≡ n.claims.own) × (n.etp.own_address ≡ n.claims.own) × (n.sender.own_address ≡ n.claims.own) };
 }
@@ -125,8 +125,8 @@ impl Node {
         now: u64,
         frame: &Frame,
     ) -> Result<Option<(usize, u8)>, OutOfMemory>
-        ensures same { self.new ≡ record self.old { tp_room = self.new.tp_room } }
-        ensures ready { OnOk result (HasCapacityFor tp.protocol (tp_frame self.old.claims.own frame.now) self.new.tp_room) }
+        ensures same { self.new ≡ record self.old { tp_spare = self.new.tp_spare } }
+        ensures ready { OnOk result (HasCapacityFor tp.protocol (tp_frame self.old.claims.own frame.now) self.new.tp_spare) }
         ensures told { IfOk result (λ told. told ≡ size_and_first_byte
             (stepped tp.protocol now (alive now (finite.get self.old.tp (source_of frame.now))) (tp_frame self.old.claims.own frame.now)).message) }
     {
@@ -140,8 +140,8 @@ impl Node {
         now: u64,
         frame: &Frame,
     ) -> Result<Option<(usize, u8)>, OutOfMemory>
-        ensures same { self.new ≡ record self.old { etp_room = self.new.etp_room } }
-        ensures ready { OnOk result (HasCapacityFor etp.protocol (etp_frame self.old.claims.own frame.now) self.new.etp_room) }
+        ensures same { self.new ≡ record self.old { etp_spare = self.new.etp_spare } }
+        ensures ready { OnOk result (HasCapacityFor etp.protocol (etp_frame self.old.claims.own frame.now) self.new.etp_spare) }
         ensures told { IfOk result (λ told. told ≡ size_and_first_byte
             (stepped etp.protocol now (alive now (finite.get self.old.etp (source_of frame.now))) (etp_frame self.old.claims.own frame.now)).message) }
     {
@@ -150,9 +150,9 @@ impl Node {
 
     /// Handles a frame of the transport protocol as the receiver. Its memory is reserved by `prepare_tp`.
     pub fn hear_tp(&mut self, now: u64, frame: &Frame) -> Heard
-        requires { HasCapacityFor tp.protocol (tp_frame self.old.claims.own frame.now) self.old.tp_room }
+        requires { HasCapacityFor tp.protocol (tp_frame self.old.claims.own frame.now) self.old.tp_spare }
         ensures taken { HasTaken (tp_taken self.old now frame.now) (source_of frame.now) self.old.tp self.new.tp result }
-        ensures rest { self.new ≡ record self.old { tp = self.new.tp; tp_room = self.new.tp_room } }
+        ensures rest { self.new ≡ record self.old { tp = self.new.tp; tp_spare = self.new.tp_spare } }
     {
         match self.tp.hear(now, frame) {
             Ok(heard) => heard,
@@ -162,9 +162,9 @@ impl Node {
 
     /// Handles a frame of the extended transport protocol as the receiver. Its memory is reserved by `prepare_etp`.
     pub fn hear_etp(&mut self, now: u64, frame: &Frame) -> Heard
-        requires { HasCapacityFor etp.protocol (etp_frame self.old.claims.own frame.now) self.old.etp_room }
+        requires { HasCapacityFor etp.protocol (etp_frame self.old.claims.own frame.now) self.old.etp_spare }
         ensures taken { HasTaken (etp_taken self.old now frame.now) (source_of frame.now) self.old.etp self.new.etp result }
-        ensures rest { self.new ≡ record self.old { etp = self.new.etp; etp_room = self.new.etp_room } }
+        ensures rest { self.new ≡ record self.old { etp = self.new.etp; etp_spare = self.new.etp_spare } }
     {
         match self.etp.hear(now, frame) {
             Ok(heard) => heard,

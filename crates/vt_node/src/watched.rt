@@ -42,7 +42,7 @@ impl Model for WatchedRegistry {
 
     ghost coded = { watched_code };
 
-    ghost view = { λ w. record { sets = w.registry.sets; room = w.registry.room; watch = w.watch } };
+    ghost view = { λ w. record { sets = w.registry.sets; capacity = w.registry.capacity; watch = w.watch } };
 
     ghost invariant = { λ w. AreHeardSince w.earliest (heard_of w.watch) w.registry.sets };
 }
@@ -94,10 +94,10 @@ impl WatchedRegistry {
 
     /// Reserves capacity for one more set, so that the next `master` or `member` is not refused memory.
     pub fn reserve(&mut self, address: u8) -> Result<(), OutOfMemory>
-        ensures ok { OnOk result (0 < self.new.room) }
+        ensures ok { OnOk result (0 < self.new.capacity) }
         ensures sets { self.new.sets ≡ self.old.sets }
         ensures watch { self.new.watch ≡ self.old.watch }
-        ensures room { self.old.room ≤ self.new.room }
+        ensures capacity { self.old.capacity ≤ self.new.capacity }
     {
         self.registry.reserve(address)
     }
@@ -109,7 +109,7 @@ impl WatchedRegistry {
         holder: Option<Name>,
         count: u8,
     ) -> Result<(), RegistryFault>
-        ensures room { 0 < self.old.room → result ≢ Err declared.OutOfMemory }
+        ensures capacity { 0 < self.old.capacity → result ≢ Err declared.OutOfMemory }
         ensures sets { result ≢ Err declared.OutOfMemory → self.new.sets ≡ registering address holder count self.old.sets }
         ensures watch { self.new.watch ≡ self.old.watch }
     {
@@ -151,7 +151,7 @@ impl WatchedRegistry {
     /// Removes the set of an address. The others keep their order.
     pub fn close(&mut self, address: u8)
         ensures sets { self.new.sets ≡ without address self.old.sets }
-        ensures room { self.old.room ≤ self.new.room }
+        ensures capacity { self.old.capacity ≤ self.new.capacity }
         ensures watch { self.new.watch ≡ self.old.watch }
     {
         self.registry.close(address);
@@ -161,7 +161,7 @@ impl WatchedRegistry {
     pub fn begin(&mut self, now: u64)
         ensures heard { (address : ℕ) → heard_of self.new.watch address ≡ Some (unwrap_or (heard_of self.old.watch address) now) }
         ensures sets { self.new.sets ≡ self.old.sets }
-        ensures room { self.new.room ≡ self.old.room }
+        ensures capacity { self.new.capacity ≡ self.old.capacity }
     {
         self.earliest = self.earliest.min(now);
         self.watch.begin(now);
@@ -171,7 +171,7 @@ impl WatchedRegistry {
     pub fn hear(&mut self, address: u8, now: u64)
         ensures heard { heard_of self.new.watch ≡ with_at address (Some now) (heard_of self.old.watch) }
         ensures sets { self.new.sets ≡ self.old.sets }
-        ensures room { self.new.room ≡ self.old.room }
+        ensures capacity { self.new.capacity ≡ self.old.capacity }
     {
         self.earliest = self.earliest.min(now);
         self.watch.hear(address, now);

@@ -115,7 +115,7 @@ fn push_fraction(text: &mut ArrayString<20>, decimals: u8, fraction: u64)
     requires some { 0 < decimals }
     requires decimals { decimals ≤ 7 }
     requires fraction { fraction < 10 ^ decimals }
-    requires room { array_string_len text.old ≤ 11 }
+    requires spare { array_string_len text.old ≤ 11 }
     ensures text { text.new.bytes ≡ text.old.bytes ++ codes "." ++ zero_padded decimals fraction }
     ensures len { array_string_len text.new ≡ array_string_len text.old + 1 + decimals }
 {

@@ -9,12 +9,12 @@ use Rattle.vt_records.specs.Faults.{IsTruncated}
 -- the bytes so far, and the spare capacity for more bytes without an allocation
 pub record Arrived : Type 0 where
   pub bytes : List ℕ
-  pub room : ℕ
+  pub spare : ℕ
 
 abbrev pub arrived_code : Coded Arrived
 arrived_code =
     code_by (List ℕ × ℕ) (coded× (coded_list coded_ℕ) coded_ℕ)
-    (λ a. (a.bytes, a.room)) (λ p. record { bytes = p.0; room = p.1 }) (λ _. refl)
+    (λ a. (a.bytes, a.spare)) (λ p. record { bytes = p.0; spare = p.1 }) (λ _. refl)
 
 -- a lasting fault: more bytes or more memory do not cure it
 abbrev pub IsLasting : PoolFault → Type 0

@@ -44,7 +44,7 @@ impl Model for Reading {
 
     ghost coded = { arrived_code };
 
-    ghost view = { λ r. record { bytes = drop r.start r.bytes.items; room = vec_capacity r.bytes - vec_len r.bytes } };
+    ghost view = { λ r. record { bytes = drop r.start r.bytes.items; spare = vec_capacity r.bytes - vec_len r.bytes } };
 
     ghost invariant = { λ r. (r.start ≤ vec_len r.bytes) × IsReadTo (drop r.start r.bytes.items) r.whole r.fault };
 }
@@ -53,7 +53,7 @@ impl Reading {
     /// Makes an empty upload, without an allocation.
     pub fn new(alloc: Global) -> Reading
         ensures bytes { result.bytes ≡ [] }
-        ensures room { result.room ≡ 0 }
+        ensures spare { result.spare ≡ 0 }
     {
         Reading {
             bytes: Vec::new(alloc),
@@ -73,7 +73,7 @@ impl Reading {
         ensures err { OnErr result (self.new ≡ self.old) }
         ensures back { IfErr result (λ refused. refused.0.items ≡ piece.items) }
         ensures empty { self.old.bytes ≡ [] → IsOk result }
-        ensures ready { length piece.items ≤ from + self.old.room → IsOk result }
+        ensures ready { length piece.items ≤ from + self.old.spare → IsOk result }
     {
         append(&mut self.bytes, &mut self.start, piece, from)?;
         let (whole, fault) = read_on(&self.bytes[self.start..], self.whole, self.fault);
@@ -85,10 +85,10 @@ impl Reading {
     /// Reserves capacity for `count` more bytes. After an error the upload is unchanged.
     pub fn reserve(&mut self, count: usize) -> Result<(), OutOfMemory>
         ensures bytes { self.new.bytes ≡ self.old.bytes }
-        ensures ok { OnOk result (count ≤ self.new.room) }
-        ensures room { self.old.room ≤ self.new.room }
+        ensures ok { OnOk result (count ≤ self.new.spare) }
+        ensures spare { self.old.spare ≤ self.new.spare }
         ensures err { OnErr result (self.new ≡ self.old) }
-        ensures ready { count ≤ self.old.room → IsOk result }
+        ensures ready { count ≤ self.old.spare → IsOk result }
     {
         self.bytes.reserve(count)
     }
@@ -125,7 +125,7 @@ fn append(
     ensures start { start.new ≤ vec_len bytes.new }
     ensures ok { OnOk result (drop start.new bytes.new.items ≡ drop start.old bytes.old.items ++ drop from piece.items) }
     ensures err { OnErr result ((start.new ≡ start.old) × (bytes.new.items ≡ bytes.old.items)) }
-    ensures room { OnErr result ((vec_len bytes.new ≡ vec_len bytes.old) × (vec_capacity bytes.new ≡ vec_capacity bytes.old)) }
+    ensures spare { OnErr result ((vec_len bytes.new ≡ vec_len bytes.old) × (vec_capacity bytes.new ≡ vec_capacity bytes.old)) }
     ensures back { IfErr result (λ refused. refused.0.items ≡ piece.items) }
     ensures empty { drop start.old bytes.old.items ≡ [] → IsOk result }
     ensures ready { length piece.items ≤ from + (vec_capacity bytes.old - vec_len bytes.old) → IsOk result }

@@ -21,7 +21,7 @@ pub record IsQuest (g : Graph) (start : ℕ) (seen : NodeSet) (path : List ℕ) 
   pub on_path : (n : ℕ) → Contains path n → (start ≡ n) ⊎ IsIn seen n
   pub distinct : IsDistinct path
   pub first : 0 < length path → slice_index path 0 ≡ start
-  pub room : length path + absent seen ≤ 257
+  pub bound : length path + absent seen ≤ 257
 
 pub quest_begins : (g : Graph) (start : ℕ) (seen : NodeSet) → ((n : ℕ) → IsIn seen n → ⊥) → IsQuest g start seen (start ∷ [])
 quest_begins g start seen none = record {
@@ -34,7 +34,7 @@ quest_begins g start seen none = record {
   on_path = λ n among. elim (Contains-cons_cases start n [] among) as (λ _. (start ≡ n) ⊎ IsIn seen n) [ inl same ↦ inl same | inr none_left ↦ absurd (Contains-nil n none_left) ];
   distinct = (Contains-nil start, tt);
   first = λ _. refl;
-  room = omega (arith, absent-none seen none);
+  bound = omega (arith, absent-none seen none);
 }
 
 pub quest_pushed : (g : Graph) (start : ℕ) (seen : NodeSet) (path : List ℕ) (next : ℕ) (more : NodeSet) → IsQuest g start seen path → IsPath (triggered g) (path ++ next ∷ []) → 0 < length path → (IsIn seen next → ⊥) → next ≢ start → next < 256 → Adds seen more (next ∷ []) → IsQuest g start more (path ++ next ∷ [])
@@ -58,7 +58,7 @@ quest_pushed g start seen path next more q longer some unseen other small a = re
       ];
   distinct = IsDistinct-push path next q.distinct (λ among. elim (q.on_path next among) as (λ _. ⊥) [ inl same ↦ other (sym same) | inr marked ↦ unseen marked ]);
   first = λ _. get_or_append_left path (next ∷ []) 0 0 some ∙ q.first some;
-  room = simp length-append (omega (arith, q.room, absent-insert seen more next a small unseen));
+  bound = simp length-append (omega (arith, q.bound, absent-insert seen more next a small unseen));
 }
 
 pub quest_popped : (g : Graph) (start : ℕ) (seen : NodeSet) (front : List ℕ) (node : ℕ) → IsQuest g start seen (front ++ node ∷ []) → ((n : ℕ) → Triggers (triggered g) node n → IsIn seen n) → IsQuest g start seen front
@@ -77,14 +77,14 @@ quest_popped g start seen front node q all = record {
   on_path = λ n still. q.on_path n (Contains-append_left front (node ∷ []) n still);
   distinct = (IsDistinct-pop front node q.distinct).0;
   first = λ some. sym (get_or_append_left front (node ∷ []) 0 0 some) ∙ q.first (simp length-append (omega arith));
-  room = omega (arith, q.room, length-append front (node ∷ []));
+  bound = omega (arith, q.bound, length-append front (node ∷ []));
 }
 
 -- the path has spare capacity for one more node, for the start is not seen
-pub quest_room : (g : Graph) (start : ℕ) (seen : NodeSet) (path : List ℕ) (next : ℕ) (more : NodeSet) → IsQuest g start seen path → (IsIn seen next → ⊥) → next ≢ start → next < 256 → start < 256 → Adds seen more (next ∷ []) → length path < 256
-quest_room g start seen path next more q unseen other small also a =
+pub quest_short : (g : Graph) (start : ℕ) (seen : NodeSet) (path : List ℕ) (next : ℕ) (more : NodeSet) → IsQuest g start seen path → (IsIn seen next → ⊥) → next ≢ start → next < 256 → start < 256 → Adds seen more (next ∷ []) → length path < 256
+quest_short g start seen path next more q unseen other small also a =
     let still = λ (marked : IsIn more start). elim (marked_before seen more next start a marked) as (λ _. ⊥) [ inl before ↦ q.unseen before | inr same ↦ other same ] in
-    omega (arith, q.room, absent-insert seen more next a small unseen, absent-some more start also still)
+    omega (arith, q.bound, absent-insert seen more next a small unseen, absent-some more start also still)
 
 from_first : (g : Graph) (start : ℕ) (path : List ℕ) → 0 < length path → slice_index path 0 ≡ start → IsPath (triggered g) (path ++ start ∷ []) → IsCircle (triggered g) path
 from_first g start [] some first h = absurd (omega arith)
@@ -117,11 +117,11 @@ next_pushed g start seen path front node next more after later quest parts t uns
     let pushed = quest_pushed g start seen after next more q longer some unseen other small a in
     subst (λ (p : List ℕ). IsQuest g start more p) (sym is_later) pushed
 
-pub next_room : (g : Graph) (start : ℕ) (seen : NodeSet) (path front : List ℕ) (node next : ℕ) (more : NodeSet) (after : List ℕ)
+pub next_short : (g : Graph) (start : ℕ) (seen : NodeSet) (path front : List ℕ) (node next : ℕ) (more : NodeSet) (after : List ℕ)
     → IsQuest g start seen path → path ≡ front ++ node ∷ [] → (IsIn seen next → ⊥) → (next ≡ start → ⊥) → next < 256 → start < 256 → Adds seen more (next ∷ []) → after ≡ front ++ node ∷ [] → length after < 256
-next_room g start seen path front node next more after quest parts unseen other small also a is_after =
+next_short g start seen path front node next more after quest parts unseen other small also a is_after =
     let q = subst (λ (p : List ℕ). IsQuest g start seen p) (parts ∙ sym is_after) quest in
-    quest_room g start seen after next more q unseen other small also a
+    quest_short g start seen after next more q unseen other small also a
 
 -- the measure of the search: twice the number of nodes not seen, plus the length of the path
 abbrev pub work : NodeSet → List ℕ → ℕ
@@ -149,10 +149,10 @@ pub last_popped : (g : Graph) (start : ℕ) (seen : NodeSet) (path front : List 
 last_popped g start seen path front node quest parts all =
     quest_popped g start seen front node (subst (λ (p : List ℕ). IsQuest g start seen p) parts quest) all
 
-pub back_room : (g : Graph) (start : ℕ) (seen : NodeSet) (path front : List ℕ) (node : ℕ) → IsQuest g start seen path → path ≡ front ++ node ∷ [] → start < 256 → length front < 256
-back_room g start seen path front node quest parts small =
+pub back_short : (g : Graph) (start : ℕ) (seen : NodeSet) (path front : List ℕ) (node : ℕ) → IsQuest g start seen path → path ≡ front ++ node ∷ [] → start < 256 → length front < 256
+back_short g start seen path front node quest parts small =
     let longer : length path ≡ length front + 1 = rw parts (length-append front (node ∷ [])) in
-    omega (arith, longer, quest.room, absent-some seen start small quest.unseen)
+    omega (arith, longer, quest.bound, absent-some seen start small quest.unseen)
 
 pub last_smaller : (seen : NodeSet) (path front : List ℕ) (node : ℕ) → path ≡ front ++ node ∷ [] → work seen front < work seen path
 last_smaller seen path front node parts =

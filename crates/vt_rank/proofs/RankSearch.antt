@@ -25,7 +25,7 @@ search_begins g s unranked unseen size count = record {
   walk = tt;
   distinct = tt;
   size = size;
-  room = omega (arith, count, absent-none s.seen unseen);
+  bound = omega (arith, count, absent-none s.seen unseen);
 }
 
 -- the invariant after an unseen node is appended to the path
@@ -46,7 +46,7 @@ search_pushed g s path n seen h longer unseen unranked small a = record {
   walk = longer;
   distinct = IsDistinct-push path n h.distinct (λ on_path. unseen (h.on_path n on_path).0);
   size = h.size;
-  room = simp length-append (omega (arith, h.room, absent-insert s.seen seen n a small unseen));
+  bound = simp length-append (omega (arith, h.bound, absent-insert s.seen seen n a small unseen));
 }
 
 -- the invariant after the last node of the path gets the next rank, if all nodes triggered by it have ranks
@@ -87,11 +87,11 @@ search_ranked g s front node ranked h all a here =
       walk = IsPath-front g front (node ∷ []) h.walk;
       distinct = apart.0;
       size = length-set s.ranks node s.count ∙ h.size;
-      room = omega (arith, h.room, length-append front (node ∷ []));
+      bound = omega (arith, h.bound, length-append front (node ∷ []));
     }
 
-pub search_room : (g : Graph) (s : Search) (path : List ℕ) (n : ℕ) (seen : NodeSet) → IsSearch g s path → (IsIn s.seen n → ⊥) → n < 256 → Adds s.seen seen (n ∷ []) → length path < 256
-search_room g s path n seen h unseen small a = omega (arith, h.room, absent-insert s.seen seen n a small unseen)
+pub search_short : (g : Graph) (s : Search) (path : List ℕ) (n : ℕ) (seen : NodeSet) → IsSearch g s path → (IsIn s.seen n → ⊥) → n < 256 → Adds s.seen seen (n ∷ []) → length path < 256
+search_short g s path n seen h unseen small a = omega (arith, h.bound, absent-insert s.seen seen n a small unseen)
 
 -- The invariant of a visit that begins at a node.
 pub record IsVisit (g : Graph) (start : ℕ) (before now : Search) (path : List ℕ) : Type 0 where
@@ -133,11 +133,11 @@ visit_pushed g start before s path front node next seen after later v parts t un
       kept = v.kept;
     }
 
-pub visit_room : (g : Graph) (start : ℕ) (before s : Search) (path front : List ℕ) (node next : ℕ) (seen : NodeSet) (after : List ℕ)
+pub visit_short : (g : Graph) (start : ℕ) (before s : Search) (path front : List ℕ) (node next : ℕ) (seen : NodeSet) (after : List ℕ)
     → IsVisit g start before s path → path ≡ front ++ node ∷ [] → (IsIn s.seen next → ⊥) → next < 256 → Adds s.seen seen (next ∷ []) → after ≡ front ++ node ∷ [] → length after < 256
-visit_room g start before s path front node next seen after v parts unseen small a is_after =
+visit_short g start before s path front node next seen after v parts unseen small a is_after =
     let same : length after ≡ length path = ap length (is_after ∙ sym parts) in
-    omega (arith, same, search_room g s path next seen v.search unseen small a)
+    omega (arith, same, search_short g s path next seen v.search unseen small a)
 
 pub visit_ranked : (g : Graph) (start : ℕ) (before s : Search) (path front : List ℕ) (node i : ℕ) (ranked : NodeSet)
     → IsVisit g start before s path → path ≡ front ++ node ∷ [] → ((n : ℕ) → Triggers (triggered g) node n → IsIn s.ranked n) → i ≡ node → node < length s.ranks → Adds s.ranked ranked (node ∷ [])
@@ -184,7 +184,7 @@ all_ranked g s h ranked = record {
       ];
   small = λ n.
       elim (cases_lt n 256) as (λ _. slice_index s.ranks n < 256) [
-        | inl within ↦ omega (arith, h.below n (ranked n within), h.room)
+        | inl within ↦ omega (arith, h.below n (ranked n within), h.bound)
         | inr past ↦ omega (arith, get_or_past s.ranks n 0 (omega (arith, h.size)))
       ];
 }

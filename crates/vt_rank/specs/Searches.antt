@@ -16,4 +16,4 @@ pub record IsSearch (g : Graph) (s : Search) (path : List ℕ) : Type 0 where
   pub walk : IsPath (triggered g) path
   pub distinct : IsDistinct path
   pub size : length s.ranks ≡ 256
-  pub room : s.count + length path + absent s.seen ≤ 256
+  pub bound : s.count + length path + absent s.seen ≤ 256

@@ -10,7 +10,7 @@ ghost use Rattle.vt_server.specs.message.Judgements.{IsJudgement, IsEnded};
 ghost use Rattle.vt_server.specs.state.AddressViews.{raised_on};
 ghost use Rattle.vt_server.specs.state.AddressStates.{no_content, with_piece};
 ghost use Rattle.vt_node.specs.AddressFunctions.{with_at};
-ghost use Rattle.vt_server.specs.state.PoolTables.{content_of, room_of};
+ghost use Rattle.vt_server.specs.state.PoolTables.{content_of, spare_of};
 
 use crate::OutOfMemory;
 use crate::message::end_of_pool::{ACCEPTED, Judgement, judge};
@@ -80,7 +80,7 @@ impl PoolTable {
     /// Removes the pool and the upload of an address.
     pub(crate) fn remove(&mut self, address: u8)
         ensures content { content_of self.new ≡ with_at address no_content (content_of self.old) }
-        ensures rooms { (other : ℕ) → other ≢ address → room_of self.new other ≡ room_of self.old other }
+        ensures spare { (other : ℕ) → other ≢ address → spare_of self.new other ≡ spare_of self.old other }
     {
         self.pools[usize::from(address)] = None;
         self.transfers[usize::from(address)] = None;
@@ -109,7 +109,7 @@ impl PoolTable {
         count: usize,
     ) -> Result<(), OutOfMemory>
         ensures same { content_of self.new ≡ content_of self.old }
-        ensures ok { OnOk result (count ≤ room_of self.new address) }
+        ensures ok { OnOk result (count ≤ spare_of self.new address) }
     {
         let place = &mut self.transfers[usize::from(address)];
         match place {
@@ -126,7 +126,7 @@ impl PoolTable {
     /// Appends the bytes of a piece from index `from` on to the upload of an address, which has capacity for them.
     pub(crate) fn feed(&mut self, address: u8, piece: Vec<u8>, from: usize)
         requires from { from ≤ length piece.items }
-        requires room { length piece.items ≤ from + room_of self.old address }
+        requires spare { length piece.items ≤ from + spare_of self.old address }
         ensures { content_of self.new ≡ with_at address (with_piece (content_of self.old address) (drop from piece.items)) (content_of self.old) }
     {
         let Some(transfer) = self.transfers[usize::from(address)].as_mut() else {

@@ -54,7 +54,7 @@ impl Model for Receiver {
 
     ghost coded = { receiver_state_code session_state_code };
 
-    ghost view = { λ r. record { own_address = r.own_address; sessions = r.sessions; room = vec_capacity r.spare } };
+    ghost view = { λ r. record { own_address = r.own_address; sessions = r.sessions; spare = vec_capacity r.spare } };
 
     ghost invariant = { λ r. vec_len r.spare ≡ 0 };
 }
@@ -64,7 +64,7 @@ impl Receiver {
     pub fn new(alloc: Global, own_address: u8) -> Receiver
         ensures own_address { result.own_address ≡ own_address }
         ensures sessions { result.sessions ≡ finite.empty }
-        ensures room { result.room ≡ 0 }
+        ensures spare { result.spare ≡ 0 }
     {
         Receiver {
             own_address,
@@ -81,8 +81,8 @@ impl Receiver {
             (λ heard. MakesStep protocol self.old self.new (source_of frame.now) (outcome protocol self.old now frame.now) heard) }
         ensures others { OthersStay self.old self.new (source_of frame.now) }
         ensures err { OnErr result (self.new ≡ self.old) }
-        ensures ready { HasCapacityFor protocol (tp_frame self.old.own_address frame.now) self.old.room → IsOk result }
-        ensures room { OpensNone protocol (tp_frame self.old.own_address frame.now) → self.new.room ≡ self.old.room }
+        ensures ready { HasCapacityFor protocol (tp_frame self.old.own_address frame.now) self.old.spare → IsOk result }
+        ensures spare { OpensNone protocol (tp_frame self.old.own_address frame.now) → self.new.spare ≡ self.old.spare }
     {
         let source = frame.id.source();
         match wire::tp_frame(self.own_address, frame) {
@@ -98,7 +98,7 @@ impl Receiver {
     /// "Timeouts".
     pub fn expire(&mut self, now: u64) -> Option<Frame>
         ensures own_address { self.new.own_address ≡ self.old.own_address }
-        ensures room { self.new.room ≡ self.old.room }
+        ensures spare { self.new.spare ≡ self.old.spare }
         ensures some { IfSome result (λ frame. TimesOut protocol self.old self.new now frame) }
         ensures none { IfNone result (self.new ≡ self.old) }
         ensures all { IfNone result
@@ -119,9 +119,9 @@ impl Receiver {
     pub fn prepare(&mut self, now: u64, frame: &Frame) -> Result<Option<(usize, u8)>, OutOfMemory>
         ensures own_address { self.new.own_address ≡ self.old.own_address }
         ensures sessions { self.new.sessions ≡ self.old.sessions }
-        ensures ready { OnOk result (HasCapacityFor protocol (tp_frame self.old.own_address frame.now) self.new.room) }
-        ensures free { HasCapacityFor protocol (tp_frame self.old.own_address frame.now) self.old.room → IsOk result }
-        ensures room { OpensNone protocol (tp_frame self.old.own_address frame.now) → self.new.room ≡ self.old.room }
+        ensures ready { OnOk result (HasCapacityFor protocol (tp_frame self.old.own_address frame.now) self.new.spare) }
+        ensures free { HasCapacityFor protocol (tp_frame self.old.own_address frame.now) self.old.spare → IsOk result }
+        ensures spare { OpensNone protocol (tp_frame self.old.own_address frame.now) → self.new.spare ≡ self.old.spare }
         ensures answer { IfOk result (λ answer. answer ≡ size_and_first_byte (timely_outcome protocol self.old now frame.now).message) }
     {
         match wire::tp_frame(self.own_address, frame) {
@@ -140,8 +140,8 @@ impl Receiver {
         ensures step { IfOk result (λ heard. MakesStep protocol self.old self.new source (after_rts now opening) heard) }
         ensures others { OthersStay self.old self.new source }
         ensures err { OnErr result (self.new ≡ self.old) }
-        ensures ready { HasCapacityFor protocol (Some (declared.Rts opening)) self.old.room → IsOk result }
-        ensures room { opens opening ≡ false → self.new.room ≡ self.old.room }
+        ensures ready { HasCapacityFor protocol (Some (declared.Rts opening)) self.old.spare → IsOk result }
+        ensures spare { opens opening ≡ false → self.new.spare ≡ self.old.spare }
     {
         if !opening.opens() {
             self.sessions.remove(source);
@@ -157,7 +157,7 @@ impl Receiver {
         ensures step { MakesStep protocol self.old self.new source
             (after_packet now (finite.get self.old.sessions source) number bytes) result }
         ensures others { OthersStay self.old self.new source }
-        ensures room { self.new.room ≡ self.old.room }
+        ensures spare { self.new.spare ≡ self.old.spare }
     {
         let Some(Timed { last, session }) = self.sessions.take(source) else {
             return Heard::Nothing;
@@ -182,7 +182,7 @@ impl Receiver {
         ensures step { MakesStep protocol self.old self.new source
             (step 0 (finite.get self.old.sessions source) (declared.Aborted pgn)) result }
         ensures others { OthersStay self.old self.new source }
-        ensures room { self.new.room ≡ self.old.room }
+        ensures spare { self.new.spare ≡ self.old.spare }
     {
         if pgn == VT_TO_ECU {
             return Heard::Nothing;
@@ -194,9 +194,9 @@ impl Receiver {
     fn set_aside(&mut self, opening: Opening) -> Result<(), OutOfMemory>
         ensures own_address { self.new.own_address ≡ self.old.own_address }
         ensures sessions { self.new.sessions ≡ self.old.sessions }
-        ensures ready { OnOk result (HasCapacityFor protocol (Some (declared.Rts opening)) self.new.room) }
-        ensures free { HasCapacityFor protocol (Some (declared.Rts opening)) self.old.room → IsOk result }
-        ensures room { opens opening ≡ false → self.new.room ≡ self.old.room }
+        ensures ready { OnOk result (HasCapacityFor protocol (Some (declared.Rts opening)) self.new.spare) }
+        ensures free { HasCapacityFor protocol (Some (declared.Rts opening)) self.old.spare → IsOk result }
+        ensures spare { opens opening ≡ false → self.new.spare ≡ self.old.spare }
     {
         if opening.opens() {
             self.spare.reserve_exact(usize::from(opening.size))?;

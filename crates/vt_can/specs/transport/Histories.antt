@@ -64,6 +64,6 @@ module _ {F O P : Type 0} (spelling : Spelling F O P) where
   -- An open session has received whole packets, but not all, and has capacity for the message.
   pub record IsReceiving (o : O) (received len capacity : ℕ) : Type 0 where
     pub opened : spelling.opens o ≡ true
-    pub room : spelling.size o ≤ capacity
+    pub fits : spelling.size o ≤ capacity
     pub more : received < spelling.total o
     pub full : len ≡ 7 * received

@@ -15,12 +15,12 @@ use Rattle.vt_can.specs.transport.Steps.{stepped}
 pub record ReceiverState (S : Type 0) : Type 0 where
   pub own_address : ℕ
   pub sessions : ByAddress S
-  pub room : ℕ
+  pub spare : ℕ
 
 abbrev pub receiver_state_code : {S : Type 0} → Coded S → Coded (ReceiverState S)
 receiver_state_code {S} code =
     code_by (ℕ × (ByAddress S × ℕ)) (coded× coded_ℕ (coded× (finite.code coded_ℕ (timed_code code)) coded_ℕ))
-    (λ r. (r.own_address, (r.sessions, r.room))) (λ p. record { own_address = p.0; sessions = p.1.0; room = p.1.1 }) (λ _. refl)
+    (λ r. (r.own_address, (r.sessions, r.spare))) (λ p. record { own_address = p.0; sessions = p.1.0; spare = p.1.1 }) (λ _. refl)
 
 -- the sessions of the other sources are unchanged
 abbrev pub OthersStay : {S : Type 0} → ReceiverState S → ReceiverState S → ℕ → Type 0
@@ -53,8 +53,8 @@ module _ {S F R : Type 0} (protocol : Protocol S F R) where
 
   -- the reserved capacity is enough for the message of the frame, if it opens a session
   abbrev pub HasCapacityFor : Option F → ℕ → Type 0
-  HasCapacityFor None room = Unit {0}
-  HasCapacityFor (Some frame) room = protocol.opens frame ≡ true → protocol.size frame ≤ room
+  HasCapacityFor None spare = Unit {0}
+  HasCapacityFor (Some frame) spare = protocol.opens frame ≡ true → protocol.size frame ≤ spare
 
   -- the frame opens no session
   abbrev pub OpensNone : Option F → Type 0

@@ -38,7 +38,7 @@ pub fn write_line(time: u64, frame: &Frame) -> ArrayVec<u8, 52>
 // Appends two upper case hex digits for each of up to eight bytes.
 fn push_digits(text: &mut ArrayVec<u8, 25>, bytes: &[u8])
     requires few { length bytes.now ≤ 8 }
-    requires room { array_vec_len text.old + 2 * length bytes.now ≤ 25 }
+    requires spare { array_vec_len text.old + 2 * length bytes.now ≤ 25 }
     ensures written { text.new.items ≡ text.old.items ++ encode_upper bytes.now }
     ensures counted { array_vec_len text.new ≡ array_vec_len text.old + 2 * length bytes.now }
 {

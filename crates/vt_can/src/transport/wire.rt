@@ -68,10 +68,10 @@ pub fn three_bytes(number: u32) -> [u8; 3]
 /// Appends a packet to a message of `size` bytes, without the padding after its end. Does not allocate.
 pub fn append_packet(bytes: &mut Vec<u8>, size: usize, packet: [u8; 7])
     requires lacking { vec_len bytes.old ≤ size }
-    requires room { size ≤ vec_capacity bytes.old }
+    requires capacity { size ≤ vec_capacity bytes.old }
     ensures items { bytes.new.items ≡ take size (bytes.old.items ++ packet) }
     ensures len { vec_len bytes.new ≡ min size (vec_len bytes.old + 7) }
-    ensures room { vec_capacity bytes.new ≡ vec_capacity bytes.old }
+    ensures capacity { vec_capacity bytes.new ≡ vec_capacity bytes.old }
 {
     let left = size - bytes.len();
     append(bytes, &packet[..left.min(7)]);
@@ -82,7 +82,7 @@ fn append(bytes: &mut Vec<u8>, part: &[u8])
     requires { vec_len bytes.old + length part.now ≤ vec_capacity bytes.old }
     ensures items { bytes.new.items ≡ bytes.old.items ++ part.now }
     ensures len { vec_len bytes.new ≡ vec_len bytes.old + length part.now }
-    ensures room { vec_capacity bytes.new ≡ vec_capacity bytes.old }
+    ensures capacity { vec_capacity bytes.new ≡ vec_capacity bytes.old }
 {
     for byte in part {
         bytes.push_reserved(*byte);

@@ -25,7 +25,7 @@ use Rattle.vt_server.specs.Steps.{is_lost_by, answer_to, is_defended, hearing, a
 use Rattle.vt_server.specs.Terminals.{State, part, put}
 use Rattle.vt_node.specs.AddressFunctions.{with_at}
 use Rattle.vt_server.specs.message.Verdicts.{Verdict, IsVerdict}
-use Rattle.vt_server.specs.state.PoolTables.{content_of, room_of}
+use Rattle.vt_server.specs.state.PoolTables.{content_of, spare_of}
 use Rattle.vt_server.specs.declared.frame.claim.FormerHolders.{FormerHolders}
 use Rattle.vt_node.specs.declared.bus.FrameMeaning.{FrameMeaning}
 use Rattle.vt_node.specs.declared.bus.FrameMeaning.TheVariants as notices
@@ -47,17 +47,17 @@ is_other bytes = (BeginsWithByte TRANSFER bytes → ⊥) × (BeginsWithByte END_
 
 -- The work done in advance is right for a message of these bytes, by the content of its address and the capacity of its upload.
 abbrev pub FitsMessage : SetPool → ℕ → List ℕ → PreparedMessage → Type 0
-FitsMessage content room bytes uploads.Nothing = is_other bytes
-FitsMessage content room bytes uploads.Room = BeginsWithByte TRANSFER bytes × (length bytes ≤ 1 + room)
-FitsMessage content room bytes (uploads.Piece piece) = BeginsWithByte TRANSFER bytes × (piece.items ≡ bytes) × (length bytes ≤ 1 + room)
-FitsMessage content room bytes (uploads.End judgement) = BeginsWithByte END_OF_POOL bytes × IsJudgement content judgement
+FitsMessage content spare bytes uploads.Nothing = is_other bytes
+FitsMessage content spare bytes uploads.Capacity = BeginsWithByte TRANSFER bytes × (length bytes ≤ 1 + spare)
+FitsMessage content spare bytes (uploads.Piece piece) = BeginsWithByte TRANSFER bytes × (piece.items ≡ bytes) × (length bytes ≤ 1 + spare)
+FitsMessage content spare bytes (uploads.End judgement) = BeginsWithByte END_OF_POOL bytes × IsJudgement content judgement
 
 -- The work done in advance is right for a message that is there already: a piece comes with its capacity.
 abbrev pub FitsOneFrame : SetPool → ℕ → List ℕ → PreparedMessage → Type 0
-FitsOneFrame content room bytes uploads.Room = ⊥
-FitsOneFrame content room bytes uploads.Nothing = is_other bytes
-FitsOneFrame content room bytes (uploads.Piece piece) = BeginsWithByte TRANSFER bytes × (piece.items ≡ bytes) × (length bytes ≤ 1 + room)
-FitsOneFrame content room bytes (uploads.End judgement) = BeginsWithByte END_OF_POOL bytes × IsJudgement content judgement
+FitsOneFrame content spare bytes uploads.Capacity = ⊥
+FitsOneFrame content spare bytes uploads.Nothing = is_other bytes
+FitsOneFrame content spare bytes (uploads.Piece piece) = BeginsWithByte TRANSFER bytes × (piece.items ≡ bytes) × (length bytes ≤ 1 + spare)
+FitsOneFrame content spare bytes (uploads.End judgement) = BeginsWithByte END_OF_POOL bytes × IsJudgement content judgement
 
 -- The work done in advance is the judgement of the upload.
 abbrev pub IsEnd : SetPool → PreparedMessage → Type 0
@@ -66,24 +66,24 @@ IsEnd content upload = ⊥
 
 -- The work done in advance is right for the message that a frame completes, if it completes one.
 abbrev pub FitsCompleted : SetPool → ℕ → Option (List ℕ) → PreparedMessage → Type 0
-FitsCompleted content room None upload = Unit {0}
-FitsCompleted content room (Some bytes) upload = FitsMessage content room bytes upload
+FitsCompleted content spare None upload = Unit {0}
+FitsCompleted content spare (Some bytes) upload = FitsMessage content spare bytes upload
 
 -- The work done in advance is right for a frame of this meaning. A message of one frame is there already.
 abbrev pub FitsMeaning : FrameMeaning → SetPool → ℕ → Option (List ℕ) → PreparedMessage → Type 0
-FitsMeaning notices.Message content room (Some bytes) upload = FitsOneFrame content room bytes upload
-FitsMeaning notice content room message upload = FitsCompleted content room message upload
+FitsMeaning notices.Message content spare (Some bytes) upload = FitsOneFrame content spare bytes upload
+FitsMeaning notice content spare message upload = FitsCompleted content spare message upload
 
 -- ---- reserved capacity
 
 -- Capacity is reserved for the session or the set that a frame may begin.
-pub record HasRoom (t : Terminal) (notice : FrameMeaning) (frame : Frame) : Type 0 where
-  pub tp : notice ≡ notices.Tp → HasCapacityFor tp.protocol (tp_frame t.node.claims.own frame) t.node.tp_room
-  pub etp : notice ≡ notices.Etp → HasCapacityFor etp.protocol (etp_frame t.node.claims.own frame) t.node.etp_room
-  pub sets : (count : ℕ) → notice ≡ notices.Master count → 0 < t.registry.room
+pub record HasCapacity (t : Terminal) (notice : FrameMeaning) (frame : Frame) : Type 0 where
+  pub tp : notice ≡ notices.Tp → HasCapacityFor tp.protocol (tp_frame t.node.claims.own frame) t.node.tp_spare
+  pub etp : notice ≡ notices.Etp → HasCapacityFor etp.protocol (etp_frame t.node.claims.own frame) t.node.etp_spare
+  pub sets : (count : ℕ) → notice ≡ notices.Master count → 0 < t.registry.capacity
 
 -- The capacity reserved for sessions and sets is unchanged.
-pub record RoomsStay (old new : Terminal) : Type 0 where
+pub record CapacityStays (old new : Terminal) : Type 0 where
   pub node : new.node ≡ old.node
   pub registry : new.registry ≡ old.registry
 
@@ -108,20 +108,20 @@ FitsFrame s t notice frame HasUpload (readies.Claimed former) =
     × AreFormer s (source_of frame) name former × (former.is_defended ≡ is_defended notice (answer_to s (source_of frame) notice))
     × (state_of t ≡ steps.before s (source_of frame) notice)
 FitsFrame s t notice frame HasUpload (readies.Prepared upload) =
-    (state_of t ≡ s) × IsNoClaim notice × HasRoom t notice frame × HasUpload upload
+    (state_of t ≡ s) × IsNoClaim notice × HasCapacity t notice frame × HasUpload upload
 
 -- The work done in advance is right before the timeouts and closings of the frame's time.
 abbrev pub FitsBeforeTimeouts : State → Terminal → ℕ → FrameMeaning → Frame → PreparedFrame → Type 0
 FitsBeforeTimeouts s t now notice frame ready =
     FitsFrame s t notice frame
-    (FitsMeaning notice (content_of t.contents (source_of frame)) (room_of t.contents (source_of frame))
+    (FitsMeaning notice (content_of t.contents (source_of frame)) (spare_of t.contents (source_of frame))
     (message_by t now (timely now ((state_of t).places (source_of frame))) notice frame)) ready
 
 -- The upload is right after the timeouts and closings, if the source still has a set.
 abbrev pub HasUpload : Terminal → FrameMeaning → Frame → PreparedMessage → Type 0
 HasUpload t notice frame upload =
     is_some (set_at (source_of frame) t.registry.sets) ≡ true
-    → FitsMeaning notice (content_of t.contents (source_of frame)) (room_of t.contents (source_of frame))
+    → FitsMeaning notice (content_of t.contents (source_of frame)) (spare_of t.contents (source_of frame))
     (message_by t t.time ((state_of t).places (source_of frame)) notice frame) upload
 
 abbrev pub FitsAfterTimeouts : State → Terminal → FrameMeaning → Frame → PreparedFrame → Type 0

@@ -25,9 +25,9 @@ abbrev pub bytes_arrived : Option Arrived → List ℕ
 bytes_arrived None = []
 bytes_arrived (Some transfer) = transfer.bytes
 
-abbrev pub room_in : Option Arrived → ℕ
-room_in None = 0
-room_in (Some transfer) = transfer.room
+abbrev pub spare_in : Option Arrived → ℕ
+spare_in None = 0
+spare_in (Some transfer) = transfer.spare
 
 -- the pool and the upload of each address
 abbrev pub content_by : List (Option SetState) → List (Option Arrived) → ℕ → SetPool
@@ -37,5 +37,5 @@ abbrev pub content_of : Kept → ℕ → SetPool
 content_of contents = content_by contents.pools contents.transfers
 
 -- the reserved capacity, in bytes, of the upload of an address
-abbrev pub room_of : Kept → ℕ → ℕ
-room_of contents address = room_in (get_or contents.transfers address None)
+abbrev pub spare_of : Kept → ℕ → ℕ
+spare_of contents address = spare_in (get_or contents.transfers address None)

@@ -5,7 +5,7 @@ ghost use Rattle.vt_can.specs.frames.Frame.{source_of};
 ghost use Rattle.vt_node.specs.Bus.{notice_of};
 ghost use Rattle.vt_server.specs.shown.ShownSet.{display};
 ghost use Rattle.vt_server.specs.shown.DisplayValues.{display_value};
-ghost use Rattle.vt_server.specs.frame.FrameContracts.{FitsBeforeTimeouts, FitsAfterTimeouts, IsNoClaim, HasRoom, HasUpload, Hears, TakesFrame, TakesNotice};
+ghost use Rattle.vt_server.specs.frame.FrameContracts.{FitsBeforeTimeouts, FitsAfterTimeouts, IsNoClaim, HasCapacity, HasUpload, Hears, TakesFrame, TakesNotice};
 ghost use Rattle.vt_server.specs.Outputs.{outputs_of, HasSpare};
 ghost use Rattle.vt_server.specs.state.AddressViews as parts;
 ghost use Rattle.vt_server.specs.shown.Screens.{KeepsScreen, ShowsWhatIsLeft, TellsChanges, redraws};
@@ -170,7 +170,7 @@ impl Terminal {
     )
         requires capacity { HasSpare 258 outputs.old }
         requires no_claim { IsNoClaim notice.now }
-        requires rooms { HasRoom self.old notice.now frame.now }
+        requires reserved { HasCapacity self.old notice.now frame.now }
         requires upload { HasUpload self.old notice.now frame.now upload }
         ensures takes { TakesFrame (state_of self.old) notice.now frame.now (state_of self.new) outputs.old.items outputs.new.items }
         ensures tells { TellsChanges self.old self.new }
@@ -213,7 +213,7 @@ impl Terminal {
     )
         requires capacity { HasSpare 258 outputs.old }
         requires no_claim { IsNoClaim notice.now }
-        requires rooms { HasRoom self.old notice.now frame.now }
+        requires reserved { HasCapacity self.old notice.now frame.now }
         requires upload { HasUpload self.old notice.now frame.now upload }
         ensures takes { TakesNotice (state_of self.old) notice.now frame.now (state_of self.new) outputs.old.items outputs.new.items }
         ensures tells { TellsChanges self.old self.new }
@@ -234,7 +234,7 @@ impl Terminal {
 
     // Registers a set at its master's address. Only an address without a holder is refused, and nothing is registered then.
     fn register(&mut self, source: u8, count: u8)
-        requires room { 0 < self.old.registry.room }
+        requires capacity { 0 < self.old.registry.capacity }
         ensures state { state_of self.new ≡ spec.put source (parts.after_master source (spec.part source (state_of self.old)) (spec.part source (state_of self.old)).holder count) (state_of self.old) }
         ensures tells { TellsChanges self.old self.new }
     {

@@ -17,7 +17,7 @@ ghost use Rattle.vt_server.specs.frame.SessionEffects.{message_to_terminal};
 ghost use Rattle.vt_server.specs.shown.Screens.{TellsChanges};
 ghost use Rattle.vt_server.specs.States.{state_of};
 ghost use Rattle.vt_server.specs.Terminals as spec;
-ghost use Rattle.vt_server.specs.state.PoolTables.{content_of, room_of};
+ghost use Rattle.vt_server.specs.state.PoolTables.{content_of, spare_of};
 ghost use Rattle.vt_node.specs.declared.bus.FrameMeaning.TheVariants as notices;
 
 use crate::message::upload::PreparedMessage;
@@ -36,7 +36,7 @@ impl Terminal {
     )
         requires capacity { HasSpare 2 outputs.old }
         requires ready { is_some (set_at (source_of frame.now) (state_of self.old).sets) ≡ true
-            → FitsOneFrame (content_of self.old.contents (source_of frame.now)) (room_of self.old.contents (source_of frame.now)) frame.now.bytes.items upload }
+            → FitsOneFrame (content_of self.old.contents (source_of frame.now)) (spare_of self.old.contents (source_of frame.now)) frame.now.bytes.items upload }
         ensures takes { TakesNotice (state_of self.old) notices.Message frame.now (state_of self.new) outputs.old.items outputs.new.items }
         ensures tells { TellsChanges self.old self.new }
         ensures capacity { HasSpare 1 outputs.new }
@@ -53,9 +53,9 @@ impl Terminal {
         outputs: &mut Vec<Output>,
     )
         requires capacity { HasSpare 258 outputs.old }
-        requires session { HasCapacityFor tp.protocol (tp_frame self.old.node.claims.own frame.now) self.old.node.tp_room }
+        requires session { HasCapacityFor tp.protocol (tp_frame self.old.node.claims.own frame.now) self.old.node.tp_spare }
         requires ready { is_some (set_at (source_of frame.now) (state_of self.old).sets) ≡ true
-            → FitsCompleted (content_of self.old.contents (source_of frame.now)) (room_of self.old.contents (source_of frame.now))
+            → FitsCompleted (content_of self.old.contents (source_of frame.now)) (spare_of self.old.contents (source_of frame.now))
             (message_by self.old self.old.time ((state_of self.old).places (source_of frame.now)) notices.Tp frame.now) upload }
         ensures takes { TakesNotice (state_of self.old) notices.Tp frame.now (state_of self.new) outputs.old.items outputs.new.items }
         ensures tells { TellsChanges self.old self.new }
@@ -81,9 +81,9 @@ impl Terminal {
         outputs: &mut Vec<Output>,
     )
         requires capacity { HasSpare 258 outputs.old }
-        requires session { HasCapacityFor tp.protocol (tp_frame self.old.node.claims.own frame.now) self.old.node.tp_room }
+        requires session { HasCapacityFor tp.protocol (tp_frame self.old.node.claims.own frame.now) self.old.node.tp_spare }
         requires ready { is_some (set_at (source_of frame.now) (state_of self.old).sets) ≡ true
-            → FitsCompleted (content_of self.old.contents (source_of frame.now)) (room_of self.old.contents (source_of frame.now))
+            → FitsCompleted (content_of self.old.contents (source_of frame.now)) (spare_of self.old.contents (source_of frame.now))
             (message_by self.old self.old.time ((state_of self.old).places (source_of frame.now)) notices.Tp frame.now) upload }
         ensures tells { TellsChanges self.old self.new }
         ensures takes { TakesNotice (state_of self.old) notices.Tp frame.now (state_of self.new) outputs.old.items outputs.new.items }
@@ -105,9 +105,9 @@ impl Terminal {
         outputs: &mut Vec<Output>,
     )
         requires capacity { HasSpare 3 outputs.old }
-        requires session { HasCapacityFor etp.protocol (etp_frame self.old.node.claims.own frame.now) self.old.node.etp_room }
+        requires session { HasCapacityFor etp.protocol (etp_frame self.old.node.claims.own frame.now) self.old.node.etp_spare }
         requires ready { is_some (set_at (source_of frame.now) (state_of self.old).sets) ≡ true
-            → FitsCompleted (content_of self.old.contents (source_of frame.now)) (room_of self.old.contents (source_of frame.now))
+            → FitsCompleted (content_of self.old.contents (source_of frame.now)) (spare_of self.old.contents (source_of frame.now))
             (message_by self.old self.old.time ((state_of self.old).places (source_of frame.now)) notices.Etp frame.now) upload }
         ensures takes { TakesNotice (state_of self.old) notices.Etp frame.now (state_of self.new) outputs.old.items outputs.new.items }
         ensures tells { TellsChanges self.old self.new }
@@ -127,13 +127,13 @@ impl Terminal {
         upload: PreparedMessage,
     ) -> Option<Frame>
         requires ready { is_some (set_at source (state_of self.old).sets) ≡ true
-            → FitsCompleted (content_of self.old.contents source) (room_of self.old.contents source) message upload }
+            → FitsCompleted (content_of self.old.contents source) (spare_of self.old.contents source) message upload }
         ensures handles { Handles (state_of self.old) source message result (state_of self.new) }
         ensures tells { TellsChanges self.old self.new }
     {
         let bytes = message?.into_vec();
         match upload {
-            PreparedMessage::Room => {
+            PreparedMessage::Capacity => {
                 self.take_piece(source, bytes);
                 None
             }
@@ -144,7 +144,7 @@ impl Terminal {
     /// Appends a piece to the upload of a set.
     fn take_piece(&mut self, source: u8, piece: Vec<u8>)
         requires { is_some (set_at source (state_of self.old).sets) ≡ true
-            → BeginsWithByte TRANSFER piece.items × (length piece.items ≤ 1 + room_of self.old.contents source) }
+            → BeginsWithByte TRANSFER piece.items × (length piece.items ≤ 1 + spare_of self.old.contents source) }
         ensures answers { HandlesMessage (state_of self.old) source piece.items None (state_of self.new) }
         ensures tells { TellsChanges self.old self.new }
     {

@@ -3,11 +3,11 @@
 ghost use Rattle.std.specs.Prelude.{◌≡◌, ℕ, List, true, is_some, IfOk, OnOk, length, slice_index, Some};
 ghost use Rattle.vt_can.specs.transport.Messages.{size_and_first_byte, Message};
 ghost use Rattle.vt_names.specs.Registry.{set_at};
-ghost use Rattle.vt_server.specs.frame.FrameContracts.{FitsMessage, FitsOneFrame, IsEnd, HandlesMessage, IsReplyTo, RoomsStay};
+ghost use Rattle.vt_server.specs.frame.FrameContracts.{FitsMessage, FitsOneFrame, IsEnd, HandlesMessage, IsReplyTo, CapacityStays};
 ghost use Rattle.vt_server.specs.shown.Screens.{TellsChanges, redraws};
 ghost use Rattle.vt_server.specs.States.{state_of};
 ghost use Rattle.vt_server.specs.Terminals as spec;
-ghost use Rattle.vt_server.specs.state.PoolTables.{content_of, room_of};
+ghost use Rattle.vt_server.specs.state.PoolTables.{content_of, spare_of};
 
 use crate::OutOfMemory;
 use crate::message::end_of_pool::{ACCEPTED, Judgement};
@@ -24,7 +24,7 @@ pub(crate) enum PreparedMessage {
     /// Nothing.
     Nothing,
     /// Capacity for a piece of a pool.
-    Room,
+    Capacity,
     /// Capacity for a piece of a pool, and the piece, copied from the frame.
     Piece(Vec<u8>),
     /// The judgement of the upload that the message ends.
@@ -39,9 +39,9 @@ impl Terminal {
         bytes: &[u8],
     ) -> Result<PreparedMessage, OutOfMemory>
         ensures same { state_of self.new ≡ state_of self.old }
-        ensures rooms { RoomsStay self.old self.new }
+        ensures reserved { CapacityStays self.old self.new }
         ensures redraws { redraws self.new ≡ redraws self.old }
-        ensures ready { IfOk result (FitsOneFrame (content_of self.new.contents source) (room_of self.new.contents source) bytes.now) }
+        ensures ready { IfOk result (FitsOneFrame (content_of self.new.contents source) (spare_of self.new.contents source) bytes.now) }
     {
         match bytes.first() {
             Some(&TRANSFER) => {
@@ -61,15 +61,15 @@ impl Terminal {
         told: Option<(usize, u8)>,
     ) -> Result<PreparedMessage, OutOfMemory>
         ensures same { state_of self.new ≡ state_of self.old }
-        ensures rooms { RoomsStay self.old self.new }
+        ensures reserved { CapacityStays self.old self.new }
         ensures redraws { redraws self.new ≡ redraws self.old }
         ensures ready { (message : Message) → told ≡ size_and_first_byte (Some message)
-            → IfOk result (FitsMessage (content_of self.new.contents source) (room_of self.new.contents source) message.bytes) }
+            → IfOk result (FitsMessage (content_of self.new.contents source) (spare_of self.new.contents source) message.bytes) }
     {
         match told {
             Some((size, TRANSFER)) => {
                 self.contents.reserve(self.alloc, source, size)?;
-                Ok(PreparedMessage::Room)
+                Ok(PreparedMessage::Capacity)
             }
             Some((_, END_OF_POOL)) => self.prepare_end(source),
             _ => Ok(PreparedMessage::Nothing),
@@ -91,7 +91,7 @@ impl Terminal {
         bytes: &[u8],
         upload: PreparedMessage,
     ) -> Option<Frame>
-        requires { is_some (set_at source (state_of self.old).sets) ≡ true → FitsOneFrame (content_of self.old.contents source) (room_of self.old.contents source) bytes.now upload }
+        requires { is_some (set_at source (state_of self.old).sets) ≡ true → FitsOneFrame (content_of self.old.contents source) (spare_of self.old.contents source) bytes.now upload }
         ensures answers { HandlesMessage (state_of self.old) source bytes.now result (state_of self.new) }
         ensures tells { TellsChanges self.old self.new }
     {
@@ -104,7 +104,7 @@ impl Terminal {
                 let reply = self.reply(source, bytes)?;
                 Some(message_to(own, source, reply))
             }
-            PreparedMessage::Room => unreachable!(),
+            PreparedMessage::Capacity => unreachable!(),
             PreparedMessage::Piece(piece) => {
                 self.contents.feed(source, piece, 1);
                 None

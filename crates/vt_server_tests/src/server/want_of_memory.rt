@@ -90,9 +90,9 @@ fn step_through(
 }
 
 // An empty vector with capacity for the inputs of all lines.
-fn room<'a>(alloc: Global) -> Result<Vec<Input<'a>>, OutOfMemory> {
+fn empty<'a>(alloc: Global) -> Result<Vec<Input<'a>>, OutOfMemory> {
     match Vec::with_capacity(alloc, LINES.len()) {
-        Ok(room) => Ok(room),
+        Ok(inputs) => Ok(inputs),
         Err(_) => Vec::with_capacity(alloc, LINES.len()),
     }
 }
@@ -104,7 +104,7 @@ fn run_through(
     lines: &[&'static [u8]],
     outputs: &mut Vec<Output>,
 ) -> Result<(), Fail> {
-    let mut inputs = room(rt.alloc())?;
+    let mut inputs = empty(rt.alloc())?;
     for line in lines {
         inputs.push(input_in(line)?)?;
     }

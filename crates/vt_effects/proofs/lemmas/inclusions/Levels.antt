@@ -25,7 +25,7 @@ levels_kept m id old new command levels c none are =
     record {
       certificate = subst (λ (l : List ℕ). IsCertificate l (inclusions_of (finite.insert m id new)) levels.levels.items) (sym (ids_stay m id old new command c))
           (record { each = are.certificate.each; within = are.certificate.within; falls = falls });
-      room = are.room ∙ sym (ap length (ids_stay m id old new command c));
+      spare_length = are.spare_length ∙ sym (ap length (ids_stay m id old new command c));
     }
   where
     falls : (place q : ℕ) → IsIdAt (ids_of m) place q → (x : ℕ) → Contains (inclusions_of (finite.insert m id new) q) x
@@ -43,7 +43,7 @@ levels_but m id after old new command levels c names are =
     record {
       certificate = subst (λ (l : List ℕ). IsCertificateBut l (inclusions_of (finite.insert m id new)) levels.levels.items id after) (sym (ids_stay m id old new command c))
           (record { each = are.certificate.each; within = are.certificate.within; falls = falls; closed = closed });
-      room = are.room ∙ sym (ap length (ids_stay m id old new command c));
+      spare_length = are.spare_length ∙ sym (ap length (ids_stay m id old new command c));
     }
   where
     falls : (place q : ℕ) → IsIdAt (ids_of m) place q → (x : ℕ) → Contains (inclusions_of (finite.insert m id new) q) x

@@ -140,7 +140,7 @@ put_back_is m n last command r is by back =
 pub levels_back : (m : ObjectMap) (before after : Levels) → AreLevels m before → HasSameLevels before after → AreLevels m after
 levels_back m before after are same = record {
   certificate = subst (IsCertificate (ids_of m) (inclusions_of m)) (sym same.levels) are.certificate;
-  room = same.room ∙ are.room;
+  spare_length = same.spare_length ∙ are.spare_length;
 }
 
 -- ---- the result of the whole call

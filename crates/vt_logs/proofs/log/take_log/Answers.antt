@@ -38,10 +38,10 @@ returns-then-count-eq0-clause-text g c =
     (g.R.Read.remaining c.args.reader.now) (g.R.Read.remaining c.loop.reader) c.loop.progress.pending.items c.loop.counter c.loop.invariant.way c.flush.ensures.kept in
     let done : ReplayPoint = stand c.end_log.new.terminal c.end_log.new.self.screen.items c.end_log.new.self.counts (g.W.Write.contents c.end_log.new.writer) in
     let items = c.loop.chunk in
-    let room : 0 < length c.next_bytes.new.buf = omega (arith, c.next_bytes.auto.buf, c.deref_mut.ensures.len, items.ok.0, c.loop.invariant.chunk) in
+    let filled : 0 < length c.next_bytes.new.buf = omega (arith, c.next_bytes.auto.buf, c.deref_mut.ensures.len, items.ok.0, c.loop.invariant.chunk) in
     way_end start now done (g.R.Read.remaining c.args.reader.now) (g.R.Read.remaining c.loop.reader) (g.R.Read.remaining c.next_bytes.new.self) (g.W.Write.contents c.args.writer.now) (g.W.Write.contents c.put_counts.new.writer)
     c.loop.progress.pending.items (take c.in-Ok.count c.next_bytes.new.buf) c.loop.counter refl c.in_ok-begin.ensures.drawn c.in_ok-begin.ensures.text way c.in-Ok.ensures.bytes.0 (ap (λ (n : ℕ). take n c.next_bytes.new.buf) c.if-count-eq0.true)
-    (c.in-Ok.ensures.bytes.1 c.if-count-eq0.true room) c.in_ok-end_log.ensures.takes c.in_ok-put_counts.ensures.text
+    (c.in-Ok.ensures.bytes.1 c.if-count-eq0.true filled) c.in_ok-end_log.ensures.takes c.in_ok-put_counts.ensures.text
 
 pub loop-preserved : goal.loop-preserved
 loop-preserved g c =
@@ -113,10 +113,10 @@ returns-in_err-end_log-clause-stopped g c =
     let way = way_flushed start (scene c.loop.terminal c.loop.progress.screen.items) c.loop.progress.counts (g.W.Write.contents c.loop.writer) (g.W.Write.contents c.flush.new.writer)
     (g.R.Read.remaining c.args.reader.now) (g.R.Read.remaining c.loop.reader) c.loop.progress.pending.items c.loop.counter c.loop.invariant.way c.flush.ensures.kept in
     let items = c.loop.chunk in
-    let room : 0 < length c.next_bytes.new.buf = omega (arith, c.next_bytes.auto.buf, c.deref_mut.ensures.len, items.ok.0, c.loop.invariant.chunk) in
+    let filled : 0 < length c.next_bytes.new.buf = omega (arith, c.next_bytes.auto.buf, c.deref_mut.ensures.len, items.ok.0, c.loop.invariant.chunk) in
     on_any_err c.from_residual-in_err-end_log.result
     (way_last start now (state_of c.end_log.new.terminal) (g.R.Read.remaining c.args.reader.now) (g.R.Read.remaining c.loop.reader) (g.R.Read.remaining c.next_bytes.new.self) (g.W.Write.contents c.args.writer.now) (g.W.Write.contents c.end_log.new.writer) c.loop.progress.pending.items (take c.in-Ok.count c.next_bytes.new.buf)
-    c.loop.counter refl c.in_ok-begin.ensures.drawn c.in_ok-begin.ensures.text way c.in-Ok.ensures.bytes.0 (ap (λ (n : ℕ). take n c.next_bytes.new.buf) c.if-count-eq0.true) (c.in-Ok.ensures.bytes.1 c.if-count-eq0.true room) c.in_err-end_log.ensures.stopped)
+    c.loop.counter refl c.in_ok-begin.ensures.drawn c.in_ok-begin.ensures.text way c.in-Ok.ensures.bytes.0 (ap (λ (n : ℕ). take n c.next_bytes.new.buf) c.if-count-eq0.true) (c.in-Ok.ensures.bytes.1 c.if-count-eq0.true filled) c.in_err-end_log.ensures.stopped)
 
 pub returns-in_err-put_counts-clause-stopped : goal.returns-in_err-put_counts-clause-stopped
 returns-in_err-put_counts-clause-stopped g c =
@@ -126,10 +126,10 @@ returns-in_err-put_counts-clause-stopped g c =
     (g.R.Read.remaining c.args.reader.now) (g.R.Read.remaining c.loop.reader) c.loop.progress.pending.items c.loop.counter c.loop.invariant.way c.flush.ensures.kept in
     let done : ReplayPoint = stand c.end_log.new.terminal c.end_log.new.self.screen.items c.end_log.new.self.counts (g.W.Write.contents c.end_log.new.writer) in
     let items = c.loop.chunk in
-    let room : 0 < length c.next_bytes.new.buf = omega (arith, c.next_bytes.auto.buf, c.deref_mut.ensures.len, items.ok.0, c.loop.invariant.chunk) in
+    let filled : 0 < length c.next_bytes.new.buf = omega (arith, c.next_bytes.auto.buf, c.deref_mut.ensures.len, items.ok.0, c.loop.invariant.chunk) in
     on_any_err c.from_residual-in_err-put_counts.result
     (way_counts start now done (g.R.Read.remaining c.args.reader.now) (g.R.Read.remaining c.loop.reader) (g.R.Read.remaining c.next_bytes.new.self) (g.W.Write.contents c.args.writer.now) (g.W.Write.contents c.put_counts.new.writer) c.loop.progress.pending.items (take c.in-Ok.count c.next_bytes.new.buf)
-    c.loop.counter refl c.in_ok-begin.ensures.drawn c.in_ok-begin.ensures.text way c.in-Ok.ensures.bytes.0 (ap (λ (n : ℕ). take n c.next_bytes.new.buf) c.if-count-eq0.true) (c.in-Ok.ensures.bytes.1 c.if-count-eq0.true room) c.in_ok-end_log.ensures.takes c.in_err-put_counts.ensures.front)
+    c.loop.counter refl c.in_ok-begin.ensures.drawn c.in_ok-begin.ensures.text way c.in-Ok.ensures.bytes.0 (ap (λ (n : ℕ). take n c.next_bytes.new.buf) c.if-count-eq0.true) (c.in-Ok.ensures.bytes.1 c.if-count-eq0.true filled) c.in_ok-end_log.ensures.takes c.in_err-put_counts.ensures.front)
 
 pub returns-in_err-take_chunk-clause-stopped : goal.returns-in_err-take_chunk-clause-stopped
 returns-in_err-take_chunk-clause-stopped g c =

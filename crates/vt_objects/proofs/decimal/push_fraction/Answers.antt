@@ -9,7 +9,7 @@ push_str-requires c =
     let short = length-decimal-le c.args.decimals c.args.fraction c.requires.some c.requires.fraction (omega (arith, c.ranges.fraction.fits)) in
     let digits = ap length c.format-digits.ensures.text in
     let point = ap length (c.push.ensures.ascii (omega arith)) ∙ length-append c.args.text.now.bytes (46 ∷ []) in
-    (omega arith, omega (arith, c.loop.invariant.counted, c.loop.invariant.begun, c.requires.room, c.requires.decimals, c.from-end.ensures, c.loop.auto.counter-end))
+    (omega arith, omega (arith, c.loop.invariant.counted, c.loop.invariant.begun, c.requires.spare, c.requires.decimals, c.from-end.ensures, c.loop.auto.counter-end))
 
 pub returns-clause-len : goal.returns-clause-len
 returns-clause-len c =

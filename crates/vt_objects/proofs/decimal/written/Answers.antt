@@ -18,8 +18,8 @@ push_str-requires c =
 pub push_fraction-requires-clause-fraction : goal.push_fraction-requires-clause-fraction
 push_fraction-requires-clause-fraction c = subst (λ (u : ℕ). c.args.magnitude % c.args.unit < u) c.requires.unit (mod-lt c.args.magnitude c.requires.some)
 
-pub push_fraction-requires-clause-room : goal.push_fraction-requires-clause-room
-push_fraction-requires-clause-room c =
+pub push_fraction-requires-clause-spare : goal.push_fraction-requires-clause-spare
+push_fraction-requires-clause-spare c =
     let short = length-decimal-le 10 (c.args.magnitude / c.args.unit) (omega arith) c.requires.whole (omega (arith, c.requires.whole)) in
     let digits = ap length c.format.ensures.text in
     omega (arith, c.sign-text.ensures.most, c.push_str.ensures.len)

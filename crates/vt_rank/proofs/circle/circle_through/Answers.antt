@@ -3,7 +3,7 @@ use Rattle.vt_rank.specs.Graphs.{triggered}
 use Rattle.vt_rank.specs.Paths.{Triggers}
 use Rattle.vt_rank.specs.NodeSets.{IsIn, row}
 use Rattle.vt_rank.proofs.RankSearch.{target_is, targets_in}
-use Rattle.vt_rank.proofs.CircleSearch.{IsQuest, quest_begins, quest_ends, next_pushed, next_room, next_smaller, next_found, last_popped, last_smaller, back_room}
+use Rattle.vt_rank.proofs.CircleSearch.{IsQuest, quest_begins, quest_ends, next_pushed, next_short, next_smaller, next_found, last_popped, last_smaller, back_short}
 use Rattle.vt_rank.proofs.circle.circle_through.Goals as goal
 
 pub search-init : goal.search-init
@@ -14,7 +14,7 @@ search-init c =
 pub push-requires-in-Some-outside : goal.push-requires-in-Some-outside
 push-requires-in-Some-outside c =
     let small : c.args.start < 256 = omega arith in
-    (lit< tt, back_room _ _ _ _ _ _ c.search.invariant c.in-Some.ensures.items small)
+    (lit< tt, back_short _ _ _ _ _ _ c.search.invariant c.in-Some.ensures.items small)
 
 pub returns-then-next-start-clause-circle : goal.returns-then-next-start-clause-circle
 returns-then-next-start-clause-circle c =
@@ -35,8 +35,8 @@ pub push-requires-in-Some-outside-2 : goal.push-requires-in-Some-outside-2
 push-requires-in-Some-outside-2 c =
     let small : c.in-Some-outside.next < 256 = omega arith in
     let also : c.args.start < 256 = omega arith in
-    let room = next_room _ _ _ _ _ _ _ _ _ c.search.invariant c.in-Some.ensures.items c.in-Some-outside.ensures.found.1 c.if-next-start.false small also c.insert.ensures c.push-in-Some-outside.ensures.items in
-    (lit< tt, room)
+    let bound = next_short _ _ _ _ _ _ _ _ _ c.search.invariant c.in-Some.ensures.items c.in-Some-outside.ensures.found.1 c.if-next-start.false small also c.insert.ensures c.push-in-Some-outside.ensures.items in
+    (lit< tt, bound)
 
 pub search-smaller-in-Some-outside : goal.search-smaller-in-Some-outside
 search-smaller-in-Some-outside c =

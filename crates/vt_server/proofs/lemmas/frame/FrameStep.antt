@@ -11,7 +11,7 @@ use Rattle.vt_extended.specs.Protocol as etp
 use Rattle.vt_extended.specs.Wire.{etp_frame}
 use Rattle.vt_node.specs.Bus.{notice_of}
 use Rattle.vt_server.specs.Findings.{IsJudged, ends_transfer}
-use Rattle.vt_server.specs.frame.FrameContracts.{FitsMessage, FitsOneFrame, FitsCompleted, FitsMeaning, HasRoom, HasUpload, IsNoClaim, TakesNotice, TakesFrame, TakesClaim, Hears, timely, message_by}
+use Rattle.vt_server.specs.frame.FrameContracts.{FitsMessage, FitsOneFrame, FitsCompleted, FitsMeaning, HasCapacity, HasUpload, IsNoClaim, TakesNotice, TakesFrame, TakesClaim, Hears, timely, message_by}
 use Rattle.vt_server.specs.frame.HoldersBeforeClaim.{AreFormer}
 use Rattle.vt_server.specs.frame.TimeoutActs.{at_time, lapsed, sent_by_lapses}
 use Rattle.vt_server.specs.Outputs.{outputs_of, frames_of}
@@ -27,7 +27,7 @@ use Rattle.vt_server.specs.Steps.{FrameAt, Step, answer_to, is_lost_by, is_defen
 use Rattle.vt_server.specs.Terminals.{State, part, put}
 use Rattle.vt_node.specs.AddressFunctions.{with_at}
 use Rattle.vt_server.specs.message.Verdicts.{Verdict, IsVerdict}
-use Rattle.vt_server.specs.state.PoolTables.{content_of, room_of}
+use Rattle.vt_server.specs.state.PoolTables.{content_of, spare_of}
 use Rattle.vt_node.specs.Watches.{heard_of}
 use Rattle.vt_node.specs.declared.bus.FrameMeaning.{FrameMeaning}
 use Rattle.vt_node.specs.declared.bus.FrameMeaning.TheVariants as notices
@@ -184,32 +184,32 @@ takes-member s name frame outputs sets is = record {
 
 -- ---- the work done in advance judges the upload that a message ends
 
-now-with : (content : SetPool) (room : ℕ) (bytes : List ℕ) (upload : PreparedMessage) → FitsOneFrame content room bytes upload → FitsMessage content room bytes upload
-now-with content room bytes uploads.Nothing is = is
-now-with content room bytes uploads.Room is = absurd is
-now-with content room bytes (uploads.Piece piece) is = is
-now-with content room bytes (uploads.End judgement) is = is
+now-with : (content : SetPool) (spare : ℕ) (bytes : List ℕ) (upload : PreparedMessage) → FitsOneFrame content spare bytes upload → FitsMessage content spare bytes upload
+now-with content spare bytes uploads.Nothing is = is
+now-with content spare bytes uploads.Capacity is = absurd is
+now-with content spare bytes (uploads.Piece piece) is = is
+now-with content spare bytes (uploads.End judgement) is = is
 
-by-message : (n : FrameMeaning) (content : SetPool) (room now own a : ℕ) (place : AddressState) (frame : Frame) (upload : PreparedMessage)
-    → FitsMeaning n content room (came now own a place n frame).message upload → FitsCompleted content room (came now own a place n frame).message upload
-by-message (notices.Claim name) content room now own a place frame upload is = tt
-by-message notices.ClaimRequest content room now own a place frame upload is = tt
-by-message (notices.Master count) content room now own a place frame upload is = tt
-by-message (notices.Member name) content room now own a place frame upload is = tt
-by-message notices.Message content room now own a place frame upload is = now-with content room frame.bytes.items upload is
-by-message notices.Tp content room now own a place frame upload is = is
-by-message notices.Etp content room now own a place frame upload is = is
-by-message notices.Nothing content room now own a place frame upload is = tt
+by-message : (n : FrameMeaning) (content : SetPool) (spare now own a : ℕ) (place : AddressState) (frame : Frame) (upload : PreparedMessage)
+    → FitsMeaning n content spare (came now own a place n frame).message upload → FitsCompleted content spare (came now own a place n frame).message upload
+by-message (notices.Claim name) content spare now own a place frame upload is = tt
+by-message notices.ClaimRequest content spare now own a place frame upload is = tt
+by-message (notices.Master count) content spare now own a place frame upload is = tt
+by-message (notices.Member name) content spare now own a place frame upload is = tt
+by-message notices.Message content spare now own a place frame upload is = now-with content spare frame.bytes.items upload is
+by-message notices.Tp content spare now own a place frame upload is = is
+by-message notices.Etp content spare now own a place frame upload is = is
+by-message notices.Nothing content spare now own a place frame upload is = tt
 
-ready-judges : (o : Option Set) (m : Option (List ℕ)) (content : SetPool) (room : ℕ) (upload : PreparedMessage)
-    → (is_some o ≡ true → FitsCompleted content room m upload) → (v : Verdict) × (ends_transfer o m ≡ true → IsVerdict content v)
-ready-judges None m content room upload ready = (any_verdict, λ ends. absurd (true≢false (sym ends)))
-ready-judges (Some set) None content room upload ready = (any_verdict, λ ends. absurd (true≢false (sym ends)))
-ready-judges (Some set) (Some bytes) content room upload ready = cases upload (ready refl)
+ready-judges : (o : Option Set) (m : Option (List ℕ)) (content : SetPool) (spare : ℕ) (upload : PreparedMessage)
+    → (is_some o ≡ true → FitsCompleted content spare m upload) → (v : Verdict) × (ends_transfer o m ≡ true → IsVerdict content v)
+ready-judges None m content spare upload ready = (any_verdict, λ ends. absurd (true≢false (sym ends)))
+ready-judges (Some set) None content spare upload ready = (any_verdict, λ ends. absurd (true≢false (sym ends)))
+ready-judges (Some set) (Some bytes) content spare upload ready = cases upload (ready refl)
   where
-    cases : (u : PreparedMessage) → FitsMessage content room bytes u → (v : Verdict) × (ends_transfer (Some set) (Some bytes) ≡ true → IsVerdict content v)
+    cases : (u : PreparedMessage) → FitsMessage content spare bytes u → (v : Verdict) × (ends_transfer (Some set) (Some bytes) ≡ true → IsVerdict content v)
     cases uploads.Nothing is = (any_verdict, λ ends. other-ends_none (Some set) bytes is ends (IsVerdict content any_verdict))
-    cases uploads.Room is = (any_verdict, λ ends. piece-ends_none (Some set) bytes is.0 ends (IsVerdict content any_verdict))
+    cases uploads.Capacity is = (any_verdict, λ ends. piece-ends_none (Some set) bytes is.0 ends (IsVerdict content any_verdict))
     cases (uploads.Piece piece) is = (any_verdict, λ ends. piece-ends_none (Some set) bytes is.0 ends (IsVerdict content any_verdict))
     cases (uploads.End judgement) is = (is.1.verdict, λ ends. is.1.right)
 
@@ -217,8 +217,8 @@ pub upload-judges : (t : Terminal) (n : FrameMeaning) (frame : Frame) (upload : 
     → (v : Verdict) × IsJudged t.time (source_of frame) (part (source_of frame) (state_of t)) n frame v
 upload-judges t n frame upload has =
     let a = source_of frame in
-    ready-judges (set_at a t.registry.sets) (message_by t t.time ((state_of t).places a) n frame) (content_of t.contents a) (room_of t.contents a) upload
-    (λ some. by-message n (content_of t.contents a) (room_of t.contents a) t.time t.node.claims.own a ((state_of t).places a) frame upload (has some))
+    ready-judges (set_at a t.registry.sets) (message_by t t.time ((state_of t).places a) n frame) (content_of t.contents a) (spare_of t.contents a) upload
+    (λ some. by-message n (content_of t.contents a) (spare_of t.contents a) t.time t.node.claims.own a ((state_of t).places a) frame upload (has some))
 
 -- ---- the message of a frame depends on the sessions of its source alone
 
@@ -238,32 +238,32 @@ module _ (t u : Terminal) (n : FrameMeaning) (frame : Frame) where
   abbrev a : ℕ
   a = source_of frame
 
-  pub room-kept : u.node.claims ≡ t.node.claims → u.node.tp_room ≡ t.node.tp_room → u.node.etp_room ≡ t.node.etp_room
-      → (0 < t.registry.room → 0 < u.registry.room) → HasRoom t n frame → HasRoom u n frame
-  room-kept claims tp_room etp_room sets has = record {
-    tp = λ is. subst (λ (x : Claimed × ℕ). HasCapacityFor tp.protocol (tp_frame x.0.own frame) x.1) (λ i. (sym claims i, sym tp_room i)) (has.tp is);
-    etp = λ is. subst (λ (x : Claimed × ℕ). HasCapacityFor etp.protocol (etp_frame x.0.own frame) x.1) (λ i. (sym claims i, sym etp_room i)) (has.etp is);
+  pub capacity-kept : u.node.claims ≡ t.node.claims → u.node.tp_spare ≡ t.node.tp_spare → u.node.etp_spare ≡ t.node.etp_spare
+      → (0 < t.registry.capacity → 0 < u.registry.capacity) → HasCapacity t n frame → HasCapacity u n frame
+  capacity-kept claims tp_spare etp_spare sets has = record {
+    tp = λ is. subst (λ (x : Claimed × ℕ). HasCapacityFor tp.protocol (tp_frame x.0.own frame) x.1) (λ i. (sym claims i, sym tp_spare i)) (has.tp is);
+    etp = λ is. subst (λ (x : Claimed × ℕ). HasCapacityFor etp.protocol (etp_frame x.0.own frame) x.1) (λ i. (sym claims i, sym etp_spare i)) (has.etp is);
     sets = λ count is. sets (has.sets count is);
   }
 
   pub upload-kept : (now : ℕ) (place : AddressState) (upload : PreparedMessage) → u.node.claims ≡ t.node.claims → u.time ≡ now
       → ((state_of u).places a).tp ≡ place.tp → ((state_of u).places a).etp ≡ place.etp
-      → content_of u.contents a ≡ content_of t.contents a → room_of u.contents a ≡ room_of t.contents a
-      → FitsMeaning n (content_of t.contents a) (room_of t.contents a) (message_by t now place n frame) upload
-      → FitsMeaning n (content_of u.contents a) (room_of u.contents a) (message_by u u.time ((state_of u).places a) n frame) upload
-  upload-kept now place upload claims time d e content room is =
+      → content_of u.contents a ≡ content_of t.contents a → spare_of u.contents a ≡ spare_of t.contents a
+      → FitsMeaning n (content_of t.contents a) (spare_of t.contents a) (message_by t now place n frame) upload
+      → FitsMeaning n (content_of u.contents a) (spare_of u.contents a) (message_by u u.time ((state_of u).places a) n frame) upload
+  upload-kept now place upload claims time d e content spare is =
       let message : message_by t now place n frame ≡ message_by u u.time ((state_of u).places a) n frame =
       (λ i. (came (sym time i) (sym claims i).own a place n frame).message)
       ∙ sym (came-reads u.time u.node.claims.own a ((state_of u).places a) place n frame d e) in
-      subst (λ (x : SetPool × (ℕ × Option (List ℕ))). FitsMeaning n x.0 x.1.0 x.1.1 upload) (λ i. (sym content i, (sym room i, message i))) is
+      subst (λ (x : SetPool × (ℕ × Option (List ℕ))). FitsMeaning n x.0 x.1.0 x.1.1 upload) (λ i. (sym content i, (sym spare i, message i))) is
 
 -- The upload stays right after the timeouts and closings of the frame's time.
 pub lapsed-upload : (t u : Terminal) (n : FrameMeaning) (frame : Frame) (now : ℕ) (upload : PreparedMessage) → HasLapsed t u now → u.time ≡ now
-    → FitsMeaning n (content_of t.contents (source_of frame)) (room_of t.contents (source_of frame))
+    → FitsMeaning n (content_of t.contents (source_of frame)) (spare_of t.contents (source_of frame))
     (message_by t now (timely now ((state_of t).places (source_of frame))) n frame) upload
     → HasUpload u n frame upload
 lapsed-upload t u n frame now upload ended time is some =
-    let a = source_of frame in elim (ended.uploads a) as (λ _. FitsMeaning n (content_of u.contents a) (room_of u.contents a) (message_by u u.time ((state_of u).places a) n frame) upload) [
+    let a = source_of frame in elim (ended.uploads a) as (λ _. FitsMeaning n (content_of u.contents a) (spare_of u.contents a) (message_by u u.time ((state_of u).places a) n frame) upload) [
       | inl none ↦ absurd (true≢false (sym some ∙ ap is_some none))
       | inr kept ↦ upload-kept t u n frame now (timely now ((state_of t).places a)) upload ended.claims time (ended.tp a) (ended.etp a) kept.0 kept.1 is
     ]

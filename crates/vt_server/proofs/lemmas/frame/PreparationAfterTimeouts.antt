@@ -14,7 +14,7 @@ use Rattle.vt_transport.specs.Protocol as tp
 use Rattle.vt_transport.specs.Wire.{tp_frame}
 use Rattle.vt_extended.specs.Protocol as etp
 use Rattle.vt_extended.specs.Wire.{etp_frame}
-use Rattle.vt_server.specs.frame.FrameContracts.{FitsBeforeTimeouts, FitsAfterTimeouts, FitsMessage, FitsCompleted, RoomsStay}
+use Rattle.vt_server.specs.frame.FrameContracts.{FitsBeforeTimeouts, FitsAfterTimeouts, FitsMessage, FitsCompleted, CapacityStays}
 use Rattle.vt_server.specs.frame.HoldersBeforeClaim.{AreFormer}
 use Rattle.vt_server.specs.frame.TimeoutActs.{at_time, lapsed, sent_by_lapses}
 use Rattle.vt_node.specs.Nodes.{NodeState}
@@ -24,7 +24,7 @@ use Rattle.vt_server.specs.frame.SessionEffects.{message_to_terminal}
 use Rattle.vt_server.specs.States.{state_of}
 use Rattle.vt_server.specs.Steps.{hear_claim, answer_to, is_lost_by, is_defended, left_by, left_holder}
 use Rattle.vt_server.specs.Terminals.{State}
-use Rattle.vt_server.specs.state.PoolTables.{content_of, room_of}
+use Rattle.vt_server.specs.state.PoolTables.{content_of, spare_of}
 use Rattle.vt_node.specs.declared.bus.FrameMeaning.{FrameMeaning}
 use Rattle.vt_node.specs.declared.bus.FrameMeaning.TheVariants as notices
 use Rattle.vt_server.specs.declared.frame.claim.FormerHolders.{FormerHolders}
@@ -33,7 +33,7 @@ use Rattle.vt_server.specs.declared.frame.step.PreparedFrame.TheVariants as read
 use Rattle.vt_server.specs.declared.terminal.Terminal.{Terminal}
 use Rattle.vt_server.specs.declared.message.upload.PreparedMessage.{PreparedMessage}
 use Rattle.vt_server.proofs.lemmas.acts.HolderChanges.{own-before}
-use Rattle.vt_server.proofs.lemmas.frame.FrameStep.{room-kept, lapsed-upload}
+use Rattle.vt_server.proofs.lemmas.frame.FrameStep.{capacity-kept, lapsed-upload}
 use Rattle.vt_server.proofs.lemmas.steps.StepInvariants.{lapsed-keeps, claims-lapsed}
 use Rattle.vt_server.proofs.lemmas.acts.ComposedActs.{act-is}
 use Rattle.vt_server.proofs.lemmas.timeouts.IndependenceOfClaims.{with_claims, lapsed-unclaimed, lapses-unclaimed}
@@ -85,59 +85,59 @@ abbrev IsEtp : FrameMeaning → Type 0
 IsEtp notices.Etp = Unit {0}
 IsEtp notice = ⊥
 
-told-ready : (m : Option Message) (content : SetPool) (room : ℕ) (upload : PreparedMessage)
-    → ((message : Message) → size_and_first_byte m ≡ size_and_first_byte (Some message) → FitsMessage content room message.bytes upload)
-    → FitsCompleted content room (message_to_terminal m) upload
-told-ready None content room upload ready = tt
-told-ready (Some message) content room upload ready = cases (eqb message.pgn ECU_TO_VT)
+told-ready : (m : Option Message) (content : SetPool) (spare : ℕ) (upload : PreparedMessage)
+    → ((message : Message) → size_and_first_byte m ≡ size_and_first_byte (Some message) → FitsMessage content spare message.bytes upload)
+    → FitsCompleted content spare (message_to_terminal m) upload
+told-ready None content spare upload ready = tt
+told-ready (Some message) content spare upload ready = cases (eqb message.pgn ECU_TO_VT)
   where
-    cases : (b : Bool) → FitsCompleted content room (cond b (Some message.bytes) None) upload
+    cases : (b : Bool) → FitsCompleted content spare (cond b (Some message.bytes) None) upload
     cases true = ready message refl
     cases false = tt
 
 -- The terminal before, its node with reserved capacity, and the terminal after the work in advance for the upload.
 module _ (t : Terminal) (node : NodeState) (u : Terminal) (now q : ℕ) (n : FrameMeaning) (frame : Frame) (told : Option (ℕ × ℕ)) (upload : PreparedMessage)
-    (same : state_of u ≡ state_of (record t { node = node })) (rooms : RoomsStay (record t { node = node }) u) (at : q ≡ source_of frame)
-    (ready : (message : Message) → told ≡ size_and_first_byte (Some message) → FitsMessage (content_of u.contents q) (room_of u.contents q) message.bytes upload) where
+    (same : state_of u ≡ state_of (record t { node = node })) (reserved : CapacityStays (record t { node = node }) u) (at : q ≡ source_of frame)
+    (ready : (message : Message) → told ≡ size_and_first_byte (Some message) → FitsMessage (content_of u.contents q) (spare_of u.contents q) message.bytes upload) where
   abbrev b : ℕ
   b = source_of frame
 
-  message-ready : (m : Option Message) → told ≡ size_and_first_byte m → FitsCompleted (content_of u.contents b) (room_of u.contents b) (message_to_terminal m) upload
+  message-ready : (m : Option Message) → told ≡ size_and_first_byte m → FitsCompleted (content_of u.contents b) (spare_of u.contents b) (message_to_terminal m) upload
   message-ready m is =
-      told-ready m (content_of u.contents b) (room_of u.contents b) upload
-      (λ message e. subst (λ c. FitsMessage (content_of u.contents c) (room_of u.contents c) message.bytes upload) at (ready message (is ∙ e)))
+      told-ready m (content_of u.contents b) (spare_of u.contents b) upload
+      (λ message e. subst (λ c. FitsMessage (content_of u.contents c) (spare_of u.contents c) message.bytes upload) at (ready message (is ∙ e)))
 
-  pub prepared-tp : n ≡ notices.Tp → node ≡ record t.node { tp_room = node.tp_room } → HasCapacityFor tp.protocol (tp_frame t.node.claims.own frame) node.tp_room
+  pub prepared-tp : n ≡ notices.Tp → node ≡ record t.node { tp_spare = node.tp_spare } → HasCapacityFor tp.protocol (tp_frame t.node.claims.own frame) node.tp_spare
       → told ≡ size_and_first_byte (stepped tp.protocol now (alive now (finite.get t.node.tp b)) (tp_frame t.node.claims.own frame)).message
       → FitsBeforeTimeouts (state_of t) u now n frame (readies.Prepared upload)
-  prepared-tp is rest room told-is =
+  prepared-tp is rest spare told-is =
       subst (λ m. FitsBeforeTimeouts (state_of t) u now m frame (readies.Prepared upload)) (sym is) (
         same ∙ ap (λ (k : NodeState). state_of (record t { node = k })) rest,
         (λ name e. subst IsTp e tt),
         record {
-          tp = λ _. subst (λ (k : NodeState). HasCapacityFor tp.protocol (tp_frame k.claims.own frame) k.tp_room) (sym (rooms.node ∙ rest)) room;
+          tp = λ _. subst (λ (k : NodeState). HasCapacityFor tp.protocol (tp_frame k.claims.own frame) k.tp_spare) (sym (reserved.node ∙ rest)) spare;
           etp = λ e. absurd (subst IsTp e tt);
           sets = λ count e. absurd (subst IsTp e tt);
         },
-        subst (λ (k : NodeState). FitsCompleted (content_of u.contents b) (room_of u.contents b)
-            (message_to_terminal (stepped tp.protocol now (alive now (finite.get k.tp b)) (tp_frame k.claims.own frame)).message) upload) (sym (rooms.node ∙ rest))
+        subst (λ (k : NodeState). FitsCompleted (content_of u.contents b) (spare_of u.contents b)
+            (message_to_terminal (stepped tp.protocol now (alive now (finite.get k.tp b)) (tp_frame k.claims.own frame)).message) upload) (sym (reserved.node ∙ rest))
             (message-ready (stepped tp.protocol now (alive now (finite.get t.node.tp b)) (tp_frame t.node.claims.own frame)).message told-is),
       )
 
-  pub prepared-etp : n ≡ notices.Etp → node ≡ record t.node { etp_room = node.etp_room } → HasCapacityFor etp.protocol (etp_frame t.node.claims.own frame) node.etp_room
+  pub prepared-etp : n ≡ notices.Etp → node ≡ record t.node { etp_spare = node.etp_spare } → HasCapacityFor etp.protocol (etp_frame t.node.claims.own frame) node.etp_spare
       → told ≡ size_and_first_byte (stepped etp.protocol now (alive now (finite.get t.node.etp b)) (etp_frame t.node.claims.own frame)).message
       → FitsBeforeTimeouts (state_of t) u now n frame (readies.Prepared upload)
-  prepared-etp is rest room told-is =
+  prepared-etp is rest spare told-is =
       subst (λ m. FitsBeforeTimeouts (state_of t) u now m frame (readies.Prepared upload)) (sym is) (
         same ∙ ap (λ (k : NodeState). state_of (record t { node = k })) rest,
         (λ name e. subst IsEtp e tt),
         record {
           tp = λ e. absurd (subst IsEtp e tt);
-          etp = λ _. subst (λ (k : NodeState). HasCapacityFor etp.protocol (etp_frame k.claims.own frame) k.etp_room) (sym (rooms.node ∙ rest)) room;
+          etp = λ _. subst (λ (k : NodeState). HasCapacityFor etp.protocol (etp_frame k.claims.own frame) k.etp_spare) (sym (reserved.node ∙ rest)) spare;
           sets = λ count e. absurd (subst IsEtp e tt);
         },
-        subst (λ (k : NodeState). FitsCompleted (content_of u.contents b) (room_of u.contents b)
-            (message_to_terminal (stepped etp.protocol now (alive now (finite.get k.etp b)) (etp_frame k.claims.own frame)).message) upload) (sym (rooms.node ∙ rest))
+        subst (λ (k : NodeState). FitsCompleted (content_of u.contents b) (spare_of u.contents b)
+            (message_to_terminal (stepped etp.protocol now (alive now (finite.get k.etp b)) (etp_frame k.claims.own frame)).message) upload) (sym (reserved.node ∙ rest))
             (message-ready (stepped etp.protocol now (alive now (finite.get t.node.etp b)) (etp_frame t.node.claims.own frame)).message told-is),
       )
 
@@ -182,8 +182,8 @@ module _ (s : State) (t : Terminal) (time now : ℕ) (n : FrameMeaning) (frame :
     time-then : state_of t ≡ s → u.time ≡ now
     time-then e = ap (λ (x : State). x.now) (same e) ∙ now-lapsed (at_time s time) ∙ sym is
 
-    rooms : 0 < t.registry.room → 0 < u.registry.room
-    rooms some = let more = ended.sets in omega arith
+    capacity : 0 < t.registry.capacity → 0 < u.registry.capacity
+    capacity some = let more = ended.sets in omega arith
 
     pub ready-then : (ready : PreparedFrame) → FitsBeforeTimeouts s t now n frame ready → FitsAfterTimeouts then u n frame ready
     ready-then readies.Loses it = (same it.0, ap is_lost_by (sym (answer-same s then claims a n)) ∙ it.1)
@@ -201,6 +201,6 @@ module _ (s : State) (t : Terminal) (time now : ℕ) (n : FrameMeaning) (frame :
     ready-then (readies.Prepared upload) it = (
       same it.0,
       it.1,
-      room-kept t u n frame ended.claims ended.tp_room ended.etp_room rooms it.2,
+      capacity-kept t u n frame ended.claims ended.tp_spare ended.etp_spare capacity it.2,
       lapsed-upload t u n frame now upload ended (time-then it.0) it.3,
     )

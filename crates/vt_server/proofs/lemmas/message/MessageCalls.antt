@@ -96,7 +96,7 @@ sent-both before xs ys = append_assoc before (frames_of xs) (frames_of ys) ∙ a
 
 -- A frame of the transport protocol goes to the receiver, then to the sender.
 module _ (t : Terminal) (frame : Frame) (heard : Heard) (first second : NodeState) (frames : List Frame)
-    (rest : first ≡ record t.node { tp = first.tp; tp_room = first.tp_room })
+    (rest : first ≡ record t.node { tp = first.tp; tp_spare = first.tp_spare })
     (taken : HasTaken (tp_taken t.node t.time frame) (source_of frame) t.node.tp first.tp heard)
     (left : second ≡ record first { sending = second.sending })
     (answered : HasAnswered (sender_answer first t.time frame) (source_of frame) first.sending second.sending frames) where
@@ -153,7 +153,7 @@ none-answered node now frame none =
       others = λ b ne. refl;
     }
 
-pub tp-takes-alone : (t : Terminal) (frame : Frame) (heard : Heard) (node : NodeState) → node ≡ record t.node { tp = node.tp; tp_room = node.tp_room }
+pub tp-takes-alone : (t : Terminal) (frame : Frame) (heard : Heard) (node : NodeState) → node ≡ record t.node { tp = node.tp; tp_spare = node.tp_spare }
     → HasTaken (tp_taken t.node t.time frame) (source_of frame) t.node.tp node.tp heard → is_some (finite.get node.sending (source_of frame)) ≡ false
     → (u : State) (q : ℕ) (message : Option (List ℕ)) (reply : Option Frame) (before after : List Output) → q ≡ source_of frame
     → message ≡ message_to_terminal (message_in heard) → Handles (state_of (record t { node = node })) q message reply u
@@ -164,7 +164,7 @@ tp-takes-alone t frame heard node rest taken none u q message reply before after
 
 -- A frame of the extended transport protocol goes to its receiver.
 module _ (t : Terminal) (frame : Frame) (heard : Heard) (node : NodeState)
-    (rest : node ≡ record t.node { etp = node.etp; etp_room = node.etp_room })
+    (rest : node ≡ record t.node { etp = node.etp; etp_spare = node.etp_spare })
     (taken : HasTaken (etp_taken t.node t.time frame) (source_of frame) t.node.etp node.etp heard) where
   abbrev etp_came : Came
   etp_came = came_etp t.time t.node.claims.own (source_of frame) ((state_of t).places (source_of frame)) frame

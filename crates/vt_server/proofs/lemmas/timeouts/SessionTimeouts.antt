@@ -113,7 +113,7 @@ pub record IsExpiring {S : Type 0} (lane : Lane S) (spare : ℕ) (old now : Term
   pub state : after_acts (state_of now) (due lane (state_of now)) ≡ after_acts (state_of old) (due lane (state_of old))
   pub sent : now_out ++ outputs_of (sent_by_acts (state_of now) (due lane (state_of now))) ≡ old_out ++ outputs_of (sent_by_acts (state_of old) (due lane (state_of old)))
   pub timely : (address : ℕ) → alive old.time (finite.get (lane.sessions now.node) address) ≡ alive old.time (finite.get (lane.sessions old.node) address)
-  pub room : finite.len (lane.sessions now.node) ≤ 256 → finite.len (lane.sessions now.node) + spare ≤ free
+  pub enough : finite.len (lane.sessions now.node) ≤ 256 → finite.len (lane.sessions now.node) + spare ≤ free
 
 module _ {S : Type 0} {lane : Lane S} {spare : ℕ} {old now : Terminal} {node : NodeState} {old_out out : List Output} {free : ℕ}
     (so_far : IsExpiring lane spare old now old_out out free) (rest : node ≡ lane.with_sessions (lane.sessions node) now.node) where
@@ -138,7 +138,7 @@ module _ {S : Type 0} {lane : Lane S} {spare : ℕ} {old now : Terminal} {node :
             ∙ alive-same expired.expired address
             ∙ ap (λ time. alive time (finite.get (lane.sessions now.node) address)) time-is
             ∙ so_far.timely address;
-        room = λ few. omega (arith, so_far.room addresses.at_most);
+        enough = λ few. omega (arith, so_far.enough addresses.at_most);
       }
 
   module _ (none : NoneExpires (lane.sessions now.node) (lane.sessions node) now.time) where

@@ -12,7 +12,7 @@ use Rattle.vt_server.specs.frame.TimeoutContracts.{ClosesSets}
 use Rattle.vt_server.specs.States.{state_of, places_by}
 use Rattle.vt_server.specs.Terminals.{State, after_act, after_acts}
 use Rattle.vt_node.specs.AddressFunctions.{with_at}
-use Rattle.vt_server.specs.state.PoolTables.{content_of, room_of}
+use Rattle.vt_server.specs.state.PoolTables.{content_of, spare_of}
 use Rattle.vt_node.specs.Watches.{heard_of}
 use Rattle.vt_server.specs.declared.pools.PoolTable.{PoolTable}
 use Rattle.vt_server.specs.declared.terminal.Terminal.{Terminal}
@@ -197,10 +197,10 @@ module _ (t : Terminal) (a : ℕ) (registry : Watched) (contents : PoolTable) wh
   }
 
   -- A set is closed after others.
-  pub closes : (old : Terminal) → ClosesSets old t → registry.sets ≡ without a t.registry.sets → t.registry.room ≤ registry.room
-      → content_of contents ≡ with_at a no_content (content_of t.contents) → ((b : ℕ) → b ≢ a → room_of contents b ≡ room_of t.contents b)
+  pub closes : (old : Terminal) → ClosesSets old t → registry.sets ≡ without a t.registry.sets → t.registry.capacity ≤ registry.capacity
+      → content_of contents ≡ with_at a no_content (content_of t.contents) → ((b : ℕ) → b ≢ a → spare_of contents b ≡ spare_of t.contents b)
       → ClosesSets old closing
-  closes old before sets more content rooms = record {
+  closes old before sets more content spares = record {
     node = before.node;
     sets = omega (arith, before.sets);
     uploads = λ b.
@@ -210,7 +210,7 @@ module _ (t : Terminal) (a : ℕ) (registry : Watched) (contents : PoolTable) wh
           | inl none ↦ inl (ap (set_at b) sets ∙ without-none b a t.registry.sets none)
           | inr same ↦ inr ((
             ap (λ (c : ℕ → SetPool). c b) content ∙ at-other a b (content_of t.contents) no_content ne ∙ same.0,
-            rooms b ne ∙ same.1,
+            spares b ne ∙ same.1,
           ))
         ]);
   }

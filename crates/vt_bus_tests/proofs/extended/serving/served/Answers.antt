@@ -6,7 +6,7 @@ use Rattle.vt_bus_tests.proofs.extended.serving.served.Goals as goal
 pub loop-abort-preserved : goal.loop-abort-preserved
 loop-abort-preserved c = record {
   own_address = c.expire.ensures.own_address ∙ c.loop-abort.invariant.own_address;
-  room = c.expire.ensures.room ∙ c.loop-abort.invariant.room;
+  spare = c.expire.ensures.spare ∙ c.loop-abort.invariant.spare;
   sessions = λ q. expired_same _ _ _ _ _ c.in-Some.ensures.some.expired q ∙ c.loop-abort.invariant.sessions q;
 }
 

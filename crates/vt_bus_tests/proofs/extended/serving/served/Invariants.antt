@@ -6,7 +6,7 @@ use Rattle.vt_bus_tests.proofs.extended.serving.served.Given as goal
 abbrev pub invariant-loop-abort : goal.invariant-loop-abort
 invariant-loop-abort l = record {
   own_address : l.receiver.own_address ≡ l.initial.receiver.own_address;
-  room : l.receiver.room ≡ l.initial.receiver.room;
+  spare : l.receiver.spare ≡ l.initial.receiver.spare;
   sessions : (q : ℕ) → alive l.now (finite.get l.receiver.sessions q) ≡ alive l.now (finite.get l.initial.receiver.sessions q);
 }
 

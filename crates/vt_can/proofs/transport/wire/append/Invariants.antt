@@ -5,5 +5,5 @@ abbrev pub invariant-loop-byte : goal.invariant-loop-byte
 invariant-loop-byte l = record {
   items : l.bytes.items ≡ l.fn.bytes.items ++ take l.byte-index l.part;
   len : vec_len l.bytes ≡ vec_len l.fn.bytes + l.byte-index;
-  room : vec_capacity l.bytes ≡ vec_capacity l.fn.bytes;
+  capacity : vec_capacity l.bytes ≡ vec_capacity l.fn.bytes;
 }

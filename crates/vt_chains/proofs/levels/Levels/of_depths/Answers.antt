@@ -8,5 +8,5 @@ returns c store are =
     let spare : length c.in_ok-spare.spare.items ≡ length c.args.depths.items = search rules in
     record {
       certificate = depths_fall (ids_of store) (inclusions_of store) c.args.depths.items are;
-      room = spare ∙ are.each;
+      spare_length = spare ∙ are.each;
     }

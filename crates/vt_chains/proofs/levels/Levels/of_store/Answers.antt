@@ -22,5 +22,5 @@ returns g c =
       certificate =
           subst (IsCertificate (ids_of m) (inclusions_of m)) (sym (with_items_is c.in_ok-levels.levels c.find_depths.new.depths long))
           (depths_fall (ids_of m) (inclusions_of m) c.find_depths.new.depths c.in-Ok.ensures.ok);
-      room = spare ∙ c.count-2.ensures.count ∙ count_is m;
+      spare_length = spare ∙ c.count-2.ensures.count ∙ count_is m;
     }

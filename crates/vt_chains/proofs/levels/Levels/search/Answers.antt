@@ -8,10 +8,10 @@ use Rattle.vt_chains.proofs.levels.Levels.search.Goals as goal
 pub returns-in-Ok-clause-short : goal.returns-in-Ok-clause-short
 returns-in-Ok-clause-short g c is =
     let m = g.S.Store.contents c.args.store.now in
-    let long : length c.find_depths.new.depths ≡ c.args.self.now.spare.len = c.in-Ok.ensures.ok.each ∙ sym c.requires.room ∙ sym c.args.self.now.spare.ok.0 in
+    let long : length c.find_depths.new.depths ≡ c.args.self.now.spare.len = c.in-Ok.ensures.ok.each ∙ sym c.requires.spare_length ∙ sym c.args.self.now.spare.ok.0 in
     record {
       certificate =
           subst (IsCertificate (ids_of m) (inclusions_of m)) (sym (ap (λ v. v.items) c.swap.ensures.x_after ∙ with_items_is c.args.self.now.spare c.find_depths.new.depths long))
           (depths_fall (ids_of m) (inclusions_of m) c.find_depths.new.depths c.in-Ok.ensures.ok);
-      room = ap (λ v. length v.items) c.swap.ensures.y_after ∙ c.requires.levels;
+      spare_length = ap (λ v. length v.items) c.swap.ensures.y_after ∙ c.requires.levels;
     }

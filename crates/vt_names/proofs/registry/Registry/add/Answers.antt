@@ -19,4 +19,4 @@ returns-clause-ok c =
     let entries = subst (λ r. OnOk r (c.insert.new.self.entries ≡ insert_entry nat_eq c.self.inside.sets.entries c.args.address c.new.result)) c.unwrap.ensures c.insert.ensures.entries in
     ap values_of (entries ∙ ap (λ (s : Set). insert_entry nat_eq c.self.inside.sets.entries c.args.address s) c.new.ensures)
     ∙ values-inserted made c.self.inside.sets.entries c.self.invariant
-    ∙ ap (with_set made) (ap (λ (r : Registered). r.sets) c.self.view_is ∙ c.in_ok-make_room.ensures.sets)
+    ∙ ap (with_set made) (ap (λ (r : Registered). r.sets) c.self.view_is ∙ c.in_ok-reserve_one.ensures.sets)

@@ -3,7 +3,7 @@ use Rattle.vt_rank.specs.Graphs.{triggered}
 use Rattle.vt_rank.specs.Paths.{Triggers}
 use Rattle.vt_rank.proofs.NodeInsertion.{marked_is, unmarked_is}
 use Rattle.vt_rank.proofs.CircleSearch.{next_smaller}
-use Rattle.vt_rank.proofs.RankSearch.{target_is, targets_in, visit_begins, visit_pushed, visit_room, visit_ranked, visit_circle}
+use Rattle.vt_rank.proofs.RankSearch.{target_is, targets_in, visit_begins, visit_pushed, visit_short, visit_ranked, visit_circle}
 use Rattle.vt_rank.proofs.search.Search.visit.Goals as goal
 
 pub search-init : goal.search-init
@@ -27,7 +27,7 @@ returns-then-contains-2-clause-circle c =
 pub push-requires-in-Some-outside-2 : goal.push-requires-in-Some-outside-2
 push-requires-in-Some-outside-2 c =
     let unseen = unmarked_is c.search.self.seen c.in-Some-outside.next _ c.contains-in-Some-outside.ensures c.if-contains-2.false in
-    (lit< tt, visit_room _ _ _ _ _ _ _ _ _ _ c.search.invariant c.in-Some.ensures.items unseen (omega arith) c.insert-in-Some-outside.ensures c.push-in-Some-outside.ensures.items)
+    (lit< tt, visit_short _ _ _ _ _ _ _ _ _ _ c.search.invariant c.in-Some.ensures.items unseen (omega arith) c.insert-in-Some-outside.ensures c.push-in-Some-outside.ensures.items)
 
 pub search-smaller : goal.search-smaller
 search-smaller c =

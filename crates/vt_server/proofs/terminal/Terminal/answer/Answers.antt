@@ -8,7 +8,7 @@ use Rattle.vt_server.specs.States.{state_of}
 use Rattle.vt_node.specs.AddressFunctions.{with_at}
 use Rattle.vt_kinds.specs.Ids.{null_id}
 use Rattle.vt_server.specs.message.Verdicts.{after_verdict, end_of_pool}
-use Rattle.vt_server.specs.state.PoolTables.{content_of, room_of}
+use Rattle.vt_server.specs.state.PoolTables.{content_of, spare_of}
 use Rattle.vt_server.proofs.lemmas.message.EffectsAndReplies.{answers-none}
 use Rattle.vt_server.proofs.lemmas.frame.FrameEffect.{any_verdict}
 use Rattle.vt_server.proofs.lemmas.shown.SameScreen.{end-same, same-elsewhere, same-pool}
@@ -28,7 +28,7 @@ returns-in_err-reply-in-Nothing-clause-answers c =
     let none : None ≡ c.from_residual.result = cc in
     subst (λ (r : Option Frame). HandlesMessage (state_of t) a c.args.bytes.now r (state_of c.reply.new.self)) none
     (other-answered (state_of t) a c.args.bytes.now some (state_of c.reply.new.self) None
-    (subst (FitsOneFrame (content_of t.contents a) (room_of t.contents a) c.args.bytes.now) c.in-Nothing.is (c.requires (sym some)))
+    (subst (FitsOneFrame (content_of t.contents a) (spare_of t.contents a) c.args.bytes.now) c.in-Nothing.is (c.requires (sym some)))
     c.in_err-reply-in-Nothing.ensures.replies)
 
 pub returns-in_ok-reply-in-Nothing-clause-answers : goal.returns-in_ok-reply-in-Nothing-clause-answers
@@ -39,7 +39,7 @@ returns-in_ok-reply-in-Nothing-clause-answers c =
     subst (λ (f : Frame). HandlesMessage (state_of t) a c.args.bytes.now (Some f) (state_of c.reply.new.self))
     (ap (λ own. message_to own a c.in_ok-reply-in-Nothing.reply) (sym c.own-own.ensures) ∙ sym c.message_to.ensures)
     (other-answered (state_of t) a c.args.bytes.now some (state_of c.reply.new.self) (Some c.in_ok-reply-in-Nothing.reply)
-    (subst (FitsOneFrame (content_of t.contents a) (room_of t.contents a) c.args.bytes.now) c.in-Nothing.is (c.requires (sym some)))
+    (subst (FitsOneFrame (content_of t.contents a) (spare_of t.contents a) c.args.bytes.now) c.in-Nothing.is (c.requires (sym some)))
     c.in_ok-reply-in-Nothing.ensures.replies)
 
 pub returns-in-Piece-clause-answers : goal.returns-in-Piece-clause-answers
@@ -47,7 +47,7 @@ returns-in-Piece-clause-answers c =
     let t = c.args.self.now in
     let a = c.args.source in
     let some = c.if-not-registered.ensures in
-    let ready = subst (FitsOneFrame (content_of t.contents a) (room_of t.contents a) c.args.bytes.now) c.in-Piece.is (c.requires (sym some)) in
+    let ready = subst (FitsOneFrame (content_of t.contents a) (spare_of t.contents a) c.args.bytes.now) c.in-Piece.is (c.requires (sym some)) in
     piece-answered (state_of t) a c.args.bytes.now some (state_of (record t { contents = c.feed.new.self })) ready.0
     (contents-state t c.feed.new.self a (with_piece (content_of t.contents a) (drop 1 c.args.bytes.now))
     (c.feed.ensures ∙ ap (λ (b : List ℕ). with_at a (with_piece (content_of t.contents a) (drop 1 b)) (content_of t.contents)) ready.1))
@@ -57,7 +57,7 @@ returns-after-eq-clause-answers c =
     let t = c.args.self.now in
     let a = c.args.source in
     let some = c.if-not-registered.ensures in
-    let ready = subst (FitsOneFrame (content_of t.contents a) (room_of t.contents a) c.args.bytes.now) c.in-End.is (c.requires (sym some)) in
+    let ready = subst (FitsOneFrame (content_of t.contents a) (spare_of t.contents a) c.args.bytes.now) c.in-End.is (c.requires (sym some)) in
     subst (λ (f : Frame). HandlesMessage (state_of t) a c.args.bytes.now (Some f) (state_of (record t { contents = c.end-reply.new.self })))
     (ap (λ own. message_to own a c.end-reply.result) (sym c.own-own.ensures) ∙ sym c.message_to-in-End.ensures)
     (end-answered (state_of t) a c.args.bytes.now some (state_of (record t { contents = c.end-reply.new.self })) c.in-End.judgement c.end-reply.result

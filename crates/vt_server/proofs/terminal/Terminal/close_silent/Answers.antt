@@ -23,7 +23,7 @@ loop-address-preserved c =
     let first : first_silent (state_of t) (state_of t).sets ≡ Some a =
     sym (silent_of (state_of t) t.registry.sets) ∙ sym c.in-Some.ensures.found in
     let sets = c.close.ensures.sets ∙ ap (λ (w : Watched). without a w.sets) same in
-    let room : t.registry.room ≤ c.close.new.self.room = subst (λ (w : Watched). w.room ≤ c.close.new.self.room) same c.close.ensures.room in
+    let capacity : t.registry.capacity ≤ c.close.new.self.capacity = subst (λ (w : Watched). w.capacity ≤ c.close.new.self.capacity) same c.close.ensures.capacity in
     let content = c.remove.ensures.content in
     record {
       state =
@@ -33,7 +33,7 @@ loop-address-preserved c =
           ∙ c.loop-address.invariant.state;
       closes =
           closes t a c.close.new.self c.remove.new.self c.args.self.now c.loop-address.invariant.closes
-          sets room content c.remove.ensures.rooms;
+          sets capacity content c.remove.ensures.spare;
     }
 
 pub loop-address-smaller : goal.loop-address-smaller

@@ -13,8 +13,8 @@ pub take-requires-clause-no_claim : goal.take-requires-clause-no_claim
 take-requires-clause-no_claim c =
     let it = subst (λ (r : PreparedFrame). FitsAfterTimeouts c.requires.ready.0 c.args.self.now c.args.notice.now c.args.frame.now r) c.in-Prepared.is c.requires.ready.1 in it.1
 
-pub take-requires-clause-rooms : goal.take-requires-clause-rooms
-take-requires-clause-rooms c =
+pub take-requires-clause-reserved : goal.take-requires-clause-reserved
+take-requires-clause-reserved c =
     let it = subst (λ (r : PreparedFrame). FitsAfterTimeouts c.requires.ready.0 c.args.self.now c.args.notice.now c.args.frame.now r) c.in-Prepared.is c.requires.ready.1 in record {
       tp = it.2.tp;
       etp = it.2.etp;

@@ -10,4 +10,4 @@ returns-clause-state c =
     let s = state_of c.args.self.now in
     registry-state c.args.self.now c.master-refused.new.self c.master-refused.ensures.watch
     ∙ master-state s c.args.source c.args.count c.holder.result (holder s c.args.source) c.master-refused.new.self.sets c.holder.ensures
-    (c.master-refused.ensures.sets (c.master-refused.ensures.room c.requires.room))
+    (c.master-refused.ensures.sets (c.master-refused.ensures.capacity c.requires.capacity))

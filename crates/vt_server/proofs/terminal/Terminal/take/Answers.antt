@@ -6,7 +6,7 @@ use Rattle.vt_server.specs.Outputs.{outputs_of}
 use Rattle.vt_server.specs.state.AddressStates.{AddressState}
 use Rattle.vt_server.specs.States.{state_of}
 use Rattle.vt_server.specs.Terminals.{State, Sent}
-use Rattle.vt_server.specs.state.PoolTables.{content_of, room_of}
+use Rattle.vt_server.specs.state.PoolTables.{content_of, spare_of}
 use Rattle.vt_node.specs.Watches.{heard_of}
 use Rattle.vt_node.specs.declared.bus.FrameMeaning.TheVariants as notices
 use Rattle.vt_server.proofs.lemmas.frame.FrameEffect.{takes-echo, takes-heard}
@@ -29,11 +29,11 @@ returns-then-source-own-clause-takes c =
     takes-echo s frame n c.requires.no_claim judged.0 before before (sym c.source-source.ensures ∙ c.if-source-own.true ∙ c.own.ensures) judged.1
     (sym (append-nil before) ∙ ap (λ (l : List Sent). before ++ outputs_of l) (sym (defence-none s (source_of frame) n c.requires.no_claim other)))
 
-pub take_notice-requires-clause-rooms : goal.take_notice-requires-clause-rooms
-take_notice-requires-clause-rooms c = record {
-  tp = c.requires.rooms.tp;
-  etp = c.requires.rooms.etp;
-  sets = λ count is. subst (λ n. 0 < n) (sym c.hear.ensures.room) (c.requires.rooms.sets count is);
+pub take_notice-requires-clause-reserved : goal.take_notice-requires-clause-reserved
+take_notice-requires-clause-reserved c = record {
+  tp = c.requires.reserved.tp;
+  etp = c.requires.reserved.etp;
+  sets = λ count is. subst (λ n. 0 < n) (sym c.hear.ensures.capacity) (c.requires.reserved.sets count is);
 }
 
 pub take_notice-requires-clause-upload : goal.take_notice-requires-clause-upload
@@ -43,7 +43,7 @@ take_notice-requires-clause-upload c some =
     let frame = c.args.frame.now in
     let a = source_of frame in
     let place : AddressState = (state_of t).places a in
-    subst (λ m. FitsMeaning n (content_of t.contents a) (room_of t.contents a) m c.args.upload)
+    subst (λ m. FitsMeaning n (content_of t.contents a) (spare_of t.contents a) m c.args.upload)
     (came-reads t.time t.node.claims.own a place (record place { heard = heard_of c.hear.new.self.watch a }) n frame refl refl)
     (c.requires.upload (ap (λ (l : List Set). is_some (set_at a l)) (sym c.hear.ensures.sets) ∙ some))
 
