@@ -155,16 +155,16 @@ runs_of_acts s [] = []
 runs_of_acts s (h ∷ acts) = runs_at s.now h.0 (part h.0 s) h.1 ++ runs_of_acts (after_act s h.0 h.1) acts
 
 -- the runs of a change of the shown set
-abbrev pub runs_of_settling : State → List Run
-runs_of_settling s = runs_of_acts (choosing s) (events_of_change s.shown (shown_now s))
+abbrev pub runs_of_shown_update : State → List Run
+runs_of_shown_update s = runs_of_acts (choosing s) (events_of_change s.shown (shown_now s))
 
 abbrev pub runs_of_hearing : State → ℕ → FrameMeaning → Frame → Verdict → List Run
 runs_of_hearing s source notice frame verdict =
     if is_lost_by (answer_to s source notice) then []
-    else runs_of_acts (before s source notice) (acts s source notice frame verdict) ++ runs_of_settling (acted s source notice frame verdict)
+    else runs_of_acts (before s source notice) (acts s source notice frame verdict) ++ runs_of_shown_update (acted s source notice frame verdict)
 
 abbrev pub runs_of_operating : State → List (ℕ × Act) → List Run
-runs_of_operating s happens = runs_of_acts s happens ++ runs_of_settling (after_acts s happens)
+runs_of_operating s happens = runs_of_acts s happens ++ runs_of_shown_update (after_acts s happens)
 
 -- the runs of an input: of its command or action, and of a change of the shown set
 abbrev pub runs : State → JudgedInput → List Run

@@ -10,7 +10,7 @@ use Rattle.vt_server.specs.shown.ShownSet.{selected_now, shown_now}
 use Rattle.vt_server.specs.state.StateInvariants.{IsOrderly}
 use Rattle.vt_server.specs.state.AddressStates.{empty}
 use Rattle.vt_server.specs.state.AddressViews.{Preloads}
-use Rattle.vt_server.specs.Steps.{JudgedInput, step, settled, preloading}
+use Rattle.vt_server.specs.Steps.{JudgedInput, step, with_shown_updated, preloading}
 use Rattle.vt_server.specs.Terminals.{State, pool_of, after_act}
 
 -- ---- the choice of the selected and the shown set
@@ -78,7 +78,7 @@ pub record ShownAreChosen : Type 0 where
   pub selected : (s : State) (address : ℕ) → (selected_now s ≡ Some address) ↔ IsSelected s address
   pub shown : (s : State) (address : ℕ) → (shown_now s ≡ Some address) ↔ IsChosen s address
   pub none : (s : State) (address : ℕ) → PoolsAreOfSets s → shown_now s ≡ None → HasPool s address → ⊥
-  pub settled_shows : (s : State) → (settled s).shown ≡ shown_now s
+  pub shown_update_shows : (s : State) → (with_shown_updated s).shown ≡ shown_now s
   pub preloading_shows : (s : State) (address : ℕ) (contents : ObjectMap)
       → (preloading s address contents).shown ≡ shown_now (after_act s address (Preloads contents))
   -- before the first input, after a preload, and after every input

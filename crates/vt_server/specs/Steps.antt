@@ -100,12 +100,12 @@ defence s source notice =
 
 -- The shown set is chosen, the events of its change are raised, and the status is sent if the display differs from the one before
 -- the input.
-unfoldable pub settled : State → State
-settled s = after_acts (choosing s) (events_of_change s.shown (shown_now s))
+unfoldable pub with_shown_updated : State → State
+with_shown_updated s = after_acts (choosing s) (events_of_change s.shown (shown_now s))
 
-unfoldable pub sent_by_settling : State → State → List Sent
-sent_by_settling old s =
-    sent_by_acts (choosing s) (events_of_change s.shown (shown_now s)) ++ status s.claims.own (display old) (display (settled s))
+unfoldable pub sent_by_shown_update : State → State → List Sent
+sent_by_shown_update old s =
+    sent_by_acts (choosing s) (events_of_change s.shown (shown_now s)) ++ status s.claims.own (display old) (display (with_shown_updated s))
 
 -- ---- a frame
 
@@ -126,8 +126,8 @@ sent_by_frame s source notice frame verdict =
 -- the step of a frame, from the state before the input and the state after timeouts and closings
 abbrev pub acting : State → State → ℕ → FrameMeaning → Frame → Verdict → Step
 acting old s source notice frame verdict = let t = acted s source notice frame verdict in record {
-  after = settled t;
-  sent = sent_by_frame s source notice frame verdict ++ sent_by_settling old t;
+  after = with_shown_updated t;
+  sent = sent_by_frame s source notice frame verdict ++ sent_by_shown_update old t;
 }
 
 abbrev pub hearing : State → State → ℕ → FrameMeaning → Frame → Verdict → Step
@@ -163,8 +163,8 @@ no_set missing = if missing then Refused NoSet ∷ [] else []
 abbrev pub step_action : State → ActionValue → Bool → Step
 step_action s action shown =
     let u = selecting s action in let happens = at_shown s.shown (Operates action shown) in let t = after_acts u happens in record {
-      after = settled t;
-      sent = (no_set (has_no_set s action) ++ sent_by_acts u happens) ++ sent_by_settling s t;
+      after = with_shown_updated t;
+      sent = (no_set (has_no_set s action) ++ sent_by_acts u happens) ++ sent_by_shown_update s t;
     }
 
 -- ---- the step

@@ -9,7 +9,7 @@ ghost use Rattle.vt_server.specs.shown.DisplayValues.{display_value, found_pool}
 ghost use Rattle.vt_server.specs.Outputs.{outputs_of, HasSpare};
 ghost use Rattle.vt_server.specs.shown.Screens.{TellsChanges, redraws};
 ghost use Rattle.vt_server.specs.States.{state_of};
-ghost use Rattle.vt_server.specs.Steps.{settled, sent_by_settling};
+ghost use Rattle.vt_server.specs.Steps.{with_shown_updated, sent_by_shown_update};
 ghost use Rattle.vt_server.specs.Terminals as spec;
 
 use crate::message::status::status_frame;
@@ -39,9 +39,9 @@ impl Terminal {
     /// the input.
     pub(crate) fn update_shown(&mut self, before: &ShownMasks, outputs: &mut Vec<Output>)
         requires capacity { HasSpare 1 outputs.old }
-        ensures state { state_of self.new ≡ settled (state_of self.old) }
+        ensures state { state_of self.new ≡ with_shown_updated (state_of self.old) }
         ensures sent { (s : spec.State) → display_value before.now ≡ choosing.display s
-            → outputs.new.items ≡ outputs.old.items ++ outputs_of (sent_by_settling s (state_of self.old)) }
+            → outputs.new.items ≡ outputs.old.items ++ outputs_of (sent_by_shown_update s (state_of self.old)) }
         ensures tells { TellsChanges self.old self.new }
     {
         let was = self.shown;

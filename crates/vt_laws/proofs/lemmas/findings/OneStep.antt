@@ -16,7 +16,7 @@ use Rattle.vt_server.specs.operator.ActionEffects.{action_on, object_acted_on}
 use Rattle.vt_server.specs.Outputs.{outputs_of}
 use Rattle.vt_server.specs.state.AddressViews.{AddressView, Act, Hears, Operates, AddressOutcome, after_action, after_operator, outcome}
 use Rattle.vt_server.specs.States.{TakesInput, TakesInputs}
-use Rattle.vt_server.specs.Steps.{JudgedInput, FrameAt, ActionAt, Step, step, after_all, sent_by_all, before, changes, heard_at_source, acts, answer_to, is_lost_by, defence, settled, sent_by_settling, losing, acting, hearing, behind_lapses, no_step, step_frame, has_no_set, no_set, selecting, at_shown, step_action}
+use Rattle.vt_server.specs.Steps.{JudgedInput, FrameAt, ActionAt, Step, step, after_all, sent_by_all, before, changes, heard_at_source, acts, answer_to, is_lost_by, defence, with_shown_updated, sent_by_shown_update, losing, acting, hearing, behind_lapses, no_step, step_frame, has_no_set, no_set, selecting, at_shown, step_action}
 use Rattle.vt_server.specs.Terminals.{State, Sent, part, pool_at, put, to_address, after_acts, sent_by_acts}
 use Rattle.vt_server.specs.message.Verdicts.{Verdict}
 use Rattle.vt_node.specs.declared.bus.FrameMeaning.{FrameMeaning}
@@ -90,7 +90,7 @@ action-steps-one s action b d seen too =
     ap₂ by_action alike.after alike.sent
   where
     by_action : State → List Sent → Step
-    by_action t sent = record { after = settled t; sent = (no_set (has_no_set s action) ++ sent) ++ sent_by_settling s t }
+    by_action t sent = record { after = with_shown_updated t; sent = (no_set (has_no_set s action) ++ sent) ++ sent_by_shown_update s t }
 
 -- ---- events of an input
 
@@ -137,7 +137,7 @@ module _ (judging : Judging) where
       alike = acts-alike s source n f v w judged too
 
       by_acts : State → List Sent → Step
-      by_acts t sent = record { after = settled t; sent = (defence s source n ++ sent) ++ sent_by_settling old t }
+      by_acts t sent = record { after = with_shown_updated t; sent = (defence s source n ++ sent) ++ sent_by_shown_update old t }
 
       cases : (b : Bool) → cond b (losing s) (acting old s source n f v) ≡ cond b (losing s) (acting old s source n f w)
       cases true = refl

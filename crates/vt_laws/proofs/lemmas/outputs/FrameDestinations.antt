@@ -14,7 +14,7 @@ use Rattle.vt_server.specs.frame.TimeoutActs.{at_time, lapsed, sent_by_lapses, t
 use Rattle.vt_node.specs.Messages.{claim_from}
 use Rattle.vt_server.specs.state.AddressViews.{AddressView, Act, Hears, Rebinds, Preloads, TpExpires, EtpExpires, SendingExpires, FallsSilent, Operates, Raises, unchanged, without_set, after_change, outcome}
 use Rattle.vt_laws.specs.Destinations.{IsToOne, IsToAll, AreAddressed, HasAddresses}
-use Rattle.vt_server.specs.Steps.{JudgedInput, FrameAt, ActionAt, step, before, changes, heard_at_source, acts, answer_to, is_lost_by, is_defended, defence, settled, sent_by_settling, losing, acting, no_step, step_frame, has_no_set, selecting, at_shown, no_set, step_action}
+use Rattle.vt_server.specs.Steps.{JudgedInput, FrameAt, ActionAt, step, before, changes, heard_at_source, acts, answer_to, is_lost_by, is_defended, defence, with_shown_updated, sent_by_shown_update, losing, acting, no_step, step_frame, has_no_set, selecting, at_shown, no_set, step_action}
 use Rattle.vt_server.specs.Terminals.{State, Sent, ToOne, ToAll, part, after_act, after_acts, sent_by_act, sent_by_acts, to_address, sent_refusal}
 use Rattle.vt_server.specs.message.Verdicts.{Verdict}
 use Rattle.vt_node.specs.declared.bus.FrameMeaning.{FrameMeaning}
@@ -149,12 +149,12 @@ module _ (law : PartsAreIdentifiers) where
         cases true = tt
         cases false = (inr (inr (message-parts law own 255 own-fits (omega arith))), tt)
 
-    settling-sends : (old s : State) → s.claims.own ≡ own → AreAddressed own (sent_by_settling old s)
-    unfolding sent_by_settling
-    settling-sends old s is =
-        addressed-append own (sent_by_acts (choosing s) (events_of_change s.shown (shown_now s))) (status s.claims.own (display old) (display (settled s)))
+    shown_update-sends : (old s : State) → s.claims.own ≡ own → AreAddressed own (sent_by_shown_update old s)
+    unfolding sent_by_shown_update
+    shown_update-sends old s is =
+        addressed-append own (sent_by_acts (choosing s) (events_of_change s.shown (shown_now s))) (status s.claims.own (display old) (display (with_shown_updated s)))
         (acts-send (choosing s) (events_of_change s.shown (shown_now s)) is (at-change Fits (λ a event. tt) s.shown (shown_now s)))
-        (subst (λ q. AreAddressed own (status q (display old) (display (settled s)))) (sym is) (status-sends (display old) (display (settled s))))
+        (subst (λ q. AreAddressed own (status q (display old) (display (with_shown_updated s)))) (sym is) (status-sends (display old) (display (with_shown_updated s))))
 
     -- ---- a frame
 
@@ -167,13 +167,13 @@ module _ (law : PartsAreIdentifiers) where
         let t = before s source n in
         let hs = acts s source n f verdict in
         let t-is = own-before-is s source n is in
-        addressed-append own (defence s source n ++ sent_by_acts t hs) (sent_by_settling old (after_acts t hs))
+        addressed-append own (defence s source n ++ sent_by_acts t hs) (sent_by_shown_update old (after_acts t hs))
         (addressed-append own (defence s source n) (sent_by_acts t hs)
         (subst (λ q. AreAddressed own (cond (is_defended n (answer_to s source n)) (ToAll (claim_from q s.claims.name) ∷ []) [])) (sym is)
         (defence-sends (is_defended n (answer_to s source n)) s.claims.name))
         (acts-send t hs t-is (at-append Fits (changes s source n) (heard_at_source s.claims.own source n f verdict)
         (at-changes Fits (λ a. tt) s source n) (at-heard Fits s.claims.own source n f verdict (omega arith)))))
-        (settling-sends old (after_acts t hs) (own-acts t hs t-is))
+        (shown_update-sends old (after_acts t hs) (own-acts t hs t-is))
 
     frame-sends : (s : State) (time : ℕ) (f : Frame) (verdict : Verdict) → s.claims.own ≡ own → AreAddressed own (step_frame s time f verdict).sent
     frame-sends s time f verdict is =
@@ -203,10 +203,10 @@ module _ (law : PartsAreIdentifiers) where
         let u = selecting s action in
         let hs = at_shown s.shown (Operates action shown) in
         let u-is : u.claims.own ≡ own = selecting-same (λ x. x.claims.own) (λ x o. refl) s action ∙ is in
-        addressed-append own (no_set (has_no_set s action) ++ sent_by_acts u hs) (sent_by_settling s (after_acts u hs))
+        addressed-append own (no_set (has_no_set s action) ++ sent_by_acts u hs) (sent_by_shown_update s (after_acts u hs))
         (addressed-append own (no_set (has_no_set s action)) (sent_by_acts u hs) (no_set-sends (has_no_set s action))
         (acts-send u hs u-is (shown-fits s.shown action shown fits)))
-        (settling-sends s (after_acts u hs) (own-acts u hs u-is))
+        (shown_update-sends s (after_acts u hs) (own-acts u hs u-is))
 
   pub step-sends : (s : State) (e : JudgedInput) → HasAddresses s → AreAddressed s.claims.own (step s e).sent
   step-sends s (FrameAt time f verdict) fits = cases s.lost

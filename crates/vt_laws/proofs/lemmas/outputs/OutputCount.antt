@@ -27,7 +27,7 @@ use Rattle.vt_server.specs.state.AddressStates.{AddressState, heard_at, with_poo
 use Rattle.vt_node.specs.ReceiverResults.{taken}
 use Rattle.vt_laws.specs.Destinations.{HasByte}
 use Rattle.vt_server.specs.frame.SessionEffects.{came, message_to_terminal}
-use Rattle.vt_server.specs.Steps.{JudgedInput, FrameAt, ActionAt, step, before, changes, heard_at_source, acts, answer_to, is_lost_by, is_defended, defence, settled, sent_by_settling, losing, acting, no_step, step_frame, has_no_set, selecting, at_shown, no_set, step_action}
+use Rattle.vt_server.specs.Steps.{JudgedInput, FrameAt, ActionAt, step, before, changes, heard_at_source, acts, answer_to, is_lost_by, is_defended, defence, with_shown_updated, sent_by_shown_update, losing, acting, no_step, step_frame, has_no_set, selecting, at_shown, no_set, step_action}
 use Rattle.vt_server.specs.Terminals.{State, Sent, ToOne, ToAll, part, after_act, after_acts, sent_by_act, sent_by_acts, to_address, sent_refusal}
 use Rattle.vt_server.specs.message.Verdicts.{Verdict}
 use Rattle.vt_node.specs.declared.bus.FrameMeaning.{FrameMeaning}
@@ -226,13 +226,13 @@ status-few own was now = cases (same_display was now)
     cases true = omega arith
     cases false = omega arith
 
-settling-few : (old s : State) → length (sent_by_settling old s) ≤ 1
-unfolding sent_by_settling
-settling-few old s =
+shown_update-few : (old s : State) → length (sent_by_shown_update old s) ≤ 1
+unfolding sent_by_shown_update
+shown_update-few old s =
     let hs = events_of_change s.shown (shown_now s) in
-    let both = length-append (sent_by_acts (choosing s) hs) (status s.claims.own (display old) (display (settled s))) in
+    let both = length-append (sent_by_acts (choosing s) hs) (status s.claims.own (display old) (display (with_shown_updated s))) in
     let none = acts-none (choosing s) hs (at-change (λ a h. SendsFew 0 h) (λ a event x b. omega arith) s.shown (shown_now s)) in
-    let last = status-few s.claims.own (display old) (display (settled s)) in
+    let last = status-few s.claims.own (display old) (display (with_shown_updated s)) in
     omega arith
 
 -- ---- a frame
@@ -254,13 +254,13 @@ module _ (old s : State) (source : ℕ) (f : Frame) (verdict : Verdict) (small :
   answered-few n none =
       let t = before s source n in
       let hs = acts s source n f verdict in
-      let all = length-append (defence s source n ++ sent_by_acts t hs) (sent_by_settling old (after_acts t hs)) in
+      let all = length-append (defence s source n ++ sent_by_acts t hs) (sent_by_shown_update old (after_acts t hs)) in
       let both = length-append (defence s source n) (sent_by_acts t hs) in
       let first = claim-few (is_defended n (answer_to s source n)) (ToAll (claim_from s.claims.own s.claims.name)) in
       let second = acts-none t hs (at-append (λ a h. SendsFew 0 h) (changes s source n) (heard_at_source s.claims.own source n f verdict)
       (at-changes (λ a h. SendsFew 0 h) (λ a x b. change-none b (part b x) (part b x).set) s source n)
       (at-heard (λ a h. SendsFew 0 h) s.claims.own source n f verdict none)) in
-      let last = settling-few old (after_acts t hs) in
+      let last = shown_update-few old (after_acts t hs) in
       omega arith
 
   -- Any other frame is answered to its source alone.
@@ -268,13 +268,13 @@ module _ (old s : State) (source : ℕ) (f : Frame) (verdict : Verdict) (small :
   source-few n no-claim no-change =
       let t = before s source n in
       let hs = acts s source n f verdict in
-      let all = length-append (defence s source n ++ sent_by_acts t hs) (sent_by_settling old (after_acts t hs)) in
+      let all = length-append (defence s source n ++ sent_by_acts t hs) (sent_by_shown_update old (after_acts t hs)) in
       let both = length-append (defence s source n) (sent_by_acts t hs) in
       let first : length (defence s source n) ≡ 0 = ap (λ (l : List Sent). length l) no-claim in
       let second : length (sent_by_acts t hs) ≤ 255 =
       subst (λ (l : List (ℕ × Act)). length (sent_by_acts t (l ++ heard_at_source s.claims.own source n f verdict)) ≤ 255) (sym no-change)
       (heard-few t (eqb source s.claims.own) source (Hears n f verdict) (λ x a. notice-few x.now a (record (part a x) { place = heard_at x.now (x.places a) }) f verdict small n)) in
-      let last = settling-few old (after_acts t hs) in
+      let last = shown_update-few old (after_acts t hs) in
       omega arith
 
   acting-few : (n : FrameMeaning) → length (acting old s source n f verdict).sent ≤ 256
@@ -319,8 +319,8 @@ action-sent-few s action shown =
     let hs = at_shown s.shown (Operates action shown) in
     let first = no_set-few (has_no_set s action) in
     let second = shown-few u s.shown (Operates action shown) (λ x a. operator-few x.now a (part a x) action shown (x.places a).content.pool) in
-    let last = settling-few s (after_acts u hs) in
-    let all = length-append (no_set (has_no_set s action) ++ sent_by_acts u hs) (sent_by_settling s (after_acts u hs)) in
+    let last = shown_update-few s (after_acts u hs) in
+    let all = length-append (no_set (has_no_set s action) ++ sent_by_acts u hs) (sent_by_shown_update s (after_acts u hs)) in
     let both = length-append (no_set (has_no_set s action)) (sent_by_acts u hs) in
     omega arith
 

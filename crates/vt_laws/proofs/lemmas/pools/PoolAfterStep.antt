@@ -25,12 +25,12 @@ use Rattle.vt_server.specs.operator.ActionEffects.{action_on, is_busy}
 use Rattle.vt_server.specs.state.AddressViews.{AddressView, Act, Hears, Rebinds, Preloads, TpExpires, EtpExpires, SendingExpires, FallsSilent, Operates, Raises, AddressOutcome, outcome}
 use Rattle.vt_server.specs.state.AddressStates.{AddressState}
 use Rattle.vt_server.specs.frame.SessionEffects.{came}
-use Rattle.vt_server.specs.Steps.{JudgedInput, FrameAt, ActionAt, step, before, acts, acted, answer_to, is_lost_by, changes, heard_at_source, settled, losing, acting, hearing, no_step, step_frame, selecting, at_shown, step_action}
+use Rattle.vt_server.specs.Steps.{JudgedInput, FrameAt, ActionAt, step, before, acts, acted, answer_to, is_lost_by, changes, heard_at_source, with_shown_updated, losing, acting, hearing, no_step, step_frame, selecting, at_shown, step_action}
 use Rattle.vt_server.specs.Terminals.{State, pool_of, part, put, after_act, after_acts}
 use Rattle.vt_server.specs.message.Verdicts.{Verdict}
 use Rattle.vt_node.specs.declared.bus.FrameMeaning.{FrameMeaning}
 use Rattle.vt_node.specs.declared.bus.FrameMeaning.TheVariants.{Claim, ClaimRequest, Master, Member, Message, Tp, Etp, Nothing}
-use Rattle.vt_laws.specs.Headline.{Pools, Run, accepted_after, accepted_at, accepted_by_acts, accepted_in_hearing, runs_of_effect, runs_of_command, runs_of_message, runs_of_action, runs_of_operator, runs_of_event, runs_at, runs_of_acts, runs_of_settling, runs_of_hearing, runs_of_operating, runs}
+use Rattle.vt_laws.specs.Headline.{Pools, Run, accepted_after, accepted_at, accepted_by_acts, accepted_in_hearing, runs_of_effect, runs_of_command, runs_of_message, runs_of_action, runs_of_operator, runs_of_event, runs_at, runs_of_acts, runs_of_shown_update, runs_of_hearing, runs_of_operating, runs}
 use Rattle.vt_laws.specs.RunsOfSteps.{Lead, RunsAreOfSteps, objects_in, runs_there}
 use Rattle.vt_server.proofs.lemmas.acts.AddressedActs.{AllAt, at-append, at-below, at-changes, at-heard}
 use Rattle.vt_server.proofs.lemmas.acts.ComposedActs.{act-is}
@@ -204,9 +204,9 @@ lapsed-follows s q =
 -- ---- a frame
 
 -- The pool of each address after the events of a change of the shown set is the result of their runs.
-settling-follows : (s : State) (q : ℕ) → Follows (pool_of s q) (runs_there q (runs_of_settling s)) (pool_of (settled s) q)
-unfolding settled
-settling-follows s q = acts-follow (choosing s) (events_of_change s.shown (shown_now s)) q (change-plain s.shown (shown_now s))
+shown_update-follows : (s : State) (q : ℕ) → Follows (pool_of s q) (runs_there q (runs_of_shown_update s)) (pool_of (with_shown_updated s) q)
+unfolding with_shown_updated
+shown_update-follows s q = acts-follow (choosing s) (events_of_change s.shown (shown_now s)) q (change-plain s.shown (shown_now s))
 
 -- A write at one address leaves the pools of the others, and their runs, unchanged.
 put-holds : (pools : Pools) (s : State) (a q : ℕ) (o : AddressOutcome) (x : Option ObjectMap) (rs : List Run) → AreAt a rs → Holds (pools q) [] (pool_of s q)
@@ -297,10 +297,10 @@ hearing-holds pools old s source n f verdict q is = cases (is_lost_by (answer_to
     last : Pools
     last = accepted_by_acts (before s source n) (acts s source n f verdict) pools
 
-    cases : (b : Bool) → Holds (cond b pools last q) (runs_there q (cond b [] (first ++ runs_of_settling t))) (pool_of (cond b (losing s) (acting old s source n f verdict)).after q)
+    cases : (b : Bool) → Holds (cond b pools last q) (runs_there q (cond b [] (first ++ runs_of_shown_update t))) (pool_of (cond b (losing s) (acting old s source n f verdict)).after q)
     cases true = is q
     cases false =
-        more-hold (last q) (pool_of t q) (pool_of (settled t) q) q first (runs_of_settling t) (frame-holds pools s source n f verdict q is) (settling-follows t q)
+        more-hold (last q) (pool_of t q) (pool_of (with_shown_updated t) q) q first (runs_of_shown_update t) (frame-holds pools s source n f verdict q is) (shown_update-follows t q)
 
 -- ---- a step
 
@@ -331,14 +331,14 @@ operating-follows s action shown q = cases s.lost
     t : State
     t = after_acts u hs
 
-    operated : Follows (pool_of u q) (runs_there q (runs_of_operating u hs)) (pool_of (settled t) q)
+    operated : Follows (pool_of u q) (runs_there q (runs_of_operating u hs)) (pool_of (with_shown_updated t) q)
     operated =
-        more-follow (pool_of u q) (pool_of t q) (pool_of (settled t) q) q (runs_of_acts u hs) (runs_of_settling t)
-        (acts-follow u hs q (operated-plain s.shown action shown)) (settling-follows t q)
+        more-follow (pool_of u q) (pool_of t q) (pool_of (with_shown_updated t) q) q (runs_of_acts u hs) (runs_of_shown_update t)
+        (acts-follow u hs q (operated-plain s.shown action shown)) (shown_update-follows t q)
 
     cases : (b : Bool) → Follows (pool_of s q) (runs_there q (cond b [] (runs_of_operating u hs))) (pool_of (cond b (no_step s) (step_action s action shown)).after q)
     cases true = follows-same (pool_of s q)
-    cases false = subst (λ (pool : Option SetState). Follows pool (runs_there q (runs_of_operating u hs)) (pool_of (settled t) q)) (selecting-same s action q) operated
+    cases false = subst (λ (pool : Option SetState). Follows pool (runs_there q (runs_of_operating u hs)) (pool_of (with_shown_updated t) q)) (selecting-same s action q) operated
 
 -- The pool of each address after a step is the result of its runs, from the pool accepted last.
 step-holds : (s : State) (e : JudgedInput) (q : ℕ) → Holds (accepted_after s e (objects_in s) q) (runs_there q (runs s e)) (pool_of (step s e).after q)

@@ -15,12 +15,12 @@ use Rattle.vt_layout.specs.Drawings.{at_path, key_entries, mask_entries, origin}
 use Rattle.vt_node.specs.Bus.{notice_of}
 use Rattle.vt_server.specs.shown.ShownSet.{choosing, shown_now, events_of_change, raised_at, ACTIVATE, DEACTIVATE}
 use Rattle.vt_server.specs.Findings.{IsJudged, IsFound, AreFound, ends_transfer}
-use Rattle.vt_laws.specs.Headline.{Pools, IsPoolInForce, ArePoolsInForce, accepted_at, accepted_with, accepted_by_acts, accepted_in_hearing, accepted_after, accepted_after_all, Run, AllEnd, DrawsWhatIsThere, EventsKeep, KeepsPromise, NeverSticks, runs_at, runs_of_acts, runs_of_settling, runs_of_hearing, runs_of_operating, runs}
+use Rattle.vt_laws.specs.Headline.{Pools, IsPoolInForce, ArePoolsInForce, accepted_at, accepted_with, accepted_by_acts, accepted_in_hearing, accepted_after, accepted_after_all, Run, AllEnd, DrawsWhatIsThere, EventsKeep, KeepsPromise, NeverSticks, runs_at, runs_of_acts, runs_of_shown_update, runs_of_hearing, runs_of_operating, runs}
 use Rattle.vt_server.specs.frame.TimeoutActs.{at_time, lapsed, silences, set_is_silent, tp_due, etp_due, sending_due, after_tp_timeouts, after_etp_timeouts, after_timeouts}
 use Rattle.vt_server.specs.state.AddressViews.{AddressView, Act, Hears, Rebinds, Preloads, TpExpires, EtpExpires, SendingExpires, FallsSilent, Operates, Raises, AddressOutcome, outcome}
 use Rattle.vt_server.specs.state.AddressStates.{empty, AddressState}
 use Rattle.vt_server.specs.States.{TakesInputs}
-use Rattle.vt_server.specs.Steps.{JudgedInput, FrameAt, ActionAt, step, after_all, before, acts, acted, answer_to, is_lost_by, changes, heard_at_source, settled, losing, acting, hearing, no_step, step_frame, selecting, at_shown, step_action}
+use Rattle.vt_server.specs.Steps.{JudgedInput, FrameAt, ActionAt, step, after_all, before, acts, acted, answer_to, is_lost_by, changes, heard_at_source, with_shown_updated, losing, acting, hearing, no_step, step_frame, selecting, at_shown, step_action}
 use Rattle.vt_server.specs.Terminals.{State, pool_of, part, put, after_act, after_acts}
 use Rattle.vt_node.specs.AddressFunctions.{with_at}
 use Rattle.vt_server.specs.message.Verdicts.{Verdict}
@@ -169,12 +169,12 @@ module _ (laws : Laws) where
       (acts-in-force pools t (etp_due t) (at-below IsPlain (λ a. is_overdue t.now (t.places a).etp) EtpExpires 256 (λ a lt. tt))
       (acts-in-force pools s (tp_due s) (at-below IsPlain (λ a. is_overdue s.now (s.places a).tp) TpExpires 256 (λ a lt. tt)) is)))
 
-  settled-in-force : (pools : Pools) (s : State) → ArePoolsInForce pools s → ArePoolsInForce pools (settled s)
-  unfolding settled
-  settled-in-force pools s is = acts-in-force pools (choosing s) (events_of_change s.shown (shown_now s)) (change-plain s.shown (shown_now s)) is
+  shown_updated-in-force : (pools : Pools) (s : State) → ArePoolsInForce pools s → ArePoolsInForce pools (with_shown_updated s)
+  unfolding with_shown_updated
+  shown_updated-in-force pools s is = acts-in-force pools (choosing s) (events_of_change s.shown (shown_now s)) (change-plain s.shown (shown_now s)) is
 
-  settling-runs : (pools : Pools) (s : State) → ArePoolsInForce pools s → AllInTime pools (runs_of_settling s)
-  settling-runs pools s is = acts-run pools (choosing s) (events_of_change s.shown (shown_now s)) (change-plain s.shown (shown_now s)) is
+  shown_update-runs : (pools : Pools) (s : State) → ArePoolsInForce pools s → AllInTime pools (runs_of_shown_update s)
+  shown_update-runs pools s is = acts-run pools (choosing s) (events_of_change s.shown (shown_now s)) (change-plain s.shown (shown_now s)) is
 
   -- The acts of a frame whose source is judged rightly keep pools in force, and their runs end in time.
   record Happens (pools : Pools) (s : State) (hs : List (ℕ × Act)) : Type 0 where
@@ -236,11 +236,11 @@ module _ (laws : Laws) where
       later : Pools
       later = accepted_by_acts (before s source n) (acts s source n f verdict) pools
 
-      cases : (b : Bool) → Promised (cond b [] (runs_of_acts (before s source n) (acts s source n f verdict) ++ runs_of_settling t)) (cond b pools later) (cond b (losing s) (acting old s source n f verdict)).after
+      cases : (b : Bool) → Promised (cond b [] (runs_of_acts (before s source n) (acts s source n f verdict) ++ runs_of_shown_update t)) (cond b pools later) (cond b (losing s) (acting old s source n f verdict)).after
       cases true = record { ends = tt; in_force = is }
       cases false = record {
-        ends = all_append (InTime later) (runs_of_acts (before s source n) (acts s source n f verdict)) (runs_of_settling t) happens.run (settling-runs later t happens.in_force);
-        in_force = settled-in-force later t happens.in_force;
+        ends = all_append (InTime later) (runs_of_acts (before s source n) (acts s source n f verdict)) (runs_of_shown_update t) happens.run (shown_update-runs later t happens.in_force);
+        in_force = shown_updated-in-force later t happens.in_force;
       }
 
   selecting-in-force : (pools : Pools) (s : State) (action : ActionValue) → ArePoolsInForce pools s → ArePoolsInForce pools (selecting s action)
@@ -285,8 +285,8 @@ module _ (laws : Laws) where
       cases : (b : Bool) → Promised (cond b [] (runs_of_operating u hs)) pools (cond b (no_step s) (step_action s action shown)).after
       cases true = record { ends = tt; in_force = is }
       cases false = record {
-        ends = all_append (InTime pools) (runs_of_acts u hs) (runs_of_settling (after_acts u hs)) (acts-run pools u hs (operated-plain s.shown action shown) selected) (settling-runs pools (after_acts u hs) operated);
-        in_force = settled-in-force pools (after_acts u hs) operated;
+        ends = all_append (InTime pools) (runs_of_acts u hs) (runs_of_shown_update (after_acts u hs)) (acts-run pools u hs (operated-plain s.shown action shown) selected) (shown_update-runs pools (after_acts u hs) operated);
+        in_force = shown_updated-in-force pools (after_acts u hs) operated;
       }
 
   -- ---- lists of inputs

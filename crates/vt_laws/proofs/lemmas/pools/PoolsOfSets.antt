@@ -16,7 +16,7 @@ use Rattle.vt_server.specs.operator.ActionEffects.{action_on, is_busy}
 use Rattle.vt_server.specs.state.AddressViews.{AddressView, AddressOutcome, Act, Hears, Rebinds, Preloads, TpExpires, EtpExpires, SendingExpires, FallsSilent, Operates, Raises, outcome, stays_under, after_action, after_change, after_claim_heard, after_master, after_member, after_message, after_operator, raised_on}
 use Rattle.vt_server.specs.state.AddressStates.{AddressState, empty, heard_at}
 use Rattle.vt_server.specs.frame.SessionEffects.{came}
-use Rattle.vt_server.specs.Steps.{JudgedInput, FrameAt, ActionAt, step, acted, answer_to, is_lost_by, settled, losing, acting, no_step, step_frame, selecting, at_shown, step_action, preloading}
+use Rattle.vt_server.specs.Steps.{JudgedInput, FrameAt, ActionAt, step, acted, answer_to, is_lost_by, with_shown_updated, losing, acting, no_step, step_frame, selecting, at_shown, step_action, preloading}
 use Rattle.vt_server.specs.Terminals.{State, pool_of, pool_at, part, after_act, after_acts}
 use Rattle.vt_server.specs.message.Verdicts.{Verdict}
 use Rattle.vt_stores.specs.Stores.{ObjectMap}
@@ -182,9 +182,9 @@ record AreThere (s : State) : Type 0 where
   pub shown : (a : ℕ) → s.shown ≡ Some a → HasPool s a
   pub selected : (a : ℕ) → s.lost ≡ false → s.selected ≡ Some a → HasPool s a
 
-settled-there : (s : State) → AreThere (settled s)
-unfolding settled
-settled-there s =
+shown_updated-there : (s : State) → AreThere (with_shown_updated s)
+unfolding with_shown_updated
+shown_updated-there s =
     let hs = events_of_change s.shown (shown_now s) in
     let t = after_acts (choosing s) hs in
     record {
@@ -212,7 +212,7 @@ step-there s (FrameAt time f verdict) are = cases s.lost
 
     heard : (b : Bool) → AreThere (cond b (losing u) (acting s u (source_of f) n f verdict)).after
     heard true = losing-there u
-    heard false = settled-there (acted u (source_of f) n f verdict)
+    heard false = shown_updated-there (acted u (source_of f) n f verdict)
 
     cases : (b : Bool) → AreThere (cond b (no_step s) (step_frame s time f verdict)).after
     cases true = are
@@ -221,7 +221,7 @@ step-there s (ActionAt action shown) are = cases s.lost
   where
     cases : (b : Bool) → AreThere (cond b (no_step s) (step_action s action shown)).after
     cases true = are
-    cases false = settled-there (after_acts (selecting s action) (at_shown s.shown (Operates action shown)))
+    cases false = shown_updated-there (after_acts (selecting s action) (at_shown s.shown (Operates action shown)))
 
 -- ---- the law
 
@@ -251,16 +251,16 @@ kept s e are =
     }
 
 -- The events of a change leave the shown set unchanged.
-settled-shows : (s : State) → (settled s).shown ≡ shown_now s
-unfolding settled
-settled-shows s = shown-acts (choosing s) (events_of_change s.shown (shown_now s))
+shown_updated-shows : (s : State) → (with_shown_updated s).shown ≡ shown_now s
+unfolding with_shown_updated
+shown_updated-shows s = shown-acts (choosing s) (events_of_change s.shown (shown_now s))
 
 pub are-chosen : ShownAreChosen
 are-chosen = record {
   selected = selected-is;
   shown = shown-is;
   none = some-shown;
-  settled_shows = settled-shows;
+  shown_update_shows = shown_updated-shows;
   preloading_shows = λ s address contents. refl;
   first = none-first;
   preloaded = λ a s contents orderly are. preloaded a s contents are;

@@ -14,7 +14,7 @@ use Rattle.vt_machine.specs.SetStates.{SetState}
 use Rattle.vt_machine.specs.OperatorActions as operating
 use Rattle.vt_node.specs.Bus.{notice_of}
 use Rattle.vt_server.specs.shown.ShownSet.{choosing, shown_now, events_of_change, raised_at, ACTIVATE, DEACTIVATE}
-use Rattle.vt_laws.specs.Headline.{Run, runs_of_effect, runs_of_command, runs_of_message, runs_of_action, runs_of_operator, runs_of_event, runs_at, runs_of_acts, runs_of_settling, runs_of_hearing, runs_of_operating, runs}
+use Rattle.vt_laws.specs.Headline.{Run, runs_of_effect, runs_of_command, runs_of_message, runs_of_action, runs_of_operator, runs_of_event, runs_at, runs_of_acts, runs_of_shown_update, runs_of_hearing, runs_of_operating, runs}
 use Rattle.vt_server.specs.frame.TimeoutActs.{at_time, lapsed}
 use Rattle.vt_server.specs.operator.ActionEffects.{action_on, is_busy}
 use Rattle.vt_server.specs.state.AddressViews.{AddressView, Act, Hears, Rebinds, Preloads, TpExpires, EtpExpires, SendingExpires, FallsSilent, Operates, Raises}
@@ -121,8 +121,8 @@ change-few was now = cases (option_eq nat_eq was now)
     cases true = omega arith
     cases false = few-append (raised_at was DEACTIVATE) (raised_at now ACTIVATE) 1 1 (raised-few was DEACTIVATE) (raised-few now ACTIVATE)
 
-settling-few : (s : State) → length (runs_of_settling s) ≤ 2
-settling-few s =
+shown_update-few : (s : State) → length (runs_of_shown_update s) ≤ 2
+shown_update-few s =
     let events = events_of_change s.shown (shown_now s) in
     let most = change-few s.shown (shown_now s) in
     let few = acts-few (choosing s) events in omega (arith, most, few)
@@ -141,7 +141,7 @@ hearing-few s source n f verdict = cases (is_lost_by (answer_to s source n))
     first = runs_of_acts (before s source n) (acts s source n f verdict)
 
     last : List Run
-    last = runs_of_settling (acted s source n f verdict)
+    last = runs_of_shown_update (acted s source n f verdict)
 
     one : length first ≤ 1
     one =
@@ -151,7 +151,7 @@ hearing-few s source n f verdict = cases (is_lost_by (answer_to s source n))
 
     cases : (b : Bool) → length (cond b [] (first ++ last)) ≤ 3
     cases true = omega arith
-    cases false = few-append first last 1 2 one (settling-few (acted s source n f verdict))
+    cases false = few-append first last 1 2 one (shown_update-few (acted s source n f verdict))
 
 shown-few : (o : Option ℕ) (act : Act) → length (at_shown o act) ≤ 1
 shown-few None act = omega arith
@@ -160,7 +160,7 @@ shown-few (Some a) act = omega arith
 operating-few : (s : State) (hs : List (ℕ × Act)) → length hs ≤ 1 → length (runs_of_operating s hs) ≤ 3
 operating-few s hs one =
     let few = acts-few s hs in
-    few-append (runs_of_acts s hs) (runs_of_settling (after_acts s hs)) 1 2 (omega (arith, few, one)) (settling-few (after_acts s hs))
+    few-append (runs_of_acts s hs) (runs_of_shown_update (after_acts s hs)) 1 2 (omega (arith, few, one)) (shown_update-few (after_acts s hs))
 
 pub few-runs : (s : State) (e : JudgedInput) → length (runs s e) ≤ 3
 few-runs s (FrameAt time f verdict) = cases s.lost

@@ -26,7 +26,7 @@ use Rattle.vt_server.specs.Steps.{JudgedInput, FrameAt, ActionAt, before, acts, 
 use Rattle.vt_server.specs.Terminals.{State, part, after_act, after_acts}
 use Rattle.vt_server.specs.message.Verdicts.{Verdict}
 use Rattle.vt_server.proofs.lemmas.acts.AddressedActs.{AllAt, at-append, at-changes, at-heard}
-use Rattle.vt_laws.specs.Headline.{Run, runs_of_effect, runs_of_command, runs_of_message, runs_of_action, runs_of_operator, runs_of_event, runs_at, runs_of_acts, runs_of_settling, runs_of_hearing, runs_of_operating, runs}
+use Rattle.vt_laws.specs.Headline.{Run, runs_of_effect, runs_of_command, runs_of_message, runs_of_action, runs_of_operator, runs_of_event, runs_at, runs_of_acts, runs_of_shown_update, runs_of_hearing, runs_of_operating, runs}
 use Rattle.vt_laws.specs.RunsOfSteps.{IsBegun}
 use Rattle.vt_laws.specs.RunsOfSteps.IsBegun.{ByCommand, ByAction, ByEvent}
 use Rattle.vt_laws.proofs.lemmas.pools.PoolsInForce.{IsPlain, change-plain, operated-plain}
@@ -119,8 +119,8 @@ all-well (h ∷ hs) plain = (plain-well h.0 h.1 plain.0, all-well hs plain.1)
 
 -- ---- the runs of an input
 
-settling-begun : (s : State) → AreBegun (runs_of_settling s)
-settling-begun s = acts-begun (choosing s) (events_of_change s.shown (shown_now s)) (all-well (events_of_change s.shown (shown_now s)) (change-plain s.shown (shown_now s)))
+shown_update-begun : (s : State) → AreBegun (runs_of_shown_update s)
+shown_update-begun s = acts-begun (choosing s) (events_of_change s.shown (shown_now s)) (all-well (events_of_change s.shown (shown_now s)) (change-plain s.shown (shown_now s)))
 
 frame-begun : (s : State) (source : ℕ) (n : FrameMeaning) (f : Frame) (verdict : Verdict) → AreBegun (runs_of_acts (before s source n) (acts s source n f verdict))
 frame-begun s source n f verdict =
@@ -135,11 +135,11 @@ hearing-begun s source n f verdict = cases (is_lost_by (answer_to s source n))
     first = runs_of_acts (before s source n) (acts s source n f verdict)
 
     later : List Run
-    later = runs_of_settling (acted s source n f verdict)
+    later = runs_of_shown_update (acted s source n f verdict)
 
     cases : (b : Bool) → AreBegun (cond b [] (first ++ later))
     cases true = tt
-    cases false = all_append IsBegun first later (frame-begun s source n f verdict) (settling-begun (acted s source n f verdict))
+    cases false = all_append IsBegun first later (frame-begun s source n f verdict) (shown_update-begun (acted s source n f verdict))
 
 pub are-begun : (s : State) (e : JudgedInput) → AreBegun (runs s e)
 are-begun s (FrameAt time f verdict) = cases s.lost
@@ -164,5 +164,5 @@ are-begun s (ActionAt action shown) = cases s.lost
     cases : (b : Bool) → AreBegun (cond b [] (runs_of_operating u hs))
     cases true = tt
     cases false =
-        all_append IsBegun (runs_of_acts u hs) (runs_of_settling (after_acts u hs)) (acts-begun u hs (all-well hs (operated-plain s.shown action shown)))
-        (settling-begun (after_acts u hs))
+        all_append IsBegun (runs_of_acts u hs) (runs_of_shown_update (after_acts u hs)) (acts-begun u hs (all-well hs (operated-plain s.shown action shown)))
+        (shown_update-begun (after_acts u hs))

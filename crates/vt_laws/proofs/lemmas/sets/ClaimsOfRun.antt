@@ -9,7 +9,7 @@ use Rattle.vt_server.specs.shown.ShownSet.{choosing, shown_now, events_of_change
 use Rattle.vt_laws.specs.ReceivedClaims.{claim_of, takes_address, claims_heard, HoldersOfRuns}
 use Rattle.vt_server.specs.frame.TimeoutActs.{at_time, lapsed}
 use Rattle.vt_server.specs.state.AddressViews.{Act, Operates}
-use Rattle.vt_server.specs.Steps.{JudgedInput, FrameAt, ActionAt, step, after_all, before, hear_claim, acts, no_step, losing, acted, acting, hearing, settled, is_lost_by, answer_to, selecting, at_shown, step_frame, step_action}
+use Rattle.vt_server.specs.Steps.{JudgedInput, FrameAt, ActionAt, step, after_all, before, hear_claim, acts, no_step, losing, acted, acting, hearing, with_shown_updated, is_lost_by, answer_to, selecting, at_shown, step_frame, step_action}
 use Rattle.vt_server.specs.Terminals.{State, after_acts}
 use Rattle.vt_server.specs.message.Verdicts.{Verdict}
 use Rattle.vt_node.specs.declared.bus.FrameMeaning.{FrameMeaning}
@@ -18,7 +18,7 @@ use Rattle.vt_node.specs.declared.bus.FrameMeaning.TheVariants as notices
 use Rattle.vt_server.proofs.lemmas.acts.HolderChanges.{claims-acts}
 use Rattle.vt_server.proofs.lemmas.steps.StepInvariants.{lapsed-keeps, claims-lapsed}
 use Rattle.vt_server.proofs.lemmas.acts.ComposedActs.{beside, beside-act}
-use Rattle.vt_laws.proofs.lemmas.sets.SetsAfterStep.{settled-claims}
+use Rattle.vt_laws.proofs.lemmas.sets.SetsAfterStep.{shown_updated-claims}
 use Rattle.vt_laws.proofs.lemmas.views.ViewsAfterSteps.{selecting-same}
 
 -- ---- nothing changes after the loss of the address
@@ -39,9 +39,9 @@ lost-acts s hs = beside (λ (t : State). t.lost) (λ a o t. refl) s hs
 lost-lapsed : (s : State) → (lapsed s).lost ≡ s.lost
 lost-lapsed s = lapsed-keeps (λ t. t.lost ≡ s.lost) (λ t a h is. beside-act (λ (u : State). u.lost) (λ b o u. refl) t a h ∙ is) s refl
 
-settled-lost : (s : State) → (settled s).lost ≡ s.lost
-unfolding settled
-settled-lost s = lost-acts (choosing s) (events_of_change s.shown (shown_now s))
+shown_updated-lost : (s : State) → (with_shown_updated s).lost ≡ s.lost
+unfolding with_shown_updated
+shown_updated-lost s = lost-acts (choosing s) (events_of_change s.shown (shown_now s))
 
 -- ---- the claim that is the loss
 
@@ -92,9 +92,9 @@ run-frame own name earlier old s f verdict xs m true is has rest =
 run-frame own name earlier old s f verdict xs m false is has rest =
     let t = before s (source_of f) m in
     let u = acted s (source_of f) m f verdict in
-    rest (settled u)
-    (settled-claims u ∙ claims-acts t (acts s (source_of f) m f verdict) ∙ heard-is own name earlier s (source_of f) m is)
-    (settled-lost u ∙ lost-acts t (acts s (source_of f) m f verdict) ∙ has)
+    rest (with_shown_updated u)
+    (shown_updated-claims u ∙ claims-acts t (acts s (source_of f) m f verdict) ∙ heard-is own name earlier s (source_of f) m is)
+    (shown_updated-lost u ∙ lost-acts t (acts s (source_of f) m f verdict) ∙ has)
 
 run-claims : (own name : ℕ) (earlier : List Claim) (s : State) (xs : List JudgedInput) → s.claims ≡ kept-by own name earlier → s.lost ≡ false
     → (after_all s xs).claims.addresses ≡ after_claims (claims_heard own name earlier xs)
@@ -105,9 +105,9 @@ run-claims own name earlier s (ActionAt action shown ∷ xs) is has =
     let hs = at_shown s.shown (Operates action shown) in
     let t = after_acts u hs in
     ap (λ b. (after_all (cond b (no_step s) (step_action s action shown)).after xs).claims.addresses) has
-    ∙ run-claims own name earlier (settled t) xs
-    (settled-claims t ∙ claims-acts u hs ∙ selecting-same (λ x. x.claims) (λ x o. refl) s action ∙ is)
-    (settled-lost t ∙ lost-acts u hs ∙ selecting-same (λ x. x.lost) (λ x o. refl) s action ∙ has)
+    ∙ run-claims own name earlier (with_shown_updated t) xs
+    (shown_updated-claims t ∙ claims-acts u hs ∙ selecting-same (λ x. x.claims) (λ x o. refl) s action ∙ is)
+    (shown_updated-lost t ∙ lost-acts u hs ∙ selecting-same (λ x. x.lost) (λ x o. refl) s action ∙ has)
 run-claims own name earlier s (FrameAt time f verdict ∷ xs) is has =
     let source = source_of f in
     let m = notice_of own name f in

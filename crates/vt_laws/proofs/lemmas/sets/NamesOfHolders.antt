@@ -11,7 +11,7 @@ use Rattle.vt_laws.specs.Happenings.{NameIsHeld, SetIsHeld, SetsHoldTheirAddress
 use Rattle.vt_server.specs.state.StateInvariants.{IsOrderly}
 use Rattle.vt_server.specs.frame.TimeoutActs.{at_time, lapsed}
 use Rattle.vt_server.specs.state.AddressViews.{AddressView, Act, Rebinds, Operates, Preloads, unchanged, without_set, after_change, with_holder_name, after_claim_heard, after_master, after_member, outcome}
-use Rattle.vt_server.specs.Steps.{JudgedInput, FrameAt, ActionAt, step, before, changes, heard_at_source, answer_to, is_lost_by, settled, losing, acted, acting, no_step, step_frame, selecting, at_shown, step_action}
+use Rattle.vt_server.specs.Steps.{JudgedInput, FrameAt, ActionAt, step, before, changes, heard_at_source, answer_to, is_lost_by, with_shown_updated, losing, acted, acting, no_step, step_frame, selecting, at_shown, step_action}
 use Rattle.vt_server.specs.Terminals.{State, holder, part, after_act, after_acts}
 use Rattle.vt_server.specs.message.Verdicts.{Verdict}
 use Rattle.vt_node.specs.declared.bus.FrameMeaning.{FrameMeaning}
@@ -85,9 +85,9 @@ act-held a s b h has =
     (subst (λ (p : AddressView). SetIsHeld p.set p.holder) (sym (part-act a s h)) (outcome-held s.now a (part a s) h has)))
     (λ ne. subst (λ (p : AddressView). SetIsHeld p.set p.holder) (sym (part-act_other a b s h (λ e. ne (sym e)))) has)
 
-settled-held : (a : ℕ) (s : State) → IsHeldAt a s → IsHeldAt a (settled s)
-unfolding settled
-settled-held a s has = acts-keep (IsHeldAt a) (act-held a) (choosing s) (events_of_change s.shown (shown_now s)) has
+shown_updated-held : (a : ℕ) (s : State) → IsHeldAt a s → IsHeldAt a (with_shown_updated s)
+unfolding with_shown_updated
+shown_updated-held a s has = acts-keep (IsHeldAt a) (act-held a) (choosing s) (events_of_change s.shown (shown_now s)) has
 
 -- ---- a claim, and the holders that it changes
 
@@ -120,7 +120,7 @@ step-held laws a s (FrameAt time f verdict) orderly has = cases s.lost
         let t = at_time s time in
         let still = lapsed-keeps (IsHeldAt a) (act-held a) t has in
         by-loss still
-        (settled-held a (acted (lapsed t) (source_of f) (notice_of s.claims.own s.claims.name f) f verdict)
+        (shown_updated-held a (acted (lapsed t) (source_of f) (notice_of s.claims.own s.claims.name f) f verdict)
         (acted-held laws a (lapsed t) (subst (λ (c : Claimed). IsRisingByName c.addresses) (sym (claims-lapsed t)) orderly.rising) still
         (source_of f) (notice_of s.claims.own s.claims.name f) f verdict)) gone
       where
@@ -141,7 +141,7 @@ step-held laws a s (ActionAt action shown) orderly has = cases s.lost
         let u = selecting s action in
         let hs = at_shown s.shown (Operates action shown) in
         let there : IsHeldAt a u = subst (λ (p : AddressView). SetIsHeld p.set p.holder) (sym (selecting-same (part a) (λ x o. refl) s action)) has in
-        settled-held a (after_acts u hs) (acts-keep (IsHeldAt a) (act-held a) u hs there)
+        shown_updated-held a (after_acts u hs) (acts-keep (IsHeldAt a) (act-held a) u hs there)
 
 -- ---- the law
 

@@ -16,7 +16,7 @@ use Rattle.vt_server.specs.state.AddressViews.{AddressView, Act, Hears, Preloads
 use Rattle.vt_server.specs.state.AddressStates.{AddressState, heard_at}
 use Rattle.vt_server.specs.frame.SessionEffects.{came}
 use Rattle.vt_laws.specs.SetLists.{heard_sets, named_at, stays, IsSettled, SetsAfterSteps, sets_after, sets_by}
-use Rattle.vt_server.specs.Steps.{JudgedInput, FrameAt, ActionAt, step, before, heard_at_source, acts, answer_to, is_lost_by, settled, losing, acted, acting, hearing, no_step, step_frame, selecting, at_shown, step_action}
+use Rattle.vt_server.specs.Steps.{JudgedInput, FrameAt, ActionAt, step, before, heard_at_source, acts, answer_to, is_lost_by, with_shown_updated, losing, acted, acting, hearing, no_step, step_frame, selecting, at_shown, step_action}
 use Rattle.vt_server.specs.Terminals.{State, holder, part, after_act, after_acts, with_set_at}
 use Rattle.vt_server.specs.message.Verdicts.{Verdict}
 use Rattle.vt_node.specs.declared.bus.FrameMeaning.{FrameMeaning}
@@ -83,15 +83,15 @@ all-sets : (P : Act → Type 0) (hs : List (ℕ × Act)) → AllAt (λ a h. P h)
 all-sets P [] all = tt
 all-sets P (h ∷ hs) all = (all.0, all-sets P hs all.1)
 
-settled-list : (s : State) → (settled s).sets ≡ s.sets
-unfolding settled
-settled-list s =
+shown_updated-list : (s : State) → (with_shown_updated s).sets ≡ s.sets
+unfolding with_shown_updated
+shown_updated-list s =
     let hs = events_of_change s.shown (shown_now s) in
     sets-kept (choosing s) hs (all-sets KeepsSets hs (at-change (λ a h. KeepsSets h) (λ a event now b p. refl) s.shown (shown_now s)))
 
-pub settled-claims : (s : State) → (settled s).claims ≡ s.claims
-unfolding settled
-settled-claims s = claims-acts (choosing s) (events_of_change s.shown (shown_now s))
+pub shown_updated-claims : (s : State) → (with_shown_updated s).claims ≡ s.claims
+unfolding with_shown_updated
+shown_updated-claims s = claims-acts (choosing s) (events_of_change s.shown (shown_now s))
 
 came-kept : (n : FrameMeaning) (f : Frame) (verdict : Verdict)
     → ((now a : ℕ) (p : AddressView) → let c = came now p.terminal a (heard_at now p.place) n f in (outcome now a p (Hears n f verdict)).set ≡ (after_message a (record p { place = c.place }) verdict p.set c.message).set)
@@ -223,17 +223,17 @@ module _ (laws : Laws) (s : State) (orderly : IsOrderly s) (is : IsSettled s) wh
     frame-list f verdict =
         let m = notice_of s.claims.own s.claims.name f in
         let source = source_of f in
-        let acting-list : (settled (acted u source m f verdict)).sets ≡ sets_after (settled (acted u source m f verdict)) source m (heard_sets s time) =
-        settled-list (acted u source m f verdict)
+        let acting-list : (with_shown_updated (acted u source m f verdict)).sets ≡ sets_after (with_shown_updated (acted u source m f verdict)) source m (heard_sets s time) =
+        shown_updated-list (acted u source m f verdict)
         ∙ acts-list laws.holders u u-orderly u-settled source m f verdict
         (λ h. own-heeded s.claims.own s.claims.name f (h ∙ ap (λ (c : Claimed). c.own) u-claims))
         ∙ ap (sets_after (before u source m) source m) u-list
-        ∙ sym (after-same (before u source m) (settled (acted u source m f verdict)) source m (heard_sets s time)
-        (settled-claims (acted u source m f verdict) ∙ claims-acts (before u source m) (acts u source m f verdict))) in
+        ∙ sym (after-same (before u source m) (with_shown_updated (acted u source m f verdict)) source m (heard_sets s time)
+        (shown_updated-claims (acted u source m f verdict) ∙ claims-acts (before u source m) (acts u source m f verdict))) in
         cases m acting-list (is_lost_by (answer_to u source m))
         ∙ ap (λ a. cond (is_lost_by a) (heard_sets s time) (sets_after (hearing s u source m f verdict).after source m (heard_sets s time))) (answer-same s u source m u-claims)
       where
-        cases : (m : FrameMeaning) → (settled (acted u (source_of f) m f verdict)).sets ≡ sets_after (settled (acted u (source_of f) m f verdict)) (source_of f) m (heard_sets s time)
+        cases : (m : FrameMeaning) → (with_shown_updated (acted u (source_of f) m f verdict)).sets ≡ sets_after (with_shown_updated (acted u (source_of f) m f verdict)) (source_of f) m (heard_sets s time)
             → (b : Bool) → let after = (cond b (losing u) (acting s u (source_of f) m f verdict)).after in
             after.sets ≡ cond b (heard_sets s time) (sets_after after (source_of f) m (heard_sets s time))
         cases m listed true = u-list
@@ -243,7 +243,7 @@ module _ (laws : Laws) (s : State) (orderly : IsOrderly s) (is : IsSettled s) wh
   action-list action shown =
       let t = selecting s action in
       let hs = at_shown s.shown (Operates action shown) in
-      settled-list (after_acts t hs)
+      shown_updated-list (after_acts t hs)
       ∙ sets-kept t hs (all-shown s.shown)
       ∙ selecting-same (λ x. x.sets) (λ x o. refl) s action
     where

@@ -11,14 +11,14 @@ use Rattle.vt_laws.specs.Happenings.{HolderIs, FrameHeard, with_holder, by_act, 
 use Rattle.vt_laws.specs.Responses.{Response, frames_to}
 use Rattle.vt_node.specs.Messages.{claim_from}
 use Rattle.vt_server.specs.state.AddressViews.{Hears, Rebinds}
-use Rattle.vt_server.specs.Steps.{hear_claim, before, changes, heard_at_source, acts, answer_to, is_defended, defence, settled, sent_by_settling, acted, sent_by_frame, acting}
+use Rattle.vt_server.specs.Steps.{hear_claim, before, changes, heard_at_source, acts, answer_to, is_defended, defence, with_shown_updated, sent_by_shown_update, acted, sent_by_frame, acting}
 use Rattle.vt_server.specs.Terminals.{State, ToAll, holder, after_acts, sent_by_acts}
 use Rattle.vt_server.specs.message.Verdicts.{Verdict}
 use Rattle.vt_node.specs.declared.bus.FrameMeaning.{FrameMeaning}
 use Rattle.vt_server.proofs.lemmas.acts.ComposedActs.{acts-append, sent-append}
 use Rattle.vt_laws.proofs.lemmas.views.ActChangesOneView.{bare, turns, turns_frames, part-acts, frames-sent_by}
 use Rattle.vt_server.proofs.lemmas.acts.ActLists.{of}
-use Rattle.vt_laws.proofs.lemmas.views.ResponsesInSequence.{Takes, then-takes, takes-beside, acts-take, settling-takes, response-has, lost-acts}
+use Rattle.vt_laws.proofs.lemmas.views.ResponsesInSequence.{Takes, then-takes, takes-beside, acts-take, shown_update-takes, response-has, lost-acts}
 use Rattle.vt_server.proofs.lemmas.acts.HolderChanges.{option-true, of-changes, own-before, claims-acts, shown-acts}
 use Rattle.vt_laws.proofs.lemmas.views.OutcomesWithoutTimes.{Laws}
 use Rattle.vt_names.proofs.AddressesAfterClaim.{by_eq}
@@ -110,7 +110,7 @@ module _ (laws : Laws) (a : ℕ) (s : State) (f : Frame) (verdict : Verdict) (ri
       (heard_happenings a s f verdict ++ events_at a s.shown (shown_now (after_frame s f verdict)))
   acting-takes old =
       let u = acted s source m f verdict in
-      let settles = settling-takes laws a old u acted-takes.has in
-      then-takes a (bare a s) (sent_by_frame s source m f verdict) (sent_by_settling old u) u (settled u)
+      let updates = shown_update-takes laws a old u acted-takes.has in
+      then-takes a (bare a s) (sent_by_frame s source m f verdict) (sent_by_shown_update old u) u (with_shown_updated u)
       (heard_happenings a s f verdict) (events_at a s.shown (shown_now u)) acted-takes
-      (subst (λ o. Takes a (bare a u) (sent_by_settling old u) (settled u) (events_at a o (shown_now u))) (shown-acts recorded (acts s source m f verdict)) settles)
+      (subst (λ o. Takes a (bare a u) (sent_by_shown_update old u) (with_shown_updated u) (events_at a o (shown_now u))) (shown-acts recorded (acts s source m f verdict)) updates)

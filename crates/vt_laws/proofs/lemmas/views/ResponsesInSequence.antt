@@ -9,7 +9,7 @@ use Rattle.vt_laws.specs.Responses.{Response, without_effect, frames_to}
 use Rattle.vt_server.specs.frame.TimeoutActs.{silences, tp_due, etp_due, sending_due, after_tp_timeouts, after_etp_timeouts, after_timeouts, lapsed, sent_by_lapses}
 use Rattle.vt_node.specs.Watches.{is_silent}
 use Rattle.vt_server.specs.state.AddressViews.{AddressView, Act, TpExpires, EtpExpires, SendingExpires, FallsSilent, Raises}
-use Rattle.vt_server.specs.Steps.{settled, sent_by_settling}
+use Rattle.vt_server.specs.Steps.{with_shown_updated, sent_by_shown_update}
 use Rattle.vt_server.specs.Terminals.{State, Sent, ToAll, after_acts, sent_by_acts}
 use Rattle.vt_server.proofs.lemmas.acts.ComposedActs.{acts-append, sent-append, beside}
 use Rattle.vt_laws.proofs.lemmas.views.ActChangesOneView.{bare, turns, turns_frames, part-acts, frames-sent_by, frames-append}
@@ -167,9 +167,9 @@ change-takes laws a s was now has = cases (option_eq nat_eq was now)
     cases true = record { has = has; part = refl; frames = refl }
     cases false = both
 
-pub settling-takes : (laws : Laws) (a : ℕ) (old s : State) → s.lost ≡ false → Takes a (bare a s) (sent_by_settling old s) (settled s) (events_at a s.shown (shown_now s))
-unfolding settled sent_by_settling
-settling-takes laws a old s has =
-    takes-before a (bare a s) (sent_by_acts (choosing s) (events_of_change s.shown (shown_now s))) (status s.claims.own (display old) (display (settled s))) (settled s) (events_at a s.shown (shown_now s))
-    (frames-status a s.claims.own (display old) (display (settled s)))
+pub shown_update-takes : (laws : Laws) (a : ℕ) (old s : State) → s.lost ≡ false → Takes a (bare a s) (sent_by_shown_update old s) (with_shown_updated s) (events_at a s.shown (shown_now s))
+unfolding with_shown_updated sent_by_shown_update
+shown_update-takes laws a old s has =
+    takes-before a (bare a s) (sent_by_acts (choosing s) (events_of_change s.shown (shown_now s))) (status s.claims.own (display old) (display (with_shown_updated s))) (with_shown_updated s) (events_at a s.shown (shown_now s))
+    (frames-status a s.claims.own (display old) (display (with_shown_updated s)))
     (change-takes laws a (choosing s) s.shown (shown_now s) has)

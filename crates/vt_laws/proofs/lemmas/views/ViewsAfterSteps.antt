@@ -13,7 +13,7 @@ use Rattle.vt_laws.specs.Responses.{Response, frames_to}
 use Rattle.vt_server.specs.state.StateInvariants.{IsOrderly, IsOther}
 use Rattle.vt_server.specs.frame.TimeoutActs.{at_time, lapsed, sent_by_lapses}
 use Rattle.vt_server.specs.state.AddressViews.{AddressView, Act, Operates, Preloads, untimed_part}
-use Rattle.vt_server.specs.Steps.{JudgedInput, FrameAt, ActionAt, step, after_all, sent_by_all, settled, sent_by_settling, losing, acting, hearing, no_step, step_frame, has_no_set, selecting, at_shown, no_set, step_action, preloading}
+use Rattle.vt_server.specs.Steps.{JudgedInput, FrameAt, ActionAt, step, after_all, sent_by_all, with_shown_updated, sent_by_shown_update, losing, acting, hearing, no_step, step_frame, has_no_set, selecting, at_shown, no_set, step_action, preloading}
 use Rattle.vt_server.specs.Terminals.{State, Sent, holder, pool_of, part, after_acts, sent_by_acts}
 use Rattle.vt_server.specs.message.Verdicts.{Verdict}
 use Rattle.vt_server.proofs.lemmas.acts.HolderChanges.{shown-acts}
@@ -22,7 +22,7 @@ use Rattle.vt_server.proofs.lemmas.steps.StepInvariants.{step-keeps, orderly-kep
 use Rattle.vt_laws.proofs.lemmas.views.ActChangesOneView.{bare, bare-act, part-act_other, frames-append}
 use Rattle.vt_server.proofs.lemmas.acts.ActLists.{of}
 use Rattle.vt_server.proofs.lemmas.acts.ComposedActs.{beside-act}
-use Rattle.vt_laws.proofs.lemmas.views.ResponsesInSequence.{Takes, then-takes, takes-beside, acts-take, lapses-take, settling-takes, response-has, responses-append, frames-responses}
+use Rattle.vt_laws.proofs.lemmas.views.ResponsesInSequence.{Takes, then-takes, takes-beside, acts-take, lapses-take, shown_update-takes, response-has, responses-append, frames-responses}
 use Rattle.vt_laws.proofs.lemmas.views.TimeoutsAtAddress.{so}
 use Rattle.vt_laws.proofs.lemmas.views.OutcomesWithoutTimes.{Laws}
 
@@ -116,11 +116,11 @@ action-takes laws a s action shown has =
     let same : bare a u ≡ bare a s = selecting-same (bare a) (λ x o. refl) s action in
     let operated = acts-take laws a u hs still (is_at a s.shown) (Operates action shown) (Operated action shown) (of-shown a s.shown (Operates action shown)) (λ _. refl) in
     let taken = takes-beside a (bare a u) (no_set (has_no_set s action)) (sent_by_acts u hs) t (if_so (is_at a s.shown) (Operated action shown)) (frames-no_set a (has_no_set s action)) operated in
-    then-takes a (bare a s) (no_set (has_no_set s action) ++ sent_by_acts u hs) (sent_by_settling s t) t (settled t)
+    then-takes a (bare a s) (no_set (has_no_set s action) ++ sent_by_acts u hs) (sent_by_shown_update s t) t (with_shown_updated t)
     (if_so (is_at a s.shown) (Operated action shown)) (events_at a s.shown (shown_now t))
     (subst (λ p. Takes a p (no_set (has_no_set s action) ++ sent_by_acts u hs) t (if_so (is_at a s.shown) (Operated action shown))) same taken)
-    (subst (λ o. Takes a (bare a t) (sent_by_settling s t) (settled t) (events_at a o (shown_now t)))
-    (shown-acts u hs ∙ selecting-same (λ x. x.shown) (λ x o. refl) s action) (settling-takes laws a s t operated.has))
+    (subst (λ o. Takes a (bare a t) (sent_by_shown_update s t) (with_shown_updated t) (events_at a o (shown_now t)))
+    (shown-acts u hs ∙ selecting-same (λ x. x.shown) (λ x o. refl) s action) (shown_update-takes laws a s t operated.has))
 
 -- ---- every step
 

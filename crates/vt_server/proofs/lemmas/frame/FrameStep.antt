@@ -23,7 +23,7 @@ use Rattle.vt_server.specs.frame.TimeoutContracts.{HasLapsed}
 use Rattle.vt_server.specs.frame.SessionEffects.{came, message_to_terminal}
 use Rattle.vt_server.specs.States.{state_of, places_by, TakesInput}
 use Rattle.vt_server.specs.Steps as steps
-use Rattle.vt_server.specs.Steps.{FrameAt, Step, answer_to, is_lost_by, is_defended, defence, losing, acted, acting, sent_by_frame, sent_by_settling, settled, hearing, step_frame, no_step}
+use Rattle.vt_server.specs.Steps.{FrameAt, Step, answer_to, is_lost_by, is_defended, defence, losing, acted, acting, sent_by_frame, sent_by_shown_update, with_shown_updated, hearing, step_frame, no_step}
 use Rattle.vt_server.specs.Terminals.{State, part, put}
 use Rattle.vt_node.specs.AddressFunctions.{with_at}
 use Rattle.vt_server.specs.message.Verdicts.{Verdict, IsVerdict}
@@ -307,16 +307,16 @@ module _ (old s : State) (n : FrameMeaning) (frame : Frame) where
   pub hears-acts : (v : Verdict) (u t : State) (before middle after : List Output) → is_lost_by (answer_to s from n) ≡ false
       → IsJudged s.now from (part from s) n frame v
       → u ≡ acted s from n frame v → middle ≡ before ++ outputs_of (sent_by_frame s from n frame v)
-      → t ≡ settled u → after ≡ middle ++ outputs_of (sent_by_settling old u) → Hears old s n frame t before after
+      → t ≡ with_shown_updated u → after ≡ middle ++ outputs_of (sent_by_shown_update old u) → Hears old s n frame t before after
   hears-acts v u t before middle after kept judged first sent left rest =
       let is : hearing old s from n frame v ≡ acting old s from n frame v = ap (λ b. cond b (losing s) (acting old s from n frame v)) kept in record {
         verdict = v;
         judged = judged;
-        state = left ∙ ap settled first ∙ sym (ap (λ (x : Step). x.after) is);
+        state = left ∙ ap with_shown_updated first ∙ sym (ap (λ (x : Step). x.after) is);
         sent =
-            rest ∙ (λ i. sent i ++ outputs_of (sent_by_settling old (first i)))
-            ∙ append_assoc before (outputs_of (sent_by_frame s from n frame v)) (outputs_of (sent_by_settling old (acted s from n frame v)))
-            ∙ ap (λ l. before ++ l) (sym (outputs-append (sent_by_frame s from n frame v) (sent_by_settling old (acted s from n frame v))))
+            rest ∙ (λ i. sent i ++ outputs_of (sent_by_shown_update old (first i)))
+            ∙ append_assoc before (outputs_of (sent_by_frame s from n frame v)) (outputs_of (sent_by_shown_update old (acted s from n frame v)))
+            ∙ ap (λ l. before ++ l) (sym (outputs-append (sent_by_frame s from n frame v) (sent_by_shown_update old (acted s from n frame v))))
             ∙ ap (λ (x : Step). before ++ outputs_of x.sent) (sym is);
       }
 
@@ -331,7 +331,7 @@ module _ (old s : State) (n : FrameMeaning) (frame : Frame) where
   -- The step of a frame that is a claim.
   pub hears-claim : (name : ℕ) (u t : State) (before middle after : List Output) → n ≡ notices.Claim name → is_lost_by (answer_to s from n) ≡ false
       → (u ≡ acted s from (notices.Claim name) frame any_verdict) × (middle ≡ before ++ outputs_of (sent_by_frame s from (notices.Claim name) frame any_verdict))
-      → t ≡ settled u → after ≡ middle ++ outputs_of (sent_by_settling old u) → Hears old s n frame t before after
+      → t ≡ with_shown_updated u → after ≡ middle ++ outputs_of (sent_by_shown_update old u) → Hears old s n frame t before after
   hears-claim name u t before middle after is kept takes left rest =
       hears-acts any_verdict u t before middle after kept
       (subst (λ m. IsJudged s.now from (part from s) m frame any_verdict) (sym is) (λ ends. none-ends (part from s).set ends (IsVerdict (s.places from).content any_verdict)))
@@ -339,7 +339,7 @@ module _ (old s : State) (n : FrameMeaning) (frame : Frame) where
 
   -- The step of a frame that is not a claim.
   pub hears-other : (r u t : State) (before middle after : List Output) → IsNoClaim n → r ≡ s → TakesFrame r n frame u before middle
-      → t ≡ settled u → after ≡ middle ++ outputs_of (sent_by_settling old u) → Hears old s n frame t before after
+      → t ≡ with_shown_updated u → after ≡ middle ++ outputs_of (sent_by_shown_update old u) → Hears old s n frame t before after
   hears-other r u t before middle after unclaimed same takes left rest =
       let it : TakesFrame s n frame u before middle = subst (λ x. TakesFrame x n frame u before middle) same takes in
       hears-acts it.verdict u t before middle after (no-loss s from n unclaimed) it.judged it.state it.sent left rest

@@ -30,7 +30,7 @@ use Rattle.vt_server.specs.state.AddressViews as parts
 use Rattle.vt_server.specs.state.AddressViews.{Act, Operates, unchanged, refused_by, with_place, after_action, outcome}
 use Rattle.vt_server.specs.state.AddressStates.{SetPool, AddressState, with_pool}
 use Rattle.vt_server.specs.States.{places_by, TakesInput}
-use Rattle.vt_server.specs.Steps.{ActionAt, selecting, has_no_set, no_set, at_shown, settled, sent_by_settling, no_step, step_action}
+use Rattle.vt_server.specs.Steps.{ActionAt, selecting, has_no_set, no_set, at_shown, with_shown_updated, sent_by_shown_update, no_step, step_action}
 use Rattle.vt_server.specs.Terminals.{State, part, pool_of, pool_at, put, to_address, after_acts, sent_by_acts}
 use Rattle.vt_node.specs.AddressFunctions.{with_at}
 use Rattle.vt_server.specs.state.PoolTables.{content_by}
@@ -384,7 +384,7 @@ takes-lost s action before lost = record {
 }
 
 pub takes-input : (s t new : State) (action : line.Action) (before middle after : List Output) → s.lost ≡ false → TakesAction s (action_value action) t before middle
-    → new ≡ settled t → after ≡ middle ++ outputs_of (sent_by_settling s t) → TakesInput s (inputs.Operator action) new before after
+    → new ≡ with_shown_updated t → after ≡ middle ++ outputs_of (sent_by_shown_update s t) → TakesInput s (inputs.Operator action) new before after
 takes-input s t new action before middle after lost takes state sent =
     let u = selecting s (action_value action) in
     let acts = happens s (action_value action) takes.shown in
@@ -393,10 +393,10 @@ takes-input s t new action before middle after lost takes state sent =
       event = ActionAt (action_value action) takes.shown;
       is_input = refl;
       found = λ not_lost. takes.seen;
-      state = state ∙ ap settled takes.state ∙ sym (ap (λ b. (cond b (no_step s) (step_action s (action_value action) takes.shown)).after) lost);
+      state = state ∙ ap with_shown_updated takes.state ∙ sym (ap (λ b. (cond b (no_step s) (step_action s (action_value action) takes.shown)).after) lost);
       sent =
-          sent ∙ (λ i. takes.sent i ++ outputs_of (sent_by_settling s (takes.state i)))
-          ∙ append_assoc before (outputs_of first) (outputs_of (sent_by_settling s (after_acts u acts)))
-          ∙ ap (λ l. before ++ l) (sym (outputs-append first (sent_by_settling s (after_acts u acts))))
+          sent ∙ (λ i. takes.sent i ++ outputs_of (sent_by_shown_update s (takes.state i)))
+          ∙ append_assoc before (outputs_of first) (outputs_of (sent_by_shown_update s (after_acts u acts)))
+          ∙ ap (λ l. before ++ l) (sym (outputs-append first (sent_by_shown_update s (after_acts u acts))))
           ∙ sym (ap (λ b. before ++ outputs_of (cond b (no_step s) (step_action s (action_value action) takes.shown)).sent) lost);
     }

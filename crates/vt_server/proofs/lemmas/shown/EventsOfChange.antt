@@ -7,7 +7,7 @@ use Rattle.vt_can.specs.declared.frames.frame.Frame.{Frame}
 use Rattle.vt_names.specs.Registry.{Set}
 use Rattle.vt_server.specs.shown.ShownSet.{ShownMasks, alarm_in, louder, loudest, first_with_pool, selected_now, or_selected, display, display_at, display_of, pool_shown_by, with_pool_at, raised_at, events_of_change, choosing, shown_now, status, same_display, status_frame}
 use Rattle.vt_server.specs.Outputs.{outputs_of}
-use Rattle.vt_server.specs.Steps.{settled, sent_by_settling}
+use Rattle.vt_server.specs.Steps.{with_shown_updated, sent_by_shown_update}
 use Rattle.vt_server.specs.declared.output.Output.{Output}
 use Rattle.vt_server.specs.declared.output.Output.TheVariants as declared
 use Rattle.vt_server.specs.state.AddressViews.{Raises, with_place, raised_on}
@@ -108,26 +108,26 @@ change-silent s was now = cases (option_eq nat_eq was now)
 -- ---- the end of a step
 
 module _ (s t : State) (left : t ≡ after_acts (choosing s) (events_of_change s.shown (choosing s).shown)) where
-  pub settled-is : t ≡ settled s
-  unfolding settled
-  settled-is = left
+  pub shown_updated-is : t ≡ with_shown_updated s
+  unfolding with_shown_updated
+  shown_updated-is = left
 
-  sent-is : (old : State) → sent_by_settling old s ≡ status s.claims.own (display old) (display (settled s))
-  unfolding sent_by_settling
-  sent-is old = ap (λ l. l ++ status s.claims.own (display old) (display (settled s))) (change-silent (choosing s) s.shown (shown_now s))
+  sent-is : (old : State) → sent_by_shown_update old s ≡ status s.claims.own (display old) (display (with_shown_updated s))
+  unfolding sent_by_shown_update
+  sent-is old = ap (λ l. l ++ status s.claims.own (display old) (display (with_shown_updated s))) (change-silent (choosing s) s.shown (shown_now s))
 
   module _ (old : State) (was now : ShownMasks) (before after : List Output) (first : was ≡ display old) (is : now ≡ display t) where
-    status-by : (b : Bool) → same_display was now ≡ b → outputs_of (sent_by_settling old s) ≡ outputs_of (cond b [] (ToAll (status_frame s.claims.own now) ∷ []))
+    status-by : (b : Bool) → same_display was now ≡ b → outputs_of (sent_by_shown_update old s) ≡ outputs_of (cond b [] (ToAll (status_frame s.claims.own now) ∷ []))
     status-by b e =
         ap outputs_of
         (sent-is old
-        ∙ (λ i. status s.claims.own (sym first i) ((ap display (sym settled-is) ∙ sym is) i))
+        ∙ (λ i. status s.claims.own (sym first i) ((ap display (sym shown_updated-is) ∙ sym is) i))
         ∙ ap (λ c. cond c [] (ToAll (status_frame s.claims.own now) ∷ [])) e)
 
-    pub status-none : same_display was now ≡ true → after ≡ before → after ≡ before ++ outputs_of (sent_by_settling old s)
+    pub status-none : same_display was now ≡ true → after ≡ before → after ≡ before ++ outputs_of (sent_by_shown_update old s)
     status-none same e = e ∙ sym (append-nil before) ∙ ap (λ l. before ++ l) (sym (status-by true same))
 
     pub status-sent : (f : Frame) → same_display was now ≡ false → f ≡ status_frame s.claims.own now → after ≡ before ++ declared.Frame f ∷ []
-        → after ≡ before ++ outputs_of (sent_by_settling old s)
+        → after ≡ before ++ outputs_of (sent_by_shown_update old s)
     status-sent f other e sent =
         sent ∙ ap (λ g. before ++ declared.Frame g ∷ []) e ∙ ap (λ l. before ++ l) (sym (status-by false other))

@@ -250,9 +250,9 @@ claim-left s source name f verdict =
 -- The whole step of a claim: its record, its effect and the choice of the shown set.
 pub claimed-left : (s t u v : State) (f : Frame) (n : FrameMeaning) (name : ℕ) → t ≡ before s (source_of f) n → u ≡ acted s (source_of f) (Claim name) f any_verdict
     → ShowsSame u v → ShowsWhatIsLeft t v
-claimed-left s t u v f n name recorded took settles =
+claimed-left s t u v f n name recorded took updates =
     let first : ShowsWhatIsLeft s u = subst (ShowsWhatIsLeft s) (sym took) (claim-left s (source_of f) name f any_verdict) in
-    let all = left-then s u v first (left-same u v settles) in
+    let all = left-then s u v first (left-same u v updates) in
     subst (λ (x : State). ShowsWhatIsLeft x v) (sym recorded) (record { shown = all.shown; pool = all.pool })
 
 -- ---- an input

@@ -6,7 +6,7 @@ use Rattle.vt_names.specs.Registry.{Set}
 use Rattle.vt_server.specs.shown.ShownSet.{alarm_in, choosing, events_of_change, first_with_pool, louder, loudest, or_selected, selected_now, shown_now}
 use Rattle.vt_server.specs.state.AddressViews.{Act, AddressView, Raises, outcome, raised_on}
 use Rattle.vt_server.specs.state.AddressStates.{AddressState}
-use Rattle.vt_server.specs.Steps.{acted, acting, answer_to, hearing, is_lost_by, losing, settled}
+use Rattle.vt_server.specs.Steps.{acted, acting, answer_to, hearing, is_lost_by, losing, with_shown_updated}
 use Rattle.vt_server.specs.Terminals.{State, pool_of, pool_at, part, after_act, after_acts}
 use Rattle.vt_server.specs.message.Verdicts.{Verdict}
 use Rattle.vt_server.specs.declared.shown.Alarm.{Alarm}
@@ -110,9 +110,9 @@ acts-pooled s hs all is = subst (HasPoolAt (pool_of (after_acts s hs))) (sym (sh
     cases None has = tt
     cases (Some a) has = acts-keep s a hs all has
 
-settled-pooled : (s : State) → ShownHasPool (settled s)
-unfolding settled
-settled-pooled s =
+shown_updated-pooled : (s : State) → ShownHasPool (with_shown_updated s)
+unfolding with_shown_updated
+shown_updated-pooled s =
     let hs = events_of_change s.shown (shown_now s) in
     acts-pooled (choosing s) hs (at-change (λ a h. KeepsPool h) (λ a event. raises-keeps event) s.shown (shown_now s)) (chosen-pooled s)
 
@@ -122,4 +122,4 @@ hearing-pooled old s source n f verdict = cases (is_lost_by (answer_to s source 
   where
     cases : (b : Bool) → ShownHasPool (cond b (losing s) (acting old s source n f verdict)).after
     cases true = kept-pooled s s.shown None tt
-    cases false = settled-pooled (acted s source n f verdict)
+    cases false = shown_updated-pooled (acted s source n f verdict)

@@ -13,7 +13,7 @@ use Rattle.vt_server.specs.shown.ShownSet.{choosing, shown_now, selected_now, ev
 use Rattle.vt_server.specs.state.StateInvariants.{IsOrderly, IsOther}
 use Rattle.vt_server.specs.frame.TimeoutActs.{at_time, lapsed, silences, tp_due, etp_due, sending_due, after_tp_timeouts, after_etp_timeouts, after_timeouts}
 use Rattle.vt_server.specs.state.AddressViews.{Act, Operates, Preloads, outcome}
-use Rattle.vt_server.specs.Steps.{JudgedInput, FrameAt, ActionAt, step, before, acts, answer_to, is_lost_by, settled, losing, acted, acting, hearing, no_step, step_frame, selecting, at_shown, step_action, preloading}
+use Rattle.vt_server.specs.Steps.{JudgedInput, FrameAt, ActionAt, step, before, acts, answer_to, is_lost_by, with_shown_updated, losing, acted, acting, hearing, no_step, step_frame, selecting, at_shown, step_action, preloading}
 use Rattle.vt_server.specs.Terminals.{State, pool_of, pool_at, part, after_act, after_acts, with_set_at}
 use Rattle.vt_server.specs.message.Verdicts.{Verdict}
 use Rattle.vt_node.specs.declared.bus.FrameMeaning.{FrameMeaning}
@@ -44,16 +44,16 @@ module _ (P : State → Type 0) (act : (s : State) (a : ℕ) (h : Act) → P s �
       acts-keep v (silences v) (acts-keep u (sending_due u) (acts-keep t (etp_due t) (acts-keep s (tp_due s) is)))
 
 module _ (P : State → Type 0) (kept : IsKept P) where
-  pub settled-keeps : (s : State) → P s → P (settled s)
-  unfolding settled
-  settled-keeps s is = acts-keep P kept.act (choosing s) (events_of_change s.shown (shown_now s)) (kept.chosen s (selected_now s) (shown_now s) s.lost is)
+  pub shown_updated-keeps : (s : State) → P s → P (with_shown_updated s)
+  unfolding with_shown_updated
+  shown_updated-keeps s is = acts-keep P kept.act (choosing s) (events_of_change s.shown (shown_now s)) (kept.chosen s (selected_now s) (shown_now s) s.lost is)
 
   hearing-keeps : (old s : State) (source : ℕ) (n : FrameMeaning) (f : Frame) (verdict : Verdict) → P s → P (hearing old s source n f verdict).after
   hearing-keeps old s source n f verdict is = cases (is_lost_by (answer_to s source n))
     where
       cases : (b : Bool) → P (cond b (losing s) (acting old s source n f verdict)).after
       cases true = kept.chosen s s.selected (cond (is_some (pool_at s s.shown)) s.shown None) true is
-      cases false = settled-keeps (acted s source n f verdict) (acts-keep P kept.act (before s source n) (acts s source n f verdict) (kept.heard s source n is))
+      cases false = shown_updated-keeps (acted s source n f verdict) (acts-keep P kept.act (before s source n) (acts s source n f verdict) (kept.heard s source n is))
 
   selecting-keeps : (s : State) (action : ActionValue) → P s → P (selecting s action)
   selecting-keeps s (Press id) is = is
@@ -80,7 +80,7 @@ module _ (P : State → Type 0) (kept : IsKept P) where
       cases false =
           let u = selecting s action in
           let hs = at_shown s.shown (Operates action shown) in
-          settled-keeps (after_acts u hs) (acts-keep P kept.act u hs (selecting-keeps s action is))
+          shown_updated-keeps (after_acts u hs) (acts-keep P kept.act u hs (selecting-keeps s action is))
 
   pub preloading-keeps : (a : ℕ) (s : State) (contents : ObjectMap) → P s → P (preloading s a contents)
   preloading-keeps a s contents is =

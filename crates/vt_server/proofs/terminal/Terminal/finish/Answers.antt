@@ -68,7 +68,7 @@ returns-in-Claimed-clause-tells c none =
 
 pub returns-in-Prepared-clause-tells : goal.returns-in-Prepared-clause-tells
 returns-in-Prepared-clause-tells c none =
-    let settles = c.update_shown-in-Prepared.ensures.tells none in
-    let takes = c.take.ensures.tells settles.0 in
+    let updates = c.update_shown-in-Prepared.ensures.tells none in
+    let takes = c.take.ensures.tells updates.0 in
     left-same (state_of c.args.self.now) (state_of c.update_shown-in-Prepared.new.self)
-    (shows-then (state_of c.args.self.now) (state_of c.take.new.self) (state_of c.update_shown-in-Prepared.new.self) takes.1 settles.1)
+    (shows-then (state_of c.args.self.now) (state_of c.take.new.self) (state_of c.update_shown-in-Prepared.new.self) takes.1 updates.1)

@@ -42,11 +42,11 @@ pub returns-clause-same : goal.returns-clause-same
 returns-clause-same c none =
     let t : Terminal = record c.args.self.now { redraws = false } in
     let m : Terminal = c.match-action.self in
-    let settles = c.update_shown.ensures.tells none in
+    let updates = c.update_shown.ensures.tells none in
     let acted : ShowsSame (state_of t) (state_of m) =
     elim c.match-action.branch [
-      | in-Set w ↦ told-through t m w.select_set-answer.new.self w.self-is w.select_set-answer.ensures.tells settles.0
-      | in-Text+in-Ok w ↦ told-through t m w.enter_long_text.new.self w.self-is w.enter_long_text.ensures.tells settles.0
-      | in_default w ↦ told-through t m w.act-answer.new.self w.self-is w.act-answer.ensures.tells settles.0
+      | in-Set w ↦ told-through t m w.select_set-answer.new.self w.self-is w.select_set-answer.ensures.tells updates.0
+      | in-Text+in-Ok w ↦ told-through t m w.enter_long_text.new.self w.self-is w.enter_long_text.ensures.tells updates.0
+      | in_default w ↦ told-through t m w.act-answer.new.self w.self-is w.act-answer.ensures.tells updates.0
     ] in
-    same-text (state_of t) (state_of c.update_shown.new.self) (shows-then (state_of t) (state_of m) (state_of c.update_shown.new.self) acted settles.1)
+    same-text (state_of t) (state_of c.update_shown.new.self) (shows-then (state_of t) (state_of m) (state_of c.update_shown.new.self) acted updates.1)

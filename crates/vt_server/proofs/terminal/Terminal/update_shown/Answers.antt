@@ -5,18 +5,18 @@ use Rattle.vt_server.specs.shown.DisplayValues.{display_value}
 use Rattle.vt_server.specs.States.{state_of}
 use Rattle.vt_server.specs.Terminals.{State, after_acts}
 use Rattle.vt_server.proofs.lemmas.acts.HolderChanges.{claims-acts}
-use Rattle.vt_server.proofs.lemmas.shown.EventsOfChange.{not-false, not-true, settled-is, status-none, status-sent}
+use Rattle.vt_server.proofs.lemmas.shown.EventsOfChange.{not-false, not-true, shown_updated-is, status-none, status-sent}
 use Rattle.vt_server.proofs.terminal.Terminal.update_shown.Goals as goal
 
 pub returns-then-ne-clause-state : goal.returns-then-ne-clause-state
 returns-then-ne-clause-state c =
     let s = state_of c.args.self.now in
-    settled-is s (state_of c.raise_change.new.self) (c.raise_change.ensures.state ∙ ap (λ (t : State). after_acts t (events_of_change s.shown t.shown)) c.choose.ensures.state)
+    shown_updated-is s (state_of c.raise_change.new.self) (c.raise_change.ensures.state ∙ ap (λ (t : State). after_acts t (events_of_change s.shown t.shown)) c.choose.ensures.state)
 
 pub returns-else-ne-clause-state : goal.returns-else-ne-clause-state
 returns-else-ne-clause-state c =
     let s = state_of c.args.self.now in
-    settled-is s (state_of c.raise_change.new.self) (c.raise_change.ensures.state ∙ ap (λ (t : State). after_acts t (events_of_change s.shown t.shown)) c.choose.ensures.state)
+    shown_updated-is s (state_of c.raise_change.new.self) (c.raise_change.ensures.state ∙ ap (λ (t : State). after_acts t (events_of_change s.shown t.shown)) c.choose.ensures.state)
 
 pub returns-then-ne-clause-sent : goal.returns-then-ne-clause-sent
 returns-then-ne-clause-sent c old first =
