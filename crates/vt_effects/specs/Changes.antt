@@ -44,7 +44,7 @@ is_one_of kinds (Some kind) = is_member kinds kind
 
 -- whether an ID is allowed at a place of an object of a kind
 abbrev pub may_stand : Kind → Place → ℕ → Option Kind → Bool
-may_stand kind place id named = if id == 0xFFFF then may_be_null place else is_one_of (allowed kind place) named
+may_stand kind place id kind_of_other = if id == 0xFFFF then may_be_null place else is_one_of (allowed kind place) kind_of_other
 
 -- ---- Hide/Show and Enable/Disable: state 1 shows or enables, and state 0 hides or disables
 
@@ -106,11 +106,11 @@ for_child child None children moved = Err errors.CHILD
 for_child child (Some kind) children moved = if stands_in child children then moved else Err errors.OBJECT
 
 abbrev pub change_location : Option Kind → ℕ → ℕ → ℕ → List Child → Result (List Child) ℕ
-change_location named child dx dy children =
-    for_child child named children (if_passed (not (leaves child dx dy children)) errors.OTHER (move_child child (moved_child dx dy) children))
+change_location kind_of_other child dx dy children =
+    for_child child kind_of_other children (if_passed (not (leaves child dx dy children)) errors.OTHER (move_child child (moved_child dx dy) children))
 
 abbrev pub change_position : Option Kind → ℕ → ℤ → ℤ → List Child → Result (List Child) ℕ
-change_position named child x y children = for_child child named children (Ok (move_child child (placed x y) children))
+change_position kind_of_other child x y children = for_child child kind_of_other children (Ok (move_child child (placed x y) children))
 
 abbrev pub put_children : (List Child → Seen) → Result (List Child) ℕ → Result Seen ℕ
 put_children parent (Ok children) = Ok (parent children)
@@ -147,72 +147,72 @@ abbrev pub is_index : ℕ → ℕ → Bool
 is_index index count = nat_lt index count || (index == 255)
 
 abbrev pub change_value : Option Kind → ℕ → Seen → Result Seen ℕ
-change_value named n (objects.InputBoolean o) = if_passed (nat_le (low_byte n) 1) errors.VALUE (objects.InputBoolean (record o { value = low_byte n }))
-change_value named n (objects.InputNumber o) = if_passed (nat_le o.min n && nat_le n o.max) errors.VALUE (objects.InputNumber (record o { value = n }))
-change_value named n (objects.InputList o) = if_passed (is_index (low_byte n) (length o.items)) errors.VALUE (objects.InputList (record o { value = low_byte n }))
-change_value named n (objects.OutputNumber o) = Ok (objects.OutputNumber (record o { value = n }))
-change_value named n (objects.Meter o) = Ok (objects.Meter (record o { value = low_word n }))
-change_value named n (objects.LinearBar o) = Ok (objects.LinearBar (record o { value = low_word n }))
-change_value named n (objects.ArchedBar o) = Ok (objects.ArchedBar (record o { value = low_word n }))
-change_value named n (objects.NumberVariable o) = Ok (objects.NumberVariable (record o { value = n }))
-change_value named n (objects.ObjectPointer o) =
-    if_passed (may_stand kinds.ObjectPointer places.Value (low_word n) named) errors.VALUE (objects.ObjectPointer (record o { value = low_word n }))
-change_value named n _ = Err errors.OBJECT
+change_value kind_of_other n (objects.InputBoolean o) = if_passed (nat_le (low_byte n) 1) errors.VALUE (objects.InputBoolean (record o { value = low_byte n }))
+change_value kind_of_other n (objects.InputNumber o) = if_passed (nat_le o.min n && nat_le n o.max) errors.VALUE (objects.InputNumber (record o { value = n }))
+change_value kind_of_other n (objects.InputList o) = if_passed (is_index (low_byte n) (length o.items)) errors.VALUE (objects.InputList (record o { value = low_byte n }))
+change_value kind_of_other n (objects.OutputNumber o) = Ok (objects.OutputNumber (record o { value = n }))
+change_value kind_of_other n (objects.Meter o) = Ok (objects.Meter (record o { value = low_word n }))
+change_value kind_of_other n (objects.LinearBar o) = Ok (objects.LinearBar (record o { value = low_word n }))
+change_value kind_of_other n (objects.ArchedBar o) = Ok (objects.ArchedBar (record o { value = low_word n }))
+change_value kind_of_other n (objects.NumberVariable o) = Ok (objects.NumberVariable (record o { value = n }))
+change_value kind_of_other n (objects.ObjectPointer o) =
+    if_passed (may_stand kinds.ObjectPointer places.Value (low_word n) kind_of_other) errors.VALUE (objects.ObjectPointer (record o { value = low_word n }))
+change_value kind_of_other n _ = Err errors.OBJECT
 
 -- ---- Change Fill Attributes
 
 abbrev pub change_fill_attributes : Option Kind → ℕ → ℕ → ℕ → Seen → Result Seen ℕ
-change_fill_attributes named type colour pattern (objects.FillAttributes o) =
-    if_passed (may_stand kinds.FillAttributes places.Pattern pattern named) errors.PATTERN (objects.FillAttributes (record o { fill_type = type; colour = colour; pattern = pattern }))
-change_fill_attributes named type colour pattern _ = Err errors.OBJECT
+change_fill_attributes kind_of_other type colour pattern (objects.FillAttributes o) =
+    if_passed (may_stand kinds.FillAttributes places.Pattern pattern kind_of_other) errors.PATTERN (objects.FillAttributes (record o { fill_type = type; colour = colour; pattern = pattern }))
+change_fill_attributes kind_of_other type colour pattern _ = Err errors.OBJECT
 
 -- ---- Change Active Mask requires an existing mask
 
 abbrev pub change_active_mask : Option Kind → ℕ → Seen → Result Seen ℕ
-change_active_mask named mask (objects.WorkingSet o) =
-    if_passed (is_one_of sets.Masks named) errors.VALUE (objects.WorkingSet (record o { active_mask = mask }))
-change_active_mask named mask _ = Err errors.OBJECT
+change_active_mask kind_of_other mask (objects.WorkingSet o) =
+    if_passed (is_one_of sets.Masks kind_of_other) errors.VALUE (objects.WorkingSet (record o { active_mask = mask }))
+change_active_mask kind_of_other mask _ = Err errors.OBJECT
 
 -- ---- Change Soft Key Mask: type 1 is a Data Mask, and type 2 an Alarm Mask
 
 abbrev pub change_soft_key_mask : Option Kind → ℕ → ℕ → Seen → Result Seen ℕ
-change_soft_key_mask named type keys (objects.DataMask o) =
+change_soft_key_mask kind_of_other type keys (objects.DataMask o) =
     if type == 1
-    then if_passed (may_stand kinds.DataMask places.SoftKeyMask keys named) errors.VALUE (objects.DataMask (record o { soft_key_mask = keys }))
+    then if_passed (may_stand kinds.DataMask places.SoftKeyMask keys kind_of_other) errors.VALUE (objects.DataMask (record o { soft_key_mask = keys }))
     else Err errors.OBJECT
-change_soft_key_mask named type keys (objects.AlarmMask o) =
+change_soft_key_mask kind_of_other type keys (objects.AlarmMask o) =
     if type == 2
-    then if_passed (may_stand kinds.AlarmMask places.SoftKeyMask keys named) errors.VALUE (objects.AlarmMask (record o { soft_key_mask = keys }))
+    then if_passed (may_stand kinds.AlarmMask places.SoftKeyMask keys kind_of_other) errors.VALUE (objects.AlarmMask (record o { soft_key_mask = keys }))
     else Err errors.OBJECT
-change_soft_key_mask named type keys _ = Err errors.OBJECT
+change_soft_key_mask kind_of_other type keys _ = Err errors.OBJECT
 
 -- ---- Change Attribute
 
 -- whether a field of a type accepts the lowest bytes of a value
 abbrev pub takes : Kind → ValueType → ℕ → Option Kind → Bool
-takes kind (types.Reference place) n named = may_stand kind place (low_word n) named
-takes kind types.Priority n named = nat_le (low_byte n) 2
-takes kind types.Scale n named = is_some (scale_at n)
-takes kind types.Decimals n named = nat_le (low_byte n) 7
-takes kind _ n named = true
+takes kind (types.Reference place) n kind_of_other = may_stand kind place (low_word n) kind_of_other
+takes kind types.Priority n kind_of_other = nat_le (low_byte n) 2
+takes kind types.Scale n kind_of_other = is_some (scale_at n)
+takes kind types.Decimals n kind_of_other = nat_le (low_byte n) 7
+takes kind _ n kind_of_other = true
 
 abbrev pub put_attribute : Option Attribute → Option Kind → ℕ → Seen → Result Seen ℕ
-put_attribute None named n o = Err errors.ATTRIBUTE
-put_attribute (Some attribute) named n o =
-    if_passed (takes (kind_of o) attribute.value_type n named) errors.ATTRIBUTE_VALUE (with_field attribute.field n o)
+put_attribute None kind_of_other n o = Err errors.ATTRIBUTE
+put_attribute (Some attribute) kind_of_other n o =
+    if_passed (takes (kind_of o) attribute.value_type n kind_of_other) errors.ATTRIBUTE_VALUE (with_field attribute.field n o)
 
 abbrev pub change_attribute : Option Kind → ℕ → ℕ → Seen → Result Seen ℕ
-change_attribute named number n o =
-    for_kinds sets.WithAttributes o (put_attribute (attribute_at (kind_of o) number) named n o)
+change_attribute kind_of_other number n o =
+    for_kinds sets.WithAttributes o (put_attribute (attribute_at (kind_of o) number) kind_of_other n o)
 
 -- ---- Change List Item, Change String Value, Execute Macro
 
 abbrev pub change_item : Option Kind → ℕ → ℕ → Seen → Result Seen ℕ
-change_item named index item (objects.InputList o) =
+change_item kind_of_other index item (objects.InputList o) =
     if nat_lt index (length o.items)
-    then if_passed (may_stand kinds.InputList (places.Item index) item named) errors.ITEM (objects.InputList (record o { items = set o.items index item }))
+    then if_passed (may_stand kinds.InputList (places.Item index) item kind_of_other) errors.ITEM (objects.InputList (record o { items = set o.items index item }))
     else Err errors.INDEX
-change_item named index item _ = Err errors.OBJECT
+change_item kind_of_other index item _ = Err errors.OBJECT
 
 -- whether a length exceeds neither the object's text nor the bytes of the command
 abbrev pub is_length : ℕ → List ℕ → List ℕ → Bool
@@ -248,33 +248,33 @@ other_id (ChangeAttribute id number value) = Some (low_word value)
 other_id (ChangeListItem id index item) = Some item
 other_id _ = None
 
--- The effect of a command on its object, where `named` is the kind of the other object, or None if it is missing.
+-- The effect of a command on its object, where `kind_of_other` is the kind of the other object, or None if it is missing.
 abbrev pub changed : Command → Option Kind → Seen → Result Seen ℕ
-changed (HideShow id state) named o = hide_show state o
-changed (EnableDisable id state) named o = enable_disable state o
-changed (ChangeChildLocation parent child dx dy) named o = in_parent (change_location named child dx dy) o
-changed (ChangeSize id width height) named o = write_fields sets.Sized ((fields.Width, width) ∷ (fields.Height, height) ∷ []) o
-changed (ChangeBackgroundColour id colour) named o = write_fields sets.Coloured ((fields.Colour, colour) ∷ []) o
-changed (ChangeNumericValue id value) named o = change_value named value o
-changed (ChangeEndPoint id width height direction) named o =
+changed (HideShow id state) kind_of_other o = hide_show state o
+changed (EnableDisable id state) kind_of_other o = enable_disable state o
+changed (ChangeChildLocation parent child dx dy) kind_of_other o = in_parent (change_location kind_of_other child dx dy) o
+changed (ChangeSize id width height) kind_of_other o = write_fields sets.Sized ((fields.Width, width) ∷ (fields.Height, height) ∷ []) o
+changed (ChangeBackgroundColour id colour) kind_of_other o = write_fields sets.Coloured ((fields.Colour, colour) ∷ []) o
+changed (ChangeNumericValue id value) kind_of_other o = change_value kind_of_other value o
+changed (ChangeEndPoint id width height direction) kind_of_other o =
     write_fields_if sets.Lines (nat_le direction 1) errors.VALUE ((fields.Width, width) ∷ (fields.Height, height) ∷ (fields.Direction, direction) ∷ []) o
-changed (ChangeFontAttributes id colour size type style) named o =
+changed (ChangeFontAttributes id colour size type style) kind_of_other o =
     write_fields sets.Fonts ((fields.Colour, colour) ∷ (fields.Size, size) ∷ (fields.Type, type) ∷ (fields.Style, style) ∷ []) o
-changed (ChangeLineAttributes id colour width art) named o =
+changed (ChangeLineAttributes id colour width art) kind_of_other o =
     write_fields sets.LineAttributes ((fields.Colour, colour) ∷ (fields.Width, width) ∷ (fields.LineArt, art) ∷ []) o
-changed (ChangeFillAttributes id type colour pattern) named o = change_fill_attributes named type colour pattern o
-changed (ChangeActiveMask set mask) named o = change_active_mask named mask o
-changed (ChangeSoftKeyMask type mask keys) named o = change_soft_key_mask named type keys o
-changed (ChangeAttribute id number value) named o = change_attribute named number value o
-changed (ChangePriority id priority) named o =
+changed (ChangeFillAttributes id type colour pattern) kind_of_other o = change_fill_attributes kind_of_other type colour pattern o
+changed (ChangeActiveMask set mask) kind_of_other o = change_active_mask kind_of_other mask o
+changed (ChangeSoftKeyMask type mask keys) kind_of_other o = change_soft_key_mask kind_of_other type keys o
+changed (ChangeAttribute id number value) kind_of_other o = change_attribute kind_of_other number value o
+changed (ChangePriority id priority) kind_of_other o =
     write_fields_if sets.AlarmMasks (nat_le priority 2) errors.VALUE ((fields.Priority, priority) ∷ []) o
-changed (ChangeListItem id index item) named o = change_item named index item o
-changed (ChangeStringValue id count text) named o = change_text count text o
-changed (ChangeChildPosition parent child x y) named o = in_parent (change_position named child x y) o
-changed (ExecuteMacro id) named o = execute_macro id o
-changed (ControlAudio count frequency on off) named o = Ok o
-changed (SetVolume volume) named o = Ok o
-changed DeletePool named o = Ok o
+changed (ChangeListItem id index item) kind_of_other o = change_item kind_of_other index item o
+changed (ChangeStringValue id count text) kind_of_other o = change_text count text o
+changed (ChangeChildPosition parent child x y) kind_of_other o = in_parent (change_position kind_of_other child x y) o
+changed (ExecuteMacro id) kind_of_other o = execute_macro id o
+changed (ControlAudio count frequency on off) kind_of_other o = Ok o
+changed (SetVolume volume) kind_of_other o = Ok o
+changed DeletePool kind_of_other o = Ok o
 
 -- ---- the result of a call and the changed object
 
@@ -292,7 +292,7 @@ left old (Err error) = old
 
 -- No command changes the kind of an object, the macros of its events, or the bytes of a macro.
 abbrev pub ChangesKeep : Type 0
-ChangesKeep = (command : Command) (named : Option Kind) (o : Seen) → fixed (left o (changed command named o)) ≡ fixed o
+ChangesKeep = (command : Command) (kind_of_other : Option Kind) (o : Seen) → fixed (left o (changed command kind_of_other o)) ≡ fixed o
 
 -- whether a place of an object of a kind is an attribute; a Value is one only in pointers
 abbrev pub is_attribute : Place → Kind → Bool
@@ -315,15 +315,15 @@ writes (ChangeAttribute id number value) place kind = is_attribute place kind
 writes _ _ _ = false
 
 -- the reference that a command writes in an object of a kind: its other ID, at a place that allows it
-pub record IsWritten (command : Command) (named : Option Kind) (kind : Kind) (s : Slot) : Type 0 where
+pub record IsWritten (command : Command) (kind_of_other : Option Kind) (kind : Kind) (s : Slot) : Type 0 where
   pub place : Place
   pub id : ℕ
   pub is : s ≡ slot kind place id
   pub other : other_id command ≡ Some id
   pub written : IsTrue (writes command place kind)
-  pub stands : IsTrue (may_stand kind place id named)
+  pub stands : IsTrue (may_stand kind place id kind_of_other)
 
 -- Each reference of an object after a command is one of its former references or one written by the command.
 abbrev pub ReferencesMayStand : Type 0
-ReferencesMayStand = (command : Command) (named : Option Kind) (o : Seen)
-    → AllByRecursion (λ s. Contains (slots_of o) s ⊎ IsWritten command named (kind_of o) s) (slots_of (left o (changed command named o)))
+ReferencesMayStand = (command : Command) (kind_of_other : Option Kind) (o : Seen)
+    → AllByRecursion (λ s. Contains (slots_of o) s ⊎ IsWritten command kind_of_other (kind_of o) s) (slots_of (left o (changed command kind_of_other o)))

@@ -36,12 +36,12 @@ insert_ok store id (Ok o) = Ok (finite.insert store id o)
 insert_ok store id (Err error) = Err error
 
 abbrev pub changed_at : ObjectMap → ℕ → Command → Option Kind → Option Seen → Result ObjectMap ℕ
-changed_at store id command named None = Err (missing_error command)
-changed_at store id command named (Some o) = insert_ok store id (changed command named o)
+changed_at store id command kind_of_other None = Err (missing_error command)
+changed_at store id command kind_of_other (Some o) = insert_ok store id (changed command kind_of_other o)
 
--- the store after a command has changed the object of an ID, where `named` is the kind of the other object
+-- the store after a command has changed the object of an ID, where `kind_of_other` is the kind of the other object
 abbrev pub changed_in : ObjectMap → ℕ → Command → Option Kind → Result ObjectMap ℕ
-changed_in store id command named = changed_at store id command named (finite.get store id)
+changed_in store id command kind_of_other = changed_at store id command kind_of_other (finite.get store id)
 
 -- a command without an object changes nothing: the terminal's sounds are not in its store
 abbrev pub without_object : ObjectMap → Command → Result ObjectMap ℕ
@@ -49,12 +49,12 @@ without_object store (SetVolume volume) = if_passed (nat_le volume 100) errors.O
 without_object store command = Ok store
 
 abbrev pub changed_for : ObjectMap → Command → Option Kind → Option ℕ → Result ObjectMap ℕ
-changed_for store command named None = without_object store command
-changed_for store command named (Some id) = changed_in store id command named
+changed_for store command kind_of_other None = without_object store command
+changed_for store command kind_of_other (Some id) = changed_in store id command kind_of_other
 
 -- The store after a command, without the extra checks for pointer values and list items.
 abbrev pub changed_by : ObjectMap → Command → Option Kind → Result ObjectMap ℕ
-changed_by store command named = changed_for store command named (object_of command)
+changed_by store command kind_of_other = changed_for store command kind_of_other (object_of command)
 
 -- ---- the values of pointers, and chains
 

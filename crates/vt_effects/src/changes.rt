@@ -23,22 +23,22 @@ use values::{change_item, change_value};
 use vt_commands::Command;
 use vt_kinds::{Child, Field, Kind, Kinds, Object};
 
-/// Does a command on its object. `named` is the kind of the command's other object, or `None` if that object is missing.
+/// Does a command on its object. `kind_of_other` is the kind of the command's other object, or `None` if that object is missing.
 /// A refusal is the error byte of the command's reply, with the bit of the first test that fails, and leaves the object
 /// unchanged (ISO 11783-6; docs/PROFILE.md, "Commands: all rows").
 pub fn change(
     object: &mut Object<Vec<u8>>,
     command: &Command<'_>,
-    named: Option<Kind>,
+    kind_of_other: Option<Kind>,
 ) -> Result<(), u8>
-    ensures result { HasResult result (changed command.now named (seen object.old)) }
-    ensures object { seen object.new ≡ left (seen object.old) (changed command.now named (seen object.old)) }
+    ensures result { HasResult result (changed command.now kind_of_other (seen object.old)) }
+    ensures object { seen object.new ≡ left (seen object.old) (changed command.now kind_of_other (seen object.old)) }
 {
     match *command {
         Command::HideShow { state, .. } => hide_show(object, state),
         Command::EnableDisable { state, .. } => enable_disable(object, state),
         Command::ChangeChildLocation { child, dx, dy, .. } => {
-            change_location(object, named, child, dx, dy)
+            change_location(object, kind_of_other, child, dx, dy)
         }
         Command::ChangeSize { width, height, .. } => write_fields(
             object,
@@ -55,7 +55,7 @@ pub fn change(
                 &[(Field::Colour, u32::from(colour))],
             )
         }
-        Command::ChangeNumericValue { value, .. } => change_value(object, named, value),
+        Command::ChangeNumericValue { value, .. } => change_value(object, kind_of_other, value),
         Command::ChangeEndPoint {
             width,
             height,
@@ -107,15 +107,15 @@ pub fn change(
             colour,
             pattern,
             ..
-        } => change_fill_attributes(object, named, fill_type, colour, pattern),
-        Command::ChangeActiveMask { mask, .. } => change_active_mask(object, named, mask),
+        } => change_fill_attributes(object, kind_of_other, fill_type, colour, pattern),
+        Command::ChangeActiveMask { mask, .. } => change_active_mask(object, kind_of_other, mask),
         Command::ChangeSoftKeyMask {
             mask_type,
             keys,
             ..
-        } => change_soft_key_mask(object, named, mask_type, keys),
+        } => change_soft_key_mask(object, kind_of_other, mask_type, keys),
         Command::ChangeAttribute { number, value, .. } => {
-            change_attribute(object, named, number, value)
+            change_attribute(object, kind_of_other, number, value)
         }
         Command::ChangePriority { priority, .. } => write_fields_if(
             object,
@@ -124,14 +124,16 @@ pub fn change(
             error::VALUE,
             &[(Field::Priority, u32::from(priority))],
         ),
-        Command::ChangeListItem { index, item, .. } => change_item(object, named, index, item),
+        Command::ChangeListItem { index, item, .. } => {
+            change_item(object, kind_of_other, index, item)
+        }
         Command::ChangeStringValue {
             length,
             ref text,
             ..
         } => change_text(object, length, text.as_slice()),
         Command::ChangeChildPosition { child, x, y, .. } => {
-            change_position(object, named, &Child { id: child, x, y })
+            change_position(object, kind_of_other, &Child { id: child, x, y })
         }
         Command::ExecuteMacro { id } => execute_macro(object, id),
         Command::ControlAudio { .. } | Command::SetVolume { .. } | Command::DeletePool => Ok(()),

@@ -12,20 +12,20 @@ use vt_commands::Command;
 use vt_kinds::{Kind, ObjectId};
 use vt_stores::Store;
 
-/// Does a command on the objects of a store, except the extra checks for pointer values and list items. `named` is the
+/// Does a command on the objects of a store, except the extra checks for pointer values and list items. `kind_of_other` is the
 /// kind of the command's other object, or `None` if that object is missing. A refusal is the error byte of the command's
 /// reply, and changes nothing.
 pub fn change_in<S: Store>(
     store: &mut S,
     command: &Command<'_>,
-    named: Option<Kind>,
+    kind_of_other: Option<Kind>,
 ) -> Result<(), u8>
-    ensures result { HasResult result (changed_by (S.contents store.old) command.now named) }
-    ensures objects { S.contents store.new ≡ left (S.contents store.old) (changed_by (S.contents store.old) command.now named) }
+    ensures result { HasResult result (changed_by (S.contents store.old) command.now kind_of_other) }
+    ensures objects { S.contents store.new ≡ left (S.contents store.old) (changed_by (S.contents store.old) command.now kind_of_other) }
 {
     match command.object() {
         None => without_object(command),
-        Some(id) => change_object(store, id, command, named),
+        Some(id) => change_object(store, id, command, kind_of_other),
     }
 }
 
@@ -44,13 +44,13 @@ fn change_object<S: Store>(
     store: &mut S,
     id: ObjectId,
     command: &Command<'_>,
-    named: Option<Kind>,
+    kind_of_other: Option<Kind>,
 ) -> Result<(), u8>
-    ensures result { HasResult result (changed_in (S.contents store.old) id command.now named) }
-    ensures objects { S.contents store.new ≡ left (S.contents store.old) (changed_in (S.contents store.old) id command.now named) }
+    ensures result { HasResult result (changed_in (S.contents store.old) id command.now kind_of_other) }
+    ensures objects { S.contents store.new ≡ left (S.contents store.old) (changed_in (S.contents store.old) id command.now kind_of_other) }
 {
     match store.get_mut(id) {
-        Some(object) => change(object, command, named),
+        Some(object) => change(object, command, kind_of_other),
         None => Err(missing_error(command)),
     }
 }

@@ -33,10 +33,10 @@ pub fn execute<S: Store>(
     ensures objects { S.contents store.new ≡ after (S.contents store.old) command.now }
     ensures levels { AreLevels (S.contents store.new) levels.new }
 {
-    let named = other_kind(store, other_id(command));
+    let kind_of_other = other_kind(store, other_id(command));
     match replaced(store, command) {
-        None => change_in(store, command, named),
-        Some(replacement) => replace(store, levels, command, named, &replacement),
+        None => change_in(store, command, kind_of_other),
+        Some(replacement) => replace(store, levels, command, kind_of_other, &replacement),
     }
 }
 
@@ -46,19 +46,19 @@ fn replace<S: Store>(
     store: &mut S,
     levels: &mut Levels,
     command: &Command<'_>,
-    named: Option<Kind>,
+    kind_of_other: Option<Kind>,
     replacement: &Replacement,
 ) -> Result<(), u8>
     requires levels { AreLevels (S.contents store.old) levels.old }
     requires sound { IsSound (S.contents store.old) }
-    requires named { named ≡ effects.other_kind (S.contents store.old) (changes.other_id command.now) }
+    requires kind_of_other { kind_of_other ≡ effects.other_kind (S.contents store.old) (changes.other_id command.now) }
     requires replaces { replacements.replacement_by (S.contents store.old) command.now ≡ Some replacement.now }
     ensures result { HasResult result (effect (S.contents store.old) command.now) }
     ensures objects { S.contents store.new ≡ after (S.contents store.old) command.now }
     ensures levels { AreLevels (S.contents store.new) levels.new }
 {
     let fits = fits(store, command);
-    match change_in(store, command, named) {
+    match change_in(store, command, kind_of_other) {
         Err(error) => Err(error),
         Ok(()) => {
             if is_in_order(store, levels, replacement, fits) {

@@ -6,22 +6,22 @@ ghost use Rattle.vt_effects.specs.Changes as changes;
 use vt_kinds::{Kind, Kinds, ObjectId, Place};
 
 /// Whether an object exists and is of one of these kinds.
-pub(crate) fn is_one_of(kinds: Kinds, named: Option<Kind>) -> bool
-    ensures { result ≡ changes.is_one_of kinds named }
+pub(crate) fn is_one_of(kinds: Kinds, kind_of_other: Option<Kind>) -> bool
+    ensures { result ≡ changes.is_one_of kinds kind_of_other }
 {
-    match named {
+    match kind_of_other {
         None => false,
         Some(kind) => kinds.contains(kind),
     }
 }
 
-/// Whether `id` is allowed at `place` in an object of a kind. `named` is the kind of the object of `id`, or `None` if
+/// Whether `id` is allowed at `place` in an object of a kind. `kind_of_other` is the kind of the object of `id`, or `None` if
 /// missing.
-pub(crate) fn may_stand(kind: Kind, place: Place, id: ObjectId, named: Option<Kind>) -> bool
-    ensures { result ≡ changes.may_stand kind place id named }
+pub(crate) fn may_stand(kind: Kind, place: Place, id: ObjectId, kind_of_other: Option<Kind>) -> bool
+    ensures { result ≡ changes.may_stand kind place id kind_of_other }
 {
     if id.is_null() {
         return place.allows_null();
     }
-    is_one_of(place.kinds(kind), named)
+    is_one_of(place.kinds(kind), kind_of_other)
 }

@@ -10,16 +10,16 @@ use crate::error;
 use vt_commands::attribute;
 use vt_kinds::{Kind, Kinds, Object, ObjectId, ValueType};
 
-/// Sets the attribute of a number. `named` is the kind of the object whose ID is the two lowest bytes of the value, or
+/// Sets the attribute of a number. `kind_of_other` is the kind of the object whose ID is the two lowest bytes of the value, or
 /// `None` if it is missing.
 pub(crate) fn change_attribute(
     object: &mut Object<Vec<u8>>,
-    named: Option<Kind>,
+    kind_of_other: Option<Kind>,
     number: u8,
     value: u32,
 ) -> Result<(), u8>
-    ensures result { HasResult result (changes.change_attribute named number value (seen object.old)) }
-    ensures object { seen object.new ≡ left (seen object.old) (changes.change_attribute named number value (seen object.old)) }
+    ensures result { HasResult result (changes.change_attribute kind_of_other number value (seen object.old)) }
+    ensures object { seen object.new ≡ left (seen object.old) (changes.change_attribute kind_of_other number value (seen object.old)) }
 {
     let kind = object.kind();
     if !Kinds::WithAttributes.contains(kind) {
@@ -28,7 +28,7 @@ pub(crate) fn change_attribute(
     let Some(attribute) = attribute(kind, number) else {
         return Err(error::ATTRIBUTE);
     };
-    if !takes(attribute.value_type, kind, value, named) {
+    if !takes(attribute.value_type, kind, value, kind_of_other) {
         return Err(error::ATTRIBUTE_VALUE);
     }
     write_field(object, attribute.field, value);
@@ -50,8 +50,8 @@ pub(crate) fn execute_macro(object: &mut Object<Vec<u8>>, id: ObjectId) -> Resul
 }
 
 /// Whether a field of a type accepts a value.
-fn takes(value_type: ValueType, kind: Kind, value: u32, named: Option<Kind>) -> bool
-    ensures { result ≡ changes.takes kind value_type value named }
+fn takes(value_type: ValueType, kind: Kind, value: u32, kind_of_other: Option<Kind>) -> bool
+    ensures { result ≡ changes.takes kind value_type value kind_of_other }
 {
-    value_type.accepts(kind, value, named)
+    value_type.accepts(kind, value, kind_of_other)
 }

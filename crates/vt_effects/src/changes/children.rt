@@ -8,59 +8,59 @@ ghost use Rattle.vt_effects.specs.Changes.{HasResult, left, in_parent, child_at,
 use crate::error;
 use vt_kinds::{Child, Entries, Kind, Object, ObjectId};
 
-/// Moves every entry of a child by `dx` and `dy`, each minus 127. `named` is the kind of the child, or `None` if missing.
+/// Moves every entry of a child by `dx` and `dy`, each minus 127. `kind_of_other` is the kind of the child, or `None` if missing.
 pub(crate) fn change_location(
     object: &mut Object<Vec<u8>>,
-    named: Option<Kind>,
+    kind_of_other: Option<Kind>,
     child: ObjectId,
     dx: u8,
     dy: u8,
 ) -> Result<(), u8>
-    ensures result { HasResult result (in_parent (changes.change_location named child dx dy) (seen object.old)) }
-    ensures object { seen object.new ≡ left (seen object.old) (in_parent (changes.change_location named child dx dy) (seen object.old)) }
+    ensures result { HasResult result (in_parent (changes.change_location kind_of_other child dx dy) (seen object.old)) }
+    ensures object { seen object.new ≡ left (seen object.old) (in_parent (changes.change_location kind_of_other child dx dy) (seen object.old)) }
 {
     match object {
-        Object::WorkingSet(parent) => shift(&mut parent.children, named, child, dx, dy),
-        Object::DataMask(parent) => shift(&mut parent.children, named, child, dx, dy),
-        Object::AlarmMask(parent) => shift(&mut parent.children, named, child, dx, dy),
-        Object::Container(parent) => shift(&mut parent.children, named, child, dx, dy),
-        Object::Key(parent) => shift(&mut parent.children, named, child, dx, dy),
-        Object::Button(parent) => shift(&mut parent.children, named, child, dx, dy),
+        Object::WorkingSet(parent) => shift(&mut parent.children, kind_of_other, child, dx, dy),
+        Object::DataMask(parent) => shift(&mut parent.children, kind_of_other, child, dx, dy),
+        Object::AlarmMask(parent) => shift(&mut parent.children, kind_of_other, child, dx, dy),
+        Object::Container(parent) => shift(&mut parent.children, kind_of_other, child, dx, dy),
+        Object::Key(parent) => shift(&mut parent.children, kind_of_other, child, dx, dy),
+        Object::Button(parent) => shift(&mut parent.children, kind_of_other, child, dx, dy),
         _ => Err(error::OBJECT),
     }
 }
 
-/// Moves every entry of a child to the position of `entry`. `named` is the kind of the child, or `None` if missing.
+/// Moves every entry of a child to the position of `entry`. `kind_of_other` is the kind of the child, or `None` if missing.
 pub(crate) fn change_position(
     object: &mut Object<Vec<u8>>,
-    named: Option<Kind>,
+    kind_of_other: Option<Kind>,
     entry: &Child,
 ) -> Result<(), u8>
-    ensures result { HasResult result (in_parent (changes.change_position named entry.now.id entry.now.x entry.now.y) (seen object.old)) }
-    ensures object { seen object.new ≡ left (seen object.old) (in_parent (changes.change_position named entry.now.id entry.now.x entry.now.y) (seen object.old)) }
+    ensures result { HasResult result (in_parent (changes.change_position kind_of_other entry.now.id entry.now.x entry.now.y) (seen object.old)) }
+    ensures object { seen object.new ≡ left (seen object.old) (in_parent (changes.change_position kind_of_other entry.now.id entry.now.x entry.now.y) (seen object.old)) }
 {
     match object {
-        Object::WorkingSet(parent) => place(&mut parent.children, named, entry),
-        Object::DataMask(parent) => place(&mut parent.children, named, entry),
-        Object::AlarmMask(parent) => place(&mut parent.children, named, entry),
-        Object::Container(parent) => place(&mut parent.children, named, entry),
-        Object::Key(parent) => place(&mut parent.children, named, entry),
-        Object::Button(parent) => place(&mut parent.children, named, entry),
+        Object::WorkingSet(parent) => place(&mut parent.children, kind_of_other, entry),
+        Object::DataMask(parent) => place(&mut parent.children, kind_of_other, entry),
+        Object::AlarmMask(parent) => place(&mut parent.children, kind_of_other, entry),
+        Object::Container(parent) => place(&mut parent.children, kind_of_other, entry),
+        Object::Key(parent) => place(&mut parent.children, kind_of_other, entry),
+        Object::Button(parent) => place(&mut parent.children, kind_of_other, entry),
         _ => Err(error::OBJECT),
     }
 }
 
 fn shift(
     children: &mut Entries<Child>,
-    named: Option<Kind>,
+    kind_of_other: Option<Kind>,
     child: ObjectId,
     dx: u8,
     dy: u8,
 ) -> Result<(), u8>
-    ensures result { HasResult result (changes.change_location named child dx dy children.old) }
-    ensures children { children.new ≡ left children.old (changes.change_location named child dx dy children.old) }
+    ensures result { HasResult result (changes.change_location kind_of_other child dx dy children.old) }
+    ensures children { children.new ≡ left children.old (changes.change_location kind_of_other child dx dy children.old) }
 {
-    if named.is_none() {
+    if kind_of_other.is_none() {
         return Err(error::CHILD);
     }
     if !stands_in(child, children) {
@@ -77,11 +77,15 @@ fn shift(
 }
 
 /// Moves every entry of a child to the position of `entry`.
-fn place(children: &mut Entries<Child>, named: Option<Kind>, entry: &Child) -> Result<(), u8>
-    ensures result { HasResult result (changes.change_position named entry.now.id entry.now.x entry.now.y children.old) }
-    ensures children { children.new ≡ left children.old (changes.change_position named entry.now.id entry.now.x entry.now.y children.old) }
+fn place(
+    children: &mut Entries<Child>,
+    kind_of_other: Option<Kind>,
+    entry: &Child,
+) -> Result<(), u8>
+    ensures result { HasResult result (changes.change_position kind_of_other entry.now.id entry.now.x entry.now.y children.old) }
+    ensures children { children.new ≡ left children.old (changes.change_position kind_of_other entry.now.id entry.now.x entry.now.y children.old) }
 {
-    if named.is_none() {
+    if kind_of_other.is_none() {
         return Err(error::CHILD);
     }
     let child = entry.id;

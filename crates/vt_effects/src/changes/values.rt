@@ -10,15 +10,15 @@ use crate::numbers::{byte, id, word};
 use crate::references::may_stand;
 use vt_kinds::{Kind, Object, ObjectId, Place};
 
-/// Sets the value. Each kind uses as many of the lowest bytes as its value has; `named` is the kind of the object whose
+/// Sets the value. Each kind uses as many of the lowest bytes as its value has; `kind_of_other` is the kind of the object whose
 /// ID is the two lowest bytes, or `None` if it is missing.
 pub(crate) fn change_value(
     object: &mut Object<Vec<u8>>,
-    named: Option<Kind>,
+    kind_of_other: Option<Kind>,
     value: u32,
 ) -> Result<(), u8>
-    ensures result { HasResult result (changes.change_value named value (seen object.old)) }
-    ensures object { seen object.new ≡ left (seen object.old) (changes.change_value named value (seen object.old)) }
+    ensures result { HasResult result (changes.change_value kind_of_other value (seen object.old)) }
+    ensures object { seen object.new ≡ left (seen object.old) (changes.change_value kind_of_other value (seen object.old)) }
 {
     match object {
         Object::InputBoolean(input) => {
@@ -45,7 +45,7 @@ pub(crate) fn change_value(
         Object::ArchedBar(bar) => bar.value = word(value),
         Object::NumberVariable(variable) => variable.value = value,
         Object::ObjectPointer(pointer) => {
-            if !may_stand(Kind::ObjectPointer, Place::Value, id(value), named) {
+            if !may_stand(Kind::ObjectPointer, Place::Value, id(value), kind_of_other) {
                 return Err(error::VALUE);
             }
             pointer.value = id(value);
@@ -55,15 +55,15 @@ pub(crate) fn change_value(
     Ok(())
 }
 
-/// Sets the item at an index of a list. `named` is the kind of the item, or `None` if it is missing.
+/// Sets the item at an index of a list. `kind_of_other` is the kind of the item, or `None` if it is missing.
 pub(crate) fn change_item(
     object: &mut Object<Vec<u8>>,
-    named: Option<Kind>,
+    kind_of_other: Option<Kind>,
     index: u8,
     item: ObjectId,
 ) -> Result<(), u8>
-    ensures result { HasResult result (changes.change_item named index item (seen object.old)) }
-    ensures object { seen object.new ≡ left (seen object.old) (changes.change_item named index item (seen object.old)) }
+    ensures result { HasResult result (changes.change_item kind_of_other index item (seen object.old)) }
+    ensures object { seen object.new ≡ left (seen object.old) (changes.change_item kind_of_other index item (seen object.old)) }
 {
     let Object::InputList(list) = object else {
         return Err(error::OBJECT);
@@ -71,7 +71,7 @@ pub(crate) fn change_item(
     if index >= list.items.len() {
         return Err(error::INDEX);
     }
-    if !may_stand(Kind::InputList, Place::Item(index), item, named) {
+    if !may_stand(Kind::InputList, Place::Item(index), item, kind_of_other) {
         return Err(error::ITEM);
     }
     list.items.set(index, item);

@@ -8,7 +8,7 @@ pub is_in_order-requires : goal.is_in_order-requires
 is_in_order-requires g c =
     let m = g.S.Store.contents c.args.store.now in
     let n = g.S.Store.contents c.change_in.new.store in
-    let made = made_is m n c.args.command.now c.args.named c.requires.named c.in-Ok.ensures.result c.change_in.ensures.objects in
+    let made = made_is m n c.args.command.now c.args.kind_of_other c.requires.kind_of_other c.in-Ok.ensures.result c.change_in.ensures.objects in
     levels_replacing m n c.args.command.now c.args.replacement.now c.args.levels.now c.requires.replaces
     (replaces m n c.args.command.now c.args.replacement.now c.requires.replaces made) c.requires.levels
 
@@ -16,7 +16,7 @@ pub returns-then-is_in_order-clause-result : goal.returns-then-is_in_order-claus
 returns-then-is_in_order-clause-result g c =
     let m = g.S.Store.contents c.args.store.now in
     let n = g.S.Store.contents c.change_in.new.store in
-    let made = made_is m n c.args.command.now c.args.named c.requires.named c.in-Ok.ensures.result c.change_in.ensures.objects in
+    let made = made_is m n c.args.command.now c.args.kind_of_other c.requires.kind_of_other c.in-Ok.ensures.result c.change_in.ensures.objects in
     answers_done m n c.args.command.now
     (done m n c.args.command.now c.is_in_order.new.levels (sym c.fits-fits.ensures ∙ c.if-is_in_order.ensures.fits refl) (c.if-is_in_order.ensures.levels refl)
     (effect_replacing m n c.args.command.now c.args.replacement.now c.requires.replaces made))
@@ -25,7 +25,7 @@ pub returns-then-is_in_order-clause-objects : goal.returns-then-is_in_order-clau
 returns-then-is_in_order-clause-objects g c =
     let m = g.S.Store.contents c.args.store.now in
     let n = g.S.Store.contents c.change_in.new.store in
-    let made = made_is m n c.args.command.now c.args.named c.requires.named c.in-Ok.ensures.result c.change_in.ensures.objects in
+    let made = made_is m n c.args.command.now c.args.kind_of_other c.requires.kind_of_other c.in-Ok.ensures.result c.change_in.ensures.objects in
     after_done m n c.args.command.now
     (done m n c.args.command.now c.is_in_order.new.levels (sym c.fits-fits.ensures ∙ c.if-is_in_order.ensures.fits refl) (c.if-is_in_order.ensures.levels refl)
     (effect_replacing m n c.args.command.now c.args.replacement.now c.requires.replaces made))
@@ -33,7 +33,7 @@ returns-then-is_in_order-clause-objects g c =
 pub returns-in-Err-clause-result : goal.returns-in-Err-clause-result
 returns-in-Err-clause-result g c =
     let m = g.S.Store.contents c.args.store.now in
-    let failed = failed_is m c.args.command.now c.args.named c.in-Err.error c.requires.named c.in-Err.ensures.result in
+    let failed = failed_is m c.args.command.now c.args.kind_of_other c.in-Err.error c.requires.kind_of_other c.in-Err.ensures.result in
     answers_failed m c.args.command.now c.in-Err.error
     (effect_refused m c.args.command.now c.args.replacement.now c.in-Err.error c.requires.replaces failed)
 
@@ -41,16 +41,16 @@ pub returns-in-Err-clause-objects : goal.returns-in-Err-clause-objects
 returns-in-Err-clause-objects g c =
     let m = g.S.Store.contents c.args.store.now in
     let n = g.S.Store.contents c.change_in.new.store in
-    let failed = failed_is m c.args.command.now c.args.named c.in-Err.error c.requires.named c.in-Err.ensures.result in
+    let failed = failed_is m c.args.command.now c.args.kind_of_other c.in-Err.error c.requires.kind_of_other c.in-Err.ensures.result in
     after_failed m n c.args.command.now c.in-Err.error
     (effect_refused m c.args.command.now c.args.replacement.now c.in-Err.error c.requires.replaces failed)
-    (unchanged m n c.args.command.now c.args.named c.in-Err.error c.in-Err.ensures.result c.change_in.ensures.objects)
+    (unchanged m n c.args.command.now c.args.kind_of_other c.in-Err.error c.in-Err.ensures.result c.change_in.ensures.objects)
 
 pub returns-else-is_in_order-clause-result : goal.returns-else-is_in_order-clause-result
 returns-else-is_in_order-clause-result g c =
     let m = g.S.Store.contents c.args.store.now in
     let n = g.S.Store.contents c.change_in.new.store in
-    let made = made_is m n c.args.command.now c.args.named c.requires.named c.in-Ok.ensures.result c.change_in.ensures.objects in
+    let made = made_is m n c.args.command.now c.args.kind_of_other c.requires.kind_of_other c.in-Ok.ensures.result c.change_in.ensures.objects in
     answers_error m c.args.command.now c.value_error.result _ c.value_error.ensures
     (refused m n c.args.command.now (unfit (c.if-is_in_order.ensures.refused refl) c.fits-fits.ensures)
     (effect_replacing m n c.args.command.now c.args.replacement.now c.requires.replaces made))
@@ -60,7 +60,7 @@ returns-else-is_in_order-clause-objects g c =
     let m = g.S.Store.contents c.args.store.now in
     let n = g.S.Store.contents c.change_in.new.store in
     let last = g.S.Store.contents c.put_back.new.store in
-    let made = made_is m n c.args.command.now c.args.named c.requires.named c.in-Ok.ensures.result c.change_in.ensures.objects in
+    let made = made_is m n c.args.command.now c.args.kind_of_other c.requires.kind_of_other c.in-Ok.ensures.result c.change_in.ensures.objects in
     after_failed m last c.args.command.now _
     (refused m n c.args.command.now (unfit (c.if-is_in_order.ensures.refused refl) c.fits-fits.ensures)
     (effect_replacing m n c.args.command.now c.args.replacement.now c.requires.replaces made))
@@ -72,7 +72,7 @@ returns-else-is_in_order-clause-levels g c =
     let m = g.S.Store.contents c.args.store.now in
     let n = g.S.Store.contents c.change_in.new.store in
     let last = g.S.Store.contents c.put_back.new.store in
-    let made = made_is m n c.args.command.now c.args.named c.requires.named c.in-Ok.ensures.result c.change_in.ensures.objects in
+    let made = made_is m n c.args.command.now c.args.kind_of_other c.requires.kind_of_other c.in-Ok.ensures.result c.change_in.ensures.objects in
     subst (λ (k : ObjectMap). AreLevels k c.is_in_order.new.levels)
     (sym (put_back_is m n last c.args.command.now c.args.replacement.now c.requires.replaces
     (replaces m n c.args.command.now c.args.replacement.now c.requires.replaces made) c.put_back.ensures))

@@ -6,17 +6,17 @@ use Rattle.vt_effects.specs.Changes.{left, if_passed, child_at, placed, moved_ch
 use Rattle.vt_effects.specs.Errors.{bit}
 use Rattle.vt_effects.proofs.lemmas.objects.EntryChanges.{up_to, up_to_all}
 
-pub placed_all : (named : Option Kind) (entry : Child) (children now : List Child) (index : ℕ) → is_some named ≡ true → stands_in entry.id children ≡ true
+pub placed_all : (kind_of_other : Option Kind) (entry : Child) (children now : List Child) (index : ℕ) → is_some kind_of_other ≡ true → stands_in entry.id children ≡ true
     → now ≡ up_to (child_at entry.id (placed entry.x entry.y)) index children → length children ≡ index
-    → now ≡ left children (change_position named entry.id entry.x entry.y children)
+    → now ≡ left children (change_position kind_of_other entry.id entry.x entry.y children)
 placed_all None entry children now index some stands are all = absurd cc
 placed_all (Some kind) entry children now index some stands are all =
     are ∙ up_to_all (child_at entry.id (placed entry.x entry.y)) index children all
     ∙ sym (ap (λ (b : Bool). left children (if_passed b (bit 0) (move_child entry.id (placed entry.x entry.y) children))) stands)
 
-pub shifted_all : (named : Option Kind) (child dx dy : ℕ) (children now : List Child) (index : ℕ) → is_some named ≡ true → stands_in child children ≡ true
+pub shifted_all : (kind_of_other : Option Kind) (child dx dy : ℕ) (children now : List Child) (index : ℕ) → is_some kind_of_other ≡ true → stands_in child children ≡ true
     → leaves child dx dy children ≡ false → now ≡ up_to (child_at child (moved_child dx dy)) index children → length children ≡ index
-    → now ≡ left children (change_location named child dx dy children)
+    → now ≡ left children (change_location kind_of_other child dx dy children)
 shifted_all None child dx dy children now index some stands stays are all = absurd cc
 shifted_all (Some kind) child dx dy children now index some stands stays are all =
     are ∙ up_to_all (child_at child (moved_child dx dy)) index children all

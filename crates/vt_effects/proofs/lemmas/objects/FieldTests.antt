@@ -24,28 +24,28 @@ alike false true there back = back refl
 
 -- ---- references
 
-is_among : (kinds : Kinds) (named : Option Kind) → IsTrue (is_one_of kinds named) → IsAmong (members kinds) named
+is_among : (kinds : Kinds) (kind_of_other : Option Kind) → IsTrue (is_one_of kinds kind_of_other) → IsAmong (members kinds) kind_of_other
 is_among kinds None is = absurd cc
 is_among kinds (Some kind) is = is
 
-is_one : (kinds : Kinds) (named : Option Kind) → IsAmong (members kinds) named → IsTrue (is_one_of kinds named)
+is_one : (kinds : Kinds) (kind_of_other : Option Kind) → IsAmong (members kinds) kind_of_other → IsTrue (is_one_of kinds kind_of_other)
 is_one kinds None is = absurd is
 is_one kinds (Some kind) is = is
 
-stands : (kind : Kind) (place : Place) (id : ℕ) (named : Option Kind) (d : Bool) → (id == 0xFFFF) ≡ d
-    → IsTrue (cond d (may_be_null place) (is_one_of (allowed kind place) named)) → MayStand kind place id named
-stands kind place id named true null is = inl (eqb-true id 0xFFFF null, is)
-stands kind place id named false null is = inr (other, is_among (allowed kind place) named is)
+stands : (kind : Kind) (place : Place) (id : ℕ) (kind_of_other : Option Kind) (d : Bool) → (id == 0xFFFF) ≡ d
+    → IsTrue (cond d (may_be_null place) (is_one_of (allowed kind place) kind_of_other)) → MayStand kind place id kind_of_other
+stands kind place id kind_of_other true null is = inl (eqb-true id 0xFFFF null, is)
+stands kind place id kind_of_other false null is = inr (other, is_among (allowed kind place) kind_of_other is)
   where
     other : id ≢ 0xFFFF
     other e = let same : (id == 0xFFFF) ≡ true = eq-eqb id 0xFFFF e in absurd cc
 
-may : (kind : Kind) (place : Place) (id : ℕ) (named : Option Kind) (d : Bool) → (id == 0xFFFF) ≡ d
-    → MayStand kind place id named → IsTrue (cond d (may_be_null place) (is_one_of (allowed kind place) named))
-may kind place id named true null (inl is) = is.1
-may kind place id named true null (inr is) = absurd (is.0 (eqb-true id 0xFFFF null))
-may kind place id named false null (inl is) = let same : (id == 0xFFFF) ≡ true = eq-eqb id 0xFFFF is.0 in absurd cc
-may kind place id named false null (inr is) = is_one (allowed kind place) named is.1
+may : (kind : Kind) (place : Place) (id : ℕ) (kind_of_other : Option Kind) (d : Bool) → (id == 0xFFFF) ≡ d
+    → MayStand kind place id kind_of_other → IsTrue (cond d (may_be_null place) (is_one_of (allowed kind place) kind_of_other))
+may kind place id kind_of_other true null (inl is) = is.1
+may kind place id kind_of_other true null (inr is) = absurd (is.0 (eqb-true id 0xFFFF null))
+may kind place id kind_of_other false null (inl is) = let same : (id == 0xFFFF) ≡ true = eq-eqb id 0xFFFF is.0 in absurd cc
+may kind place id kind_of_other false null (inr is) = is_one (allowed kind place) kind_of_other is.1
 
 -- ---- scales
 
@@ -64,12 +64,12 @@ scale_is n _ e = subst (λ (m : ℕ). is_some (scale_at m) ≡ true) (sym e) ref
 
 -- ---- all types
 
-pub takes_is : (kind : Kind) (sort : ValueType) (n : ℕ) (named : Option Kind) (b : Bool) → n % 2 ^ 32 ≡ n → (IsTrue b → Accepts kind sort (lowest sort n) named)
-    → (Accepts kind sort (lowest sort n) named → IsTrue b) → b ≡ takes kind sort n named
-takes_is kind (types.Reference place) n named b fits there back =
-    alike b _ (λ is. may kind place (low_word n) named (low_word n == 0xFFFF) refl (there is)) (λ is. back (stands kind place (low_word n) named (low_word n == 0xFFFF) refl is))
-takes_is kind types.Priority n named b fits there back = alike b _ (λ is. le-leb (n % 256) 2 (there is)) (λ is. back (leb-true (n % 256) 2 is))
-takes_is kind types.Scale n named b fits there back =
+pub takes_is : (kind : Kind) (sort : ValueType) (n : ℕ) (kind_of_other : Option Kind) (b : Bool) → n % 2 ^ 32 ≡ n → (IsTrue b → Accepts kind sort (lowest sort n) kind_of_other)
+    → (Accepts kind sort (lowest sort n) kind_of_other → IsTrue b) → b ≡ takes kind sort n kind_of_other
+takes_is kind (types.Reference place) n kind_of_other b fits there back =
+    alike b _ (λ is. may kind place (low_word n) kind_of_other (low_word n == 0xFFFF) refl (there is)) (λ is. back (stands kind place (low_word n) kind_of_other (low_word n == 0xFFFF) refl is))
+takes_is kind types.Priority n kind_of_other b fits there back = alike b _ (λ is. le-leb (n % 256) 2 (there is)) (λ is. back (leb-true (n % 256) 2 is))
+takes_is kind types.Scale n kind_of_other b fits there back =
     alike b _ (λ is. subst (λ (m : ℕ). is_some (scale_at m) ≡ true) fits (scale_is (n % 2 ^ 32) (there is).0 (there is).1)) (λ is. back (is_scale (n % 2 ^ 32) (subst (λ (m : ℕ). is_some (scale_at m) ≡ true) (sym fits) is)))
-takes_is kind types.Decimals n named b fits there back = alike b _ (λ is. le-leb (n % 256) 7 (there is)) (λ is. back (leb-true (n % 256) 7 is))
-takes_is kind _ n named b fits there back = back tt
+takes_is kind types.Decimals n kind_of_other b fits there back = alike b _ (λ is. le-leb (n % 256) 7 (there is)) (λ is. back (leb-true (n % 256) 7 is))
+takes_is kind _ n kind_of_other b fits there back = back tt

@@ -34,8 +34,8 @@ record Leaves (P : Slot → Type 0) (o : Seen) (made : Result Seen ℕ) : Type 0
 
 -- the slots that a command may write have a property
 abbrev pub MayWrite : (Slot → Type 0) → Command → Option Kind → Kind → Type 0
-MayWrite P command named kind =
-    (place : Place) (id : ℕ) → other_id command ≡ Some id → writes command place kind ≡ true → may_stand kind place id named ≡ true → P (slot kind place id)
+MayWrite P command kind_of_other kind =
+    (place : Place) (id : ℕ) → other_id command ≡ Some id → writes command place kind ≡ true → may_stand kind place id kind_of_other ≡ true → P (slot kind place id)
 
 -- ---- children keep their IDs
 
@@ -54,8 +54,8 @@ moved_ids : (child : ℕ) (move : Child → Child) → ((c : Child) → Child.id
 moved_ids child move same [] = refl
 moved_ids child move same (c ∷ children) = cc (moved_id child move c (same c), moved_ids child move same children)
 
-child_stays : (child : ℕ) (named : Option Kind) (children : List Child) (made : Result (List Child) ℕ) → ids (left children made) ≡ ids children
-    → ids (left children (for_child child named children made)) ≡ ids children
+child_stays : (child : ℕ) (kind_of_other : Option Kind) (children : List Child) (made : Result (List Child) ℕ) → ids (left children made) ≡ ids children
+    → ids (left children (for_child child kind_of_other children made)) ≡ ids children
 child_stays child None children made stay = refl
 child_stays child (Some kind) children made stay = by (stands_in child children)
   where
@@ -63,15 +63,15 @@ child_stays child (Some kind) children made stay = by (stands_in child children)
     by true = stay
     by false = refl
 
-location_stays : (named : Option Kind) (child dx dy : ℕ) (children : List Child) → ids (left children (change_location named child dx dy children)) ≡ ids children
-location_stays named child dx dy children = child_stays child named children _ (by (leaves child dx dy children))
+location_stays : (kind_of_other : Option Kind) (child dx dy : ℕ) (children : List Child) → ids (left children (change_location kind_of_other child dx dy children)) ≡ ids children
+location_stays kind_of_other child dx dy children = child_stays child kind_of_other children _ (by (leaves child dx dy children))
   where
     by : (b : Bool) → ids (left children (if_passed (not b) (bit 4) (move_child child (moved_child dx dy) children))) ≡ ids children
     by true = refl
     by false = moved_ids child (moved_child dx dy) (λ c. refl) children
 
-position_stays : (named : Option Kind) (child : ℕ) (x y : ℤ) (children : List Child) → ids (left children (change_position named child x y children)) ≡ ids children
-position_stays named child x y children = child_stays child named children _ (moved_ids child (placed x y) (λ c. refl) children)
+position_stays : (kind_of_other : Option Kind) (child : ℕ) (x y : ℤ) (children : List Child) → ids (left children (change_position kind_of_other child x y children)) ≡ ids children
+position_stays kind_of_other child x y children = child_stays child kind_of_other children _ (moved_ids child (placed x y) (λ c. refl) children)
 
 -- ---- attributes by number
 
@@ -93,10 +93,10 @@ at_attribute Q kinds.InputList number all = by (number == 5)
     by false = at_number Q (attributes_of kinds.InputList) number all.1
 at_attribute Q kind number all = at_number Q (attributes_of kind) number all.1
 
-mask_may : (mask : ℕ) (named : Option Kind) → is_one_of sets.Masks named ≡ true → may_stand kinds.WorkingSet places.ActiveMask mask named ≡ true
-mask_may mask named is = by (mask == 0xFFFF)
+mask_may : (mask : ℕ) (kind_of_other : Option Kind) → is_one_of sets.Masks kind_of_other ≡ true → may_stand kinds.WorkingSet places.ActiveMask mask kind_of_other ≡ true
+mask_may mask kind_of_other is = by (mask == 0xFFFF)
   where
-    by : (b : Bool) → cond b true (is_one_of sets.Masks named) ≡ true
+    by : (b : Bool) → cond b true (is_one_of sets.Masks kind_of_other) ≡ true
     by true = refl
     by false = is
 
@@ -149,15 +149,15 @@ module _ (P : Slot → Type 0) where
   Given kind n (types.Reference place) = cond (is_attribute place kind) (P (slot kind place (low_word n))) (Unit {0})
   Given kind n _ = Unit {0}
 
-  given_by : (named : Option Kind) (kind : Kind) (n : ℕ)
-      → ((place : Place) → is_attribute place kind ≡ true → may_stand kind place (low_word n) named ≡ true → P (slot kind place (low_word n)))
-      → (type : ValueType) → takes kind type n named ≡ true → Given kind n type
-  given_by named kind n may (types.Reference place) passed = by (is_attribute place kind) refl
+  given_by : (kind_of_other : Option Kind) (kind : Kind) (n : ℕ)
+      → ((place : Place) → is_attribute place kind ≡ true → may_stand kind place (low_word n) kind_of_other ≡ true → P (slot kind place (low_word n)))
+      → (type : ValueType) → takes kind type n kind_of_other ≡ true → Given kind n type
+  given_by kind_of_other kind n may (types.Reference place) passed = by (is_attribute place kind) refl
     where
       by : (b : Bool) → is_attribute place kind ≡ b → cond b (P (slot kind place (low_word n))) (Unit {0})
       by true is = may place is passed
       by false is = tt
-  given_by named kind n may _ passed = tt
+  given_by kind_of_other kind n may _ passed = tt
 
   -- an attribute that may be written
   abbrev IsPut : ℕ → Seen → Attribute → Type 0
@@ -167,61 +167,61 @@ module _ (P : Slot → Type 0) where
   fields_leave n (objects.WorkingSet o) old = assumption
   fields_leave n _ old = assumption
 
-  attribute_leaves : (named : Option Kind) (n : ℕ) (o : Seen) (found : Option Attribute) → IfSome found (IsPut n o) → AllByRecursion P (slots_of o)
-      → ((type : ValueType) → takes (kind_of o) type n named ≡ true → Given (kind_of o) n type) → Leaves P o (put_attribute found named n o)
-  attribute_leaves named n o None put old given = assumption
-  attribute_leaves named n o (Some a) put old given = tested _ _ _ _ old (λ passed. put (given a.value_type passed))
+  attribute_leaves : (kind_of_other : Option Kind) (n : ℕ) (o : Seen) (found : Option Attribute) → IfSome found (IsPut n o) → AllByRecursion P (slots_of o)
+      → ((type : ValueType) → takes (kind_of o) type n kind_of_other ≡ true → Given (kind_of o) n type) → Leaves P o (put_attribute found kind_of_other n o)
+  attribute_leaves kind_of_other n o None put old given = assumption
+  attribute_leaves kind_of_other n o (Some a) put old given = tested _ _ _ _ old (λ passed. put (given a.value_type passed))
 
-  commands_leave : (command : Command) (named : Option Kind) (o : Seen) → AllByRecursion P (slots_of o) → MayWrite P command named (kind_of o)
-      → Leaves P o (changed command named o)
-  commands_leave (HideShow id state) named (objects.Container o) old may = passes _ _ _ _ refl old (λ _. old)
-  commands_leave (EnableDisable id state) named (objects.InputBoolean o) old may = passes _ _ _ _ refl old (λ _. old)
-  commands_leave (EnableDisable id state) named (objects.InputString o) old may = passes _ _ _ _ refl old (λ _. old)
-  commands_leave (EnableDisable id state) named (objects.InputNumber o) old may = passes _ _ _ _ refl old (λ _. old)
-  commands_leave (EnableDisable id state) named (objects.InputList o) old may = passes _ _ _ _ refl old (λ _. old)
-  commands_leave (ChangeChildLocation parent child dx dy) named o old may = in_parent_leaves _ o (location_stays named child dx dy) old
-  commands_leave (ChangeSize id width height) named (objects.Container o) old may = assumption
-  commands_leave (ChangeBackgroundColour id colour) named (objects.WorkingSet o) old may = assumption
-  commands_leave (ChangeNumericValue id value) named (objects.InputBoolean o) old may = passes _ _ _ _ refl old (λ _. old)
-  commands_leave (ChangeNumericValue id value) named (objects.InputNumber o) old may = passes _ _ _ _ refl old (λ _. old)
-  commands_leave (ChangeNumericValue id value) named (objects.InputList o) old may = passes _ _ _ _ refl old (λ _. old)
-  commands_leave (ChangeNumericValue id value) named (objects.ObjectPointer o) old may =
+  commands_leave : (command : Command) (kind_of_other : Option Kind) (o : Seen) → AllByRecursion P (slots_of o) → MayWrite P command kind_of_other (kind_of o)
+      → Leaves P o (changed command kind_of_other o)
+  commands_leave (HideShow id state) kind_of_other (objects.Container o) old may = passes _ _ _ _ refl old (λ _. old)
+  commands_leave (EnableDisable id state) kind_of_other (objects.InputBoolean o) old may = passes _ _ _ _ refl old (λ _. old)
+  commands_leave (EnableDisable id state) kind_of_other (objects.InputString o) old may = passes _ _ _ _ refl old (λ _. old)
+  commands_leave (EnableDisable id state) kind_of_other (objects.InputNumber o) old may = passes _ _ _ _ refl old (λ _. old)
+  commands_leave (EnableDisable id state) kind_of_other (objects.InputList o) old may = passes _ _ _ _ refl old (λ _. old)
+  commands_leave (ChangeChildLocation parent child dx dy) kind_of_other o old may = in_parent_leaves _ o (location_stays kind_of_other child dx dy) old
+  commands_leave (ChangeSize id width height) kind_of_other (objects.Container o) old may = assumption
+  commands_leave (ChangeBackgroundColour id colour) kind_of_other (objects.WorkingSet o) old may = assumption
+  commands_leave (ChangeNumericValue id value) kind_of_other (objects.InputBoolean o) old may = passes _ _ _ _ refl old (λ _. old)
+  commands_leave (ChangeNumericValue id value) kind_of_other (objects.InputNumber o) old may = passes _ _ _ _ refl old (λ _. old)
+  commands_leave (ChangeNumericValue id value) kind_of_other (objects.InputList o) old may = passes _ _ _ _ refl old (λ _. old)
+  commands_leave (ChangeNumericValue id value) kind_of_other (objects.ObjectPointer o) old may =
       passes _ _ _ _ refl old (λ passed. (may places.Value (low_word value) refl refl passed, tt))
-  commands_leave (ChangeEndPoint id width height direction) named (objects.Line o) old may = passes _ _ _ _ refl old (λ _. old)
-  commands_leave (ChangeFontAttributes id colour size type style) named (objects.Font o) old may = assumption
-  commands_leave (ChangeLineAttributes id colour width art) named (objects.LineAttributes o) old may = assumption
-  commands_leave (ChangeFillAttributes id type colour pattern) named (objects.FillAttributes o) old may =
+  commands_leave (ChangeEndPoint id width height direction) kind_of_other (objects.Line o) old may = passes _ _ _ _ refl old (λ _. old)
+  commands_leave (ChangeFontAttributes id colour size type style) kind_of_other (objects.Font o) old may = assumption
+  commands_leave (ChangeLineAttributes id colour width art) kind_of_other (objects.LineAttributes o) old may = assumption
+  commands_leave (ChangeFillAttributes id type colour pattern) kind_of_other (objects.FillAttributes o) old may =
       passes _ _ _ _ refl old (λ passed. (may places.Pattern pattern refl refl passed, tt))
-  commands_leave (ChangeActiveMask id mask) named (objects.WorkingSet o) old may =
-      passes _ _ _ _ refl old (λ passed. (may places.ActiveMask mask refl refl (mask_may mask named passed), old.1))
-  commands_leave (ChangeSoftKeyMask type mask keys) named (objects.DataMask o) old may =
+  commands_leave (ChangeActiveMask id mask) kind_of_other (objects.WorkingSet o) old may =
+      passes _ _ _ _ refl old (λ passed. (may places.ActiveMask mask refl refl (mask_may mask kind_of_other passed), old.1))
+  commands_leave (ChangeSoftKeyMask type mask keys) kind_of_other (objects.DataMask o) old may =
       both_pass _ _ _ _ _ _ refl old (λ passed. (may places.SoftKeyMask keys refl refl passed, old.1))
-  commands_leave (ChangeSoftKeyMask type mask keys) named (objects.AlarmMask o) old may =
+  commands_leave (ChangeSoftKeyMask type mask keys) kind_of_other (objects.AlarmMask o) old may =
       both_pass _ _ _ _ _ _ refl old (λ passed. (may places.SoftKeyMask keys refl refl passed, old.1))
-  commands_leave (ChangeAttribute id number value) named o old may =
-      tested _ _ _ _ old (λ _. attribute_leaves named value o _ (at_attribute (IsPut value o) (kind_of o) number (fields_leave value o old)) old
-      (given_by named (kind_of o) value (λ place. may place (low_word value) refl)))
-  commands_leave (ChangePriority id priority) named (objects.AlarmMask o) old may = passes _ _ _ _ refl old (λ _. old)
-  commands_leave (ChangeListItem id index item) named (objects.InputList o) old may =
+  commands_leave (ChangeAttribute id number value) kind_of_other o old may =
+      tested _ _ _ _ old (λ _. attribute_leaves kind_of_other value o _ (at_attribute (IsPut value o) (kind_of o) number (fields_leave value o old)) old
+      (given_by kind_of_other (kind_of o) value (λ place. may place (low_word value) refl)))
+  commands_leave (ChangePriority id priority) kind_of_other (objects.AlarmMask o) old may = passes _ _ _ _ refl old (λ _. old)
+  commands_leave (ChangeListItem id index item) kind_of_other (objects.InputList o) old may =
       both_pass _ _ _ _ _ _ refl old (λ passed.
       (old.0, listed_set kinds.InputList 0 index index item o.items (omega arith) old.1 (may (places.Item index) item refl (eq-eqb index index refl) passed)))
-  commands_leave (ChangeStringValue id count text) named (objects.InputString o) old may = passes _ _ _ _ refl old (λ _. old)
-  commands_leave (ChangeStringValue id count text) named (objects.OutputString o) old may = passes _ _ _ _ refl old (λ _. old)
-  commands_leave (ChangeStringValue id count text) named (objects.StringVariable o) old may = passes _ _ _ _ refl old (λ _. old)
-  commands_leave (ChangeChildPosition parent child x y) named o old may = in_parent_leaves _ o (position_stays named child x y) old
-  commands_leave (ExecuteMacro id) named (objects.Macro o) old may = passes _ _ _ _ refl old (λ _. old)
-  commands_leave _ named _ old may = assumption
+  commands_leave (ChangeStringValue id count text) kind_of_other (objects.InputString o) old may = passes _ _ _ _ refl old (λ _. old)
+  commands_leave (ChangeStringValue id count text) kind_of_other (objects.OutputString o) old may = passes _ _ _ _ refl old (λ _. old)
+  commands_leave (ChangeStringValue id count text) kind_of_other (objects.StringVariable o) old may = passes _ _ _ _ refl old (λ _. old)
+  commands_leave (ChangeChildPosition parent child x y) kind_of_other o old may = in_parent_leaves _ o (position_stays kind_of_other child x y) old
+  commands_leave (ExecuteMacro id) kind_of_other (objects.Macro o) old may = passes _ _ _ _ refl old (λ _. old)
+  commands_leave _ kind_of_other _ old may = assumption
 
-  pub slots_after : (command : Command) (named : Option Kind) (o : Seen) → AllByRecursion P (slots_of o) → MayWrite P command named (kind_of o)
-      → AllByRecursion P (slots_of (left o (changed command named o)))
-  slots_after command named o old may = Leaves.slots (commands_leave command named o old may)
+  pub slots_after : (command : Command) (kind_of_other : Option Kind) (o : Seen) → AllByRecursion P (slots_of o) → MayWrite P command kind_of_other (kind_of o)
+      → AllByRecursion P (slots_of (left o (changed command kind_of_other o)))
+  slots_after command kind_of_other o old may = Leaves.slots (commands_leave command kind_of_other o old may)
 
-pub changes_keep : (command : Command) (named : Option Kind) (o : Seen) → fixed (left o (changed command named o)) ≡ fixed o
-changes_keep command named o =
-    Leaves.kept (commands_leave (λ s. Unit {0}) command named o (recursion_from_All (λ s. Unit {0}) (slots_of o) (λ k d lt. tt)) (λ place id other written stands. tt))
+pub changes_keep : (command : Command) (kind_of_other : Option Kind) (o : Seen) → fixed (left o (changed command kind_of_other o)) ≡ fixed o
+changes_keep command kind_of_other o =
+    Leaves.kept (commands_leave (λ s. Unit {0}) command kind_of_other o (recursion_from_All (λ s. Unit {0}) (slots_of o) (λ k d lt. tt)) (λ place id other written stands. tt))
 
-pub references_written : (command : Command) (named : Option Kind) (o : Seen)
-    → AllByRecursion (λ s. Contains (slots_of o) s ⊎ IsWritten command named (kind_of o) s) (slots_of (left o (changed command named o)))
-references_written command named o =
-    slots_after _ command named o (recursion_from_All _ (slots_of o) (λ k d lt. inl (Contains-get_or (slots_of o) k d lt)))
+pub references_written : (command : Command) (kind_of_other : Option Kind) (o : Seen)
+    → AllByRecursion (λ s. Contains (slots_of o) s ⊎ IsWritten command kind_of_other (kind_of o) s) (slots_of (left o (changed command kind_of_other o)))
+references_written command kind_of_other o =
+    slots_after _ command kind_of_other o (recursion_from_All _ (slots_of o) (λ k d lt. inl (Contains-get_or (slots_of o) k d lt)))
     (λ place id other written stands. inr (record { place = place; id = id; is = refl; other = other; written = written; stands = stands }))

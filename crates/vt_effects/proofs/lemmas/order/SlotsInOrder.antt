@@ -31,11 +31,11 @@ pub passed_is : (test : Bool) (error : ℕ) (x new : Seen) → ◌≡◌ {A = Re
 passed_is true error x new is = cc
 passed_is false error x new is = absurd cc
 
-pub attribute_of_pointer : (named : Option Kind) (number value : ℕ) (p : ObjectPointer) (new : Seen)
-    → ◌≡◌ {A = Result Seen ℕ} (change_attribute named number value (objects.ObjectPointer p)) (Ok new) → objects.ObjectPointer (record p { value = low_word value }) ≡ new
-attribute_of_pointer named zero value p new made = absurd cc
-attribute_of_pointer named (suc zero) value p new made = passed_is _ _ (objects.ObjectPointer (record p { value = low_word value })) new made
-attribute_of_pointer named (suc (suc number)) value p new made = absurd cc
+pub attribute_of_pointer : (kind_of_other : Option Kind) (number value : ℕ) (p : ObjectPointer) (new : Seen)
+    → ◌≡◌ {A = Result Seen ℕ} (change_attribute kind_of_other number value (objects.ObjectPointer p)) (Ok new) → objects.ObjectPointer (record p { value = low_word value }) ≡ new
+attribute_of_pointer kind_of_other zero value p new made = absurd cc
+attribute_of_pointer kind_of_other (suc zero) value p new made = passed_is _ _ (objects.ObjectPointer (record p { value = low_word value })) new made
+attribute_of_pointer kind_of_other (suc (suc number)) value p new made = absurd cc
 
 allowed_value : (m after : ObjectMap) (id it value : ℕ) (p : ObjectPointer) (new : Seen) → finite.get m id ≡ Some (objects.ObjectPointer p) → Some it ≡ Some id
     → objects.ObjectPointer (record p { value = low_word value }) ≡ new → pointer_may m it (low_word value) (pointer_value (finite.get m it)) after ≡ true
@@ -46,13 +46,13 @@ allowed_value m after id it value p new at for is kept w has =
     (subst (λ (o : Option Seen). pointer_may m id (low_word value) (pointer_value o) after ≡ true) at
     (subst (λ (i : ℕ). pointer_may m i (low_word value) (pointer_value (finite.get m i)) after ≡ true) (same_Some it id for) kept)))
 
-new_value : (m after : ObjectMap) (id : ℕ) (p : ObjectPointer) (new : Seen) (command : Command) (named : Option Kind) → finite.get m id ≡ Some (objects.ObjectPointer p)
-    → object_of command ≡ Some id → ◌≡◌ {A = Result Seen ℕ} (changed command named (objects.ObjectPointer p)) (Ok new) → keeps_order m command after ≡ true
+new_value : (m after : ObjectMap) (id : ℕ) (p : ObjectPointer) (new : Seen) (command : Command) (kind_of_other : Option Kind) → finite.get m id ≡ Some (objects.ObjectPointer p)
+    → object_of command ≡ Some id → ◌≡◌ {A = Result Seen ℕ} (changed command kind_of_other (objects.ObjectPointer p)) (Ok new) → keeps_order m command after ≡ true
     → (w : ℕ) → pointer_value (Some new) ≡ Some w → places_allow m id w ≡ true
-new_value m after id p new (ChangeNumericValue it value) named at for made kept w is = allowed_value m after id it value p new at for (passed_is _ _ _ new made) kept w is
-new_value m after id p new (ChangeAttribute it number value) named at for made kept w is =
-    allowed_value m after id it value p new at for (attribute_of_pointer named number value p new made) kept w is
-new_value m after id p new _ named at for made kept w is = absurd cc
+new_value m after id p new (ChangeNumericValue it value) kind_of_other at for made kept w is = allowed_value m after id it value p new at for (passed_is _ _ _ new made) kept w is
+new_value m after id p new (ChangeAttribute it number value) kind_of_other at for made kept w is =
+    allowed_value m after id it value p new at for (attribute_of_pointer kind_of_other number value p new made) kept w is
+new_value m after id p new _ kind_of_other at for made kept w is = absurd cc
 
 -- all references to the pointer allow its new value
 allowing : (m : ObjectMap) (id : ℕ) (old new : Seen) (command : Command) → Made m id old new command → Allowing m id new (all_slots m)

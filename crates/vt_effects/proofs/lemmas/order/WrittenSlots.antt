@@ -74,9 +74,9 @@ plain_in_order m kind place id other may =
 
 -- ---- items of lists
 
-pub list_changed : (named : Option Kind) (index item : ℕ) (o new : Seen) → ◌≡◌ {A = Result Seen ℕ} (change_item named index item o) (Ok new) → pointer_value (Some o) ≡ None
-list_changed named index item (objects.InputList o) new made = refl
-list_changed named index item _ new made = absurd cc
+pub list_changed : (kind_of_other : Option Kind) (index item : ℕ) (o new : Seen) → ◌≡◌ {A = Result Seen ℕ} (change_item kind_of_other index item o) (Ok new) → pointer_value (Some o) ≡ None
+list_changed kind_of_other index item (objects.InputList o) new made = refl
+list_changed kind_of_other index item _ new made = absurd cc
 
 drawn : (m : ObjectMap) (w : ℕ) (v : Option ℕ) → v ≡ Some w → value_drawn m v ≡ true → cond (w == 0xFFFF) true (is_one_of sets.Drawn (kind_in m w)) ≡ true
 drawn m w None is all = absurd cc

@@ -163,14 +163,14 @@ refused m n command (inr long) is =
 
 -- ---- the stores after the calls
 
-pub made_is : (m n : ObjectMap) (command : Command) (named : Option Kind) → named ≡ other_kind m (other_id command) → HasResult (Ok tt) (changed_by m command named)
-    → n ≡ left m (changed_by m command named) → ◌≡◌ {A = Result ObjectMap ℕ} (changed_by m command (other_kind m (other_id command))) (Ok n)
-made_is m n command named same ok is =
-    ap (changed_by m command) (sym same) ∙ answered (changed_by m command named) m ok ∙ ap Ok (sym is)
+pub made_is : (m n : ObjectMap) (command : Command) (kind_of_other : Option Kind) → kind_of_other ≡ other_kind m (other_id command) → HasResult (Ok tt) (changed_by m command kind_of_other)
+    → n ≡ left m (changed_by m command kind_of_other) → ◌≡◌ {A = Result ObjectMap ℕ} (changed_by m command (other_kind m (other_id command))) (Ok n)
+made_is m n command kind_of_other same ok is =
+    ap (changed_by m command) (sym same) ∙ answered (changed_by m command kind_of_other) m ok ∙ ap Ok (sym is)
 
-pub failed_is : (m : ObjectMap) (command : Command) (named : Option Kind) (error : ℕ) → named ≡ other_kind m (other_id command)
-    → HasResult (Err error) (changed_by m command named) → ◌≡◌ {A = Result ObjectMap ℕ} (changed_by m command (other_kind m (other_id command))) (Err error)
-failed_is m command named error same failed = ap (changed_by m command) (sym same) ∙ answered_error error (changed_by m command named) failed
+pub failed_is : (m : ObjectMap) (command : Command) (kind_of_other : Option Kind) (error : ℕ) → kind_of_other ≡ other_kind m (other_id command)
+    → HasResult (Err error) (changed_by m command kind_of_other) → ◌≡◌ {A = Result ObjectMap ℕ} (changed_by m command (other_kind m (other_id command))) (Err error)
+failed_is m command kind_of_other error same failed = ap (changed_by m command) (sym same) ∙ answered_error error (changed_by m command kind_of_other) failed
 
 pub answers_done : (m n : ObjectMap) (command : Command) → ◌≡◌ {A = Result ObjectMap ℕ} (effect m command) (Ok n) → HasResult (Ok tt) (effect m command)
 answers_done m n command is = subst (λ (x : Result ObjectMap ℕ). HasResult (Ok tt) x) (sym is) tt
@@ -184,9 +184,9 @@ after_done m n command is = sym (ap (left m) is)
 pub after_failed : (m n : ObjectMap) (command : Command) (error : ℕ) → ◌≡◌ {A = Result ObjectMap ℕ} (effect m command) (Err error) → n ≡ m → n ≡ after m command
 after_failed m n command error is same = same ∙ sym (ap (left m) is)
 
-pub unchanged : (m n : ObjectMap) (command : Command) (named : Option Kind) (error : ℕ) → HasResult (Err error) (changed_by m command named)
-    → n ≡ left m (changed_by m command named) → n ≡ m
-unchanged m n command named error failed is = is ∙ ap (left m) (answered_error error (changed_by m command named) failed)
+pub unchanged : (m n : ObjectMap) (command : Command) (kind_of_other : Option Kind) (error : ℕ) → HasResult (Err error) (changed_by m command kind_of_other)
+    → n ≡ left m (changed_by m command kind_of_other) → n ≡ m
+unchanged m n command kind_of_other error failed is = is ∙ ap (left m) (answered_error error (changed_by m command kind_of_other) failed)
 
 pub unfit : {A : Type 0} {b c : Bool} → (b ≡ false) ⊎ A → b ≡ c → (c ≡ false) ⊎ A
 unfit (inl is) same = inl (sym same ∙ is)

@@ -39,19 +39,19 @@ pointer_back : (p : ObjectPointer) (new : Seen) (command : Command) (value befor
 pointer_back p new command value before is at back =
     ap (restored command before) (sym is) ∙ back ∙ ap (λ (v : ℕ). objects.ObjectPointer (record p { value = v })) (sym at)
 
-number_back : (named : Option Kind) (it value before : ℕ) (old new : Seen)
-    → ◌≡◌ {A = Result Seen ℕ} (changed (ChangeNumericValue it value) named old) (Ok new) → pointer_value (Some old) ≡ Some before
+number_back : (kind_of_other : Option Kind) (it value before : ℕ) (old new : Seen)
+    → ◌≡◌ {A = Result Seen ℕ} (changed (ChangeNumericValue it value) kind_of_other old) (Ok new) → pointer_value (Some old) ≡ Some before
     → restored (ChangeNumericValue it value) before new ≡ old
-number_back named it value before (objects.ObjectPointer p) new made at =
+number_back kind_of_other it value before (objects.ObjectPointer p) new made at =
     pointer_back p new (ChangeNumericValue it value) (low_word value) before (passed_is _ _ (objects.ObjectPointer (record p { value = low_word value })) new made) (same_Some p.value before at) refl
-number_back named it value before _ new made at = absurd cc
+number_back kind_of_other it value before _ new made at = absurd cc
 
-attribute_back : (named : Option Kind) (it number value before : ℕ) (old new : Seen)
-    → ◌≡◌ {A = Result Seen ℕ} (changed (ChangeAttribute it number value) named old) (Ok new) → pointer_value (Some old) ≡ Some before
+attribute_back : (kind_of_other : Option Kind) (it number value before : ℕ) (old new : Seen)
+    → ◌≡◌ {A = Result Seen ℕ} (changed (ChangeAttribute it number value) kind_of_other old) (Ok new) → pointer_value (Some old) ≡ Some before
     → restored (ChangeAttribute it number value) before new ≡ old
-attribute_back named it number value before (objects.ObjectPointer p) new made at =
-    pointer_back p new (ChangeAttribute it number value) (low_word value) before (attribute_of_pointer named number value p new made) (same_Some p.value before at) refl
-attribute_back named it number value before _ new made at = absurd cc
+attribute_back kind_of_other it number value before (objects.ObjectPointer p) new made at =
+    pointer_back p new (ChangeAttribute it number value) (low_word value) before (attribute_of_pointer kind_of_other number value p new made) (same_Some p.value before at) refl
+attribute_back kind_of_other it number value before _ new made at = absurd cc
 
 list_by : (o : InputList) (b c : Bool) (index item before list : ℕ) (new : Seen)
     → ◌≡◌ {A = Result Seen ℕ} (cond b (if_passed c (bit 2) (objects.InputList (record o { items = set o.items index item }))) (Err (bit 1))) (Ok new)
@@ -61,12 +61,12 @@ list_by o true c index item before list new made at =
     ∙ ap (λ (l : List ℕ). objects.InputList (record o { items = l })) (set_back o.items index item before at)
 list_by o false c index item before list new made at = absurd cc
 
-item_back : (named : Option Kind) (list index item before : ℕ) (old new : Seen)
-    → ◌≡◌ {A = Result Seen ℕ} (changed (ChangeListItem list index item) named old) (Ok new) → item_at index (Some old) ≡ Some before
+item_back : (kind_of_other : Option Kind) (list index item before : ℕ) (old new : Seen)
+    → ◌≡◌ {A = Result Seen ℕ} (changed (ChangeListItem list index item) kind_of_other old) (Ok new) → item_at index (Some old) ≡ Some before
     → restored (ChangeListItem list index item) before new ≡ old
-item_back named list index item before (objects.InputList o) new made at =
-    list_by o (nat_lt index (length o.items)) (may_stand kinds.InputList (places.Item index) item named) index item before list new made at
-item_back named list index item before _ new made at = absurd cc
+item_back kind_of_other list index item before (objects.InputList o) new made at =
+    list_by o (nat_lt index (length o.items)) (may_stand kinds.InputList (places.Item index) item kind_of_other) index item before list new made at
+item_back kind_of_other list index item before _ new made at = absurd cc
 
 -- ---- a command that replaces an ID
 
@@ -122,10 +122,10 @@ item_by : (xs : List ℕ) (i : ℕ) (b : Bool) (made : Result Seen ℕ) (new : S
 item_by xs i true made new lt ok none = let at = someone xs i (ltb-true i (length xs) lt) in cc (at.1)
 item_by xs i false made new lt ok none = cc
 
-item_there : (named : Option Kind) (index item : ℕ) (o new : Seen) → ◌≡◌ {A = Result Seen ℕ} (change_item named index item o) (Ok new)
+item_there : (kind_of_other : Option Kind) (index item : ℕ) (o new : Seen) → ◌≡◌ {A = Result Seen ℕ} (change_item kind_of_other index item o) (Ok new)
     → item_at index (Some o) ≡ None → ⊥
-item_there named index item (objects.InputList o) new made none = item_by o.items index (nat_lt index (length o.items)) _ new refl made none
-item_there named index item _ new made none = cc
+item_there kind_of_other index item (objects.InputList o) new made none = item_by o.items index (nat_lt index (length o.items)) _ new refl made none
+item_there kind_of_other index item _ new made none = cc
 
 -- a changed item had a former item
 pub item_replaced : (m : ObjectMap) (id : ℕ) (old new : Seen) (list index item : ℕ) → Changed m id old new (ChangeListItem list index item)

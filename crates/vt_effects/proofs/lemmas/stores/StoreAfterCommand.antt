@@ -13,12 +13,12 @@ settled : (m : ObjectMap) (id : ℕ) (old : Seen) (made : Result Seen ℕ) → f
 settled m id old (Ok o) at = refl
 settled m id old (Err error) at = put_back m m id old at (λ q other. refl)
 
-pub put_left : (m after : ObjectMap) (id : ℕ) (command : Command) (named : Option Kind) (old new : Seen) → Some old ≡ finite.get m id
-    → after ≡ with_object m id new → new ≡ left old (changed command named old) → after ≡ left m (changed_in m id command named)
-put_left m after id command named old new at wrote is =
+pub put_left : (m after : ObjectMap) (id : ℕ) (command : Command) (kind_of_other : Option Kind) (old new : Seen) → Some old ≡ finite.get m id
+    → after ≡ with_object m id new → new ≡ left old (changed command kind_of_other old) → after ≡ left m (changed_in m id command kind_of_other)
+put_left m after id command kind_of_other old new at wrote is =
     wrote ∙ ap (λ (f : Option Seen). replaced f m id new) (sym at) ∙ ap (finite.insert m id) is
-    ∙ settled m id old (changed command named old) (sym at)
-    ∙ ap (λ (f : Option Seen). left m (changed_at m id command named f)) at
+    ∙ settled m id old (changed command kind_of_other old) (sym at)
+    ∙ ap (λ (f : Option Seen). left m (changed_at m id command kind_of_other f)) at
 
 answers_put : (r : Result (Unit {0}) ℕ) (m : ObjectMap) (id : ℕ) (made : Result Seen ℕ) → HasResult r made → HasResult r (insert_ok m id made)
 answers_put (Ok done) m id (Ok o) is = tt
@@ -26,6 +26,6 @@ answers_put (Err error) m id (Err other) is = is
 answers_put (Ok done) m id (Err other) is = is
 answers_put (Err error) m id (Ok o) is = is
 
-pub put_answers : (r : Result (Unit {0}) ℕ) (m : ObjectMap) (id : ℕ) (command : Command) (named : Option Kind) (old : Seen) → Some old ≡ finite.get m id
-    → HasResult r (changed command named old) → HasResult r (changed_in m id command named)
-put_answers r m id command named old at is = subst (λ (f : Option Seen). HasResult r (changed_at m id command named f)) at (answers_put r m id (changed command named old) is)
+pub put_answers : (r : Result (Unit {0}) ℕ) (m : ObjectMap) (id : ℕ) (command : Command) (kind_of_other : Option Kind) (old : Seen) → Some old ≡ finite.get m id
+    → HasResult r (changed command kind_of_other old) → HasResult r (changed_in m id command kind_of_other)
+put_answers r m id command kind_of_other old at is = subst (λ (f : Option Seen). HasResult r (changed_at m id command kind_of_other f)) at (answers_put r m id (changed command kind_of_other old) is)

@@ -12,5 +12,5 @@ loop-index-preserved c = let old = c.index-as_slice-from.result in
 
 pub returns-clause-children : goal.returns-clause-children
 returns-clause-children c =
-    placed_all c.args.named c.args.entry.now c.args.children.now c.loop-index.children c.loop-index.index (c.is_none.ensures ∙ ap not c.if-is_none.false)
+    placed_all c.args.kind_of_other c.args.entry.now c.args.children.now c.loop-index.children c.loop-index.index (c.is_none.ensures ∙ ap not c.if-is_none.false)
     (sym c.stands_in.ensures ∙ c.if-not-stands_in.false) c.loop-index.invariant (omega (arith, c.loop-index-test.false, c.len-index-end.ensures, c.loop-index.auto.index-end))

@@ -20,6 +20,6 @@ loop-index-preserved c = let old = c.index-as_slice-from.result in
 
 pub returns-clause-children : goal.returns-clause-children
 returns-clause-children c =
-    shifted_all c.args.named c.args.child c.args.dx c.args.dy c.args.children.now c.loop-index.children c.loop-index.index (c.is_none.ensures ∙ ap not c.if-is_none.false)
+    shifted_all c.args.kind_of_other c.args.child c.args.dx c.args.dy c.args.children.now c.loop-index.children c.loop-index.index (c.is_none.ensures ∙ ap not c.if-is_none.false)
     (sym c.stands_in.ensures ∙ c.if-not-stands_in.false) (sym c.leaves.ensures ∙ c.if-leaves.false) c.loop-index.invariant
     (omega (arith, c.loop-index-test.false, c.len-index-end.ensures, c.loop-index.auto.index-end))
