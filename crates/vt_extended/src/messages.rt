@@ -77,9 +77,9 @@ impl Opening {
         requires more { count < packet_count_of self.now }
         ensures { result ≡ clear_to_send self.now count }
     {
-        let left = self.packets() - count;
+        let remaining = self.packets() - count;
         Reply::ClearToSend {
-            count: MOST_PACKETS.min(left) as u8,
+            count: MOST_PACKETS.min(remaining) as u8,
             next: count + 1,
             pgn: self.pgn,
         }

@@ -82,8 +82,8 @@ impl Claims {
     {
         let said = self.answer(address, name);
         let claimed = claimed_address(address);
-        let left = self.address_of(name);
-        if claimed == left {
+        let former = self.address_of(name);
+        if claimed == former {
             return Ok(said);
         }
         self.holders.enter(name, claimed)?;
@@ -91,7 +91,7 @@ impl Claims {
             self.holders.leave(name, claimed);
             return Err(refused);
         }
-        self.holders.leave(name, left);
+        self.holders.leave(name, former);
         Ok(said)
     }
 

@@ -45,10 +45,10 @@ impl Holders {
     }
 
     /// Removes a NAME from its former address, if any.
-    pub(crate) fn leave(&mut self, name: Name, left: Option<u8>)
-        ensures { ChangesOnly self.old.names self.new.names left name false }
+    pub(crate) fn leave(&mut self, name: Name, former: Option<u8>)
+        ensures { ChangesOnly self.old.names self.new.names former name false }
     {
-        if let Some(address) = left {
+        if let Some(address) = former {
             self.names[usize::from(address)].remove(&name.raw());
         }
     }

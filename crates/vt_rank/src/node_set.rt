@@ -52,9 +52,9 @@ impl NodeSet {
         ensures none { IfNone result ((n : ℕ) → IsIn self.now n → IsIn others.now n) }
     {
         for place in 0..4u8 {
-            let left = self.words[usize::from(place)] & !others.words[usize::from(place)];
-            if left != 0 {
-                return Some(64 * place + left.trailing_zeros() as u8);
+            let rest = self.words[usize::from(place)] & !others.words[usize::from(place)];
+            if rest != 0 {
+                return Some(64 * place + rest.trailing_zeros() as u8);
             }
         }
         None

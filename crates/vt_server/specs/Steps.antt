@@ -48,25 +48,25 @@ abbrev pub rebind_acts : Option ℕ → State → ℕ → List (ℕ × Act)
 rebind_acts was s address = if option_eq nat_eq was (holder s address) then [] else (address, Rebinds) ∷ []
 
 -- the former address of a NAME that claims another
-abbrev pub left_by : ℕ → Option ℕ → Option ℕ
-left_by source None = None
-left_by source (Some left) = if left == source then None else Some left
+abbrev pub former_address : ℕ → Option ℕ → Option ℕ
+former_address source None = None
+former_address source (Some former) = if former == source then None else Some former
 
-abbrev pub left_holder : State → Option ℕ → Option ℕ
-left_holder s None = None
-left_holder s (Some left) = holder s left
+abbrev pub former_holder : State → Option ℕ → Option ℕ
+former_holder s None = None
+former_holder s (Some former) = holder s former
 
-abbrev pub rebind_left_acts : Option ℕ → State → Option ℕ → List (ℕ × Act)
-rebind_left_acts was s None = []
-rebind_left_acts was s (Some left) = rebind_acts was s left
+abbrev pub rebind_former_acts : Option ℕ → State → Option ℕ → List (ℕ × Act)
+rebind_former_acts was s None = []
+rebind_former_acts was s (Some former) = rebind_acts was s former
 
 -- A claim changes the holders of at most two addresses: the former address of its NAME, and its source.
 abbrev pub changes_by : State → State → Option ℕ → ℕ → List (ℕ × Act)
-changes_by s t left source = rebind_left_acts (left_holder s left) t left ++ rebind_acts (holder s source) t source
+changes_by s t former source = rebind_former_acts (former_holder s former) t former ++ rebind_acts (holder s source) t source
 
 abbrev pub changes : State → ℕ → FrameMeaning → List (ℕ × Act)
 changes s source (Claim name) =
-    changes_by s (before s source (Claim name)) (left_by source (address_of s.claims.addresses name)) source
+    changes_by s (before s source (Claim name)) (former_address source (address_of s.claims.addresses name)) source
 changes s source _ = []
 
 -- The terminal ignores frames from its own address.

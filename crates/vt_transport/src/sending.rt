@@ -66,8 +66,8 @@ impl Outgoing {
             (numbers_from next (min count (packet_count_of self.now + 1 - next))) }
     {
         let mut frames = ArrayVec::new();
-        let left = self.packets() - (next - 1);
-        for sent in 0..count.min(left) {
+        let remaining = self.packets() - (next - 1);
+        for sent in 0..count.min(remaining) {
             let number = next + sent;
             frames.push(wire::data_frame(own_address, to, number, self.packet(number)));
         }

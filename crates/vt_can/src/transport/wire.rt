@@ -73,8 +73,8 @@ pub fn append_packet(bytes: &mut Vec<u8>, size: usize, packet: [u8; 7])
     ensures len { vec_len bytes.new ≡ min size (vec_len bytes.old + 7) }
     ensures capacity { vec_capacity bytes.new ≡ vec_capacity bytes.old }
 {
-    let left = size - bytes.len();
-    append(bytes, &packet[..left.min(7)]);
+    let remaining = size - bytes.len();
+    append(bytes, &packet[..remaining.min(7)]);
 }
 
 // Appends bytes within the spare capacity.

@@ -2,11 +2,11 @@
 use Rattle.std.specs.Prelude.{◌≡◌, ℕ}
 use Rattle.vt_names.specs.Claims.{address_of}
 use Rattle.vt_server.specs.declared.frame.claim.FormerHolders.{FormerHolders}
-use Rattle.vt_server.specs.Steps.{left_by, left_holder}
+use Rattle.vt_server.specs.Steps.{former_address, former_holder}
 use Rattle.vt_server.specs.Terminals.{State, holder}
 
 -- the former address of the claim's NAME, the holder of that address, and the holder of the source
 pub record AreFormer (s : State) (source name : ℕ) (former : FormerHolders) : Type 0 where
-  pub left : former.left ≡ left_by source (address_of s.claims.addresses name)
-  pub left_holder : former.left_holder ≡ left_holder s former.left
+  pub address : former.address ≡ former_address source (address_of s.claims.addresses name)
+  pub address_holder : former.address_holder ≡ former_holder s former.address
   pub holder : former.holder ≡ holder s source

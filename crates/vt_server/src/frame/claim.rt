@@ -26,9 +26,9 @@ pub(crate) struct FormerHolders {
     /// Whether the terminal defends its own address against the claim.
     pub(crate) is_defended: bool,
     /// The former address of the NAME, if the claim is of another.
-    left: Option<u8>,
+    address: Option<u8>,
     /// The holder of the former address.
-    left_holder: Option<Name>,
+    address_holder: Option<Name>,
     /// The holder of the claim's source address.
     holder: Option<Name>,
 }
@@ -49,7 +49,7 @@ impl Terminal {
         if former.is_defended {
             send(outputs, self.own_claim());
         }
-        self.rebind_left(former.left, former.left_holder);
+        self.rebind_former(former.address, former.address_holder);
         self.rebind(source, former.holder);
         if source != self.node.own() {
             self.registry.hear(source, self.time);
@@ -77,11 +77,11 @@ impl Terminal {
         ensures err { OnErr result (state_of self.new ≡ state_of self.old) }
         ensures redraws { redraws self.new ≡ redraws self.old }
     {
-        let left = self.left_by(source, name);
+        let address = self.former_address(source, name);
         let former = FormerHolders {
             is_defended,
-            left,
-            left_holder: self.left_holder(left),
+            address,
+            address_holder: self.former_holder(address),
             holder: self.node.holder(source),
         };
         self.node.hear_claim(source, name)?;
@@ -89,26 +89,26 @@ impl Terminal {
     }
 
     // The former address of a NAME that claims another.
-    fn left_by(&self, source: u8, name: Name) -> Option<u8>
-        ensures { result ≡ steps.left_by source (address_of (state_of self.now).claims.addresses name) }
+    fn former_address(&self, source: u8, name: Name) -> Option<u8>
+        ensures { result ≡ steps.former_address source (address_of (state_of self.now).claims.addresses name) }
     {
         match self.node.address_of(name) {
-            Some(left) if left != source => Some(left),
+            Some(former) if former != source => Some(former),
             _ => None,
         }
     }
 
-    fn left_holder(&self, left: Option<u8>) -> Option<Name>
-        ensures { result ≡ steps.left_holder (state_of self.now) left }
+    fn former_holder(&self, address: Option<u8>) -> Option<Name>
+        ensures { result ≡ steps.former_holder (state_of self.now) address }
     {
-        self.node.holder(left?)
+        self.node.holder(address?)
     }
 
-    fn rebind_left(&mut self, left: Option<u8>, was: Option<Name>)
-        ensures { state_of self.new ≡ spec.after_acts (state_of self.old) (steps.rebind_left_acts was (state_of self.old) left) }
+    fn rebind_former(&mut self, address: Option<u8>, was: Option<Name>)
+        ensures { state_of self.new ≡ spec.after_acts (state_of self.old) (steps.rebind_former_acts was (state_of self.old) address) }
     {
-        if let Some(left) = left {
-            self.rebind(left, was);
+        if let Some(address) = address {
+            self.rebind(address, was);
         }
     }
 

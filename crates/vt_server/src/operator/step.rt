@@ -45,7 +45,7 @@ impl Terminal {
         }
         outputs.reserve(MOST_OUTPUTS)?;
         let before = self.display();
-        let told = self.redraws;
+        let redrew = self.redraws;
         self.redraws = false;
         let answer = match action {
             Action::Set(address) => self.select_set(*address),
@@ -53,7 +53,7 @@ impl Terminal {
                 match self.enter_long_text(*id, text) {
                     Ok(output) => Some(output),
                     Err(refused) => {
-                        self.redraws = told;
+                        self.redraws = redrew;
                         return Err(refused);
                     }
                 }

@@ -79,11 +79,11 @@ fn a_session_beside_252_others(rt: HostRuntime) -> Result<(), Fail> {
 }
 
 fn expect_aborts(rt: &(impl Abort + AllocGlobal), outputs: &[Output]) -> Result<(), Fail> {
-    let mut left = outputs.iter();
+    let mut rest = outputs.iter();
     for address in 0..=253u8 {
         if address != OWN && address != 0x80 {
             let abort = text_of(rt.alloc(), "1CEC@26#FF03FFFFFF00E700", address)?;
-            match left.next() {
+            match rest.next() {
                 Some(output) => expect_output(rt, output, &abort),
                 None => return Err(Fail::new("too few")),
             }

@@ -10,7 +10,7 @@ use Rattle.vt_laws.specs.Happenings.{NameIsHeld, SetIsHeld}
 use Rattle.vt_server.specs.state.AddressViews.{Act, Hears, Rebinds, unchanged, without_set, with_holder_name, after_change, after_claim_heard}
 use Rattle.vt_server.specs.state.AddressStates.{AddressState, heard_at}
 use Rattle.vt_laws.specs.SetLists.{stays, named_at}
-use Rattle.vt_server.specs.Steps.{before, rebind_acts, rebind_left_acts, left_holder, left_by, changes_by, heard_at_source, acts}
+use Rattle.vt_server.specs.Steps.{before, rebind_acts, rebind_former_acts, former_holder, former_address, changes_by, heard_at_source, acts}
 use Rattle.vt_server.specs.Terminals.{State, holder, part, after_act, after_acts, with_set_at}
 use Rattle.vt_server.specs.message.Verdicts.{Verdict}
 use Rattle.vt_node.specs.declared.bus.FrameMeaning.TheVariants.{Claim}
@@ -201,15 +201,15 @@ module _ (law : OtherHoldersStay) (s : State) (rising : IsRisingByName s.claims.
   module _ (left : Option ℕ) (elsewhere : (l : ℕ) → left ≡ Some l → l ≢ source)
       (others : (q : ℕ) → q ≢ source → left ≢ Some q → address_of s.claims.addresses name ≢ Some q) where
     abbrev u : State
-    u = after_acts t (rebind_left_acts (left_holder s left) t left)
+    u = after_acts t (rebind_former_acts (former_holder s left) t left)
 
     u-claims : u.claims ≡ t.claims
-    u-claims = claims-acts t (rebind_left_acts (left_holder s left) t left)
+    u-claims = claims-acts t (rebind_former_acts (former_holder s left) t left)
 
     left-list : u.sets ≡ filter (left_test left) s.sets
     left-list = cases left
       where
-        cases : (o : Option ℕ) → (after_acts t (rebind_left_acts (left_holder s o) t o)).sets ≡ filter (left_test o) s.sets
+        cases : (o : Option ℕ) → (after_acts t (rebind_former_acts (former_holder s o) t o)).sets ≡ filter (left_test o) s.sets
         cases None = sym (filter-all s.sets)
         cases (Some l) = changed-list t l apart (holder s l) (held l)
 
@@ -296,11 +296,11 @@ module _ (law : OtherHoldersStay) (s : State) (rising : IsRisingByName s.claims.
     claimed-list frame verdict =
         let last = heard_at_source s.claims.own source (Claim name) frame verdict in
         ap (λ (x : State). x.sets) (acts-append t (changes_by s t left source) last)
-        ∙ ap (λ (x : State). (after_acts x last).sets) (acts-append t (rebind_left_acts (left_holder s left) t left) (rebind_acts (holder s source) t source))
+        ∙ ap (λ (x : State). (after_acts x last).sets) (acts-append t (rebind_former_acts (former_holder s left) t left) (rebind_acts (holder s source) t source))
         ∙ last-list frame verdict
 
   by-left : (o : Option ℕ) → address_of s.claims.addresses name ≡ o → (frame : Frame) (verdict : Verdict)
-      → (after_acts t (changes_by s t (left_by source o) source ++ heard_at_source s.claims.own source (Claim name) frame verdict)).sets
+      → (after_acts t (changes_by s t (former_address source o) source ++ heard_at_source s.claims.own source (Claim name) frame verdict)).sets
       ≡ map (named_at t source) (filter (stays t) s.sets)
   by-left None e frame verdict = claimed-list None (λ l h. none-some h) (λ q ne _. λ h. none-some (sym e ∙ h)) frame verdict
   by-left (Some l) e frame verdict =

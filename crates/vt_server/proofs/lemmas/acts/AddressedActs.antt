@@ -6,7 +6,7 @@ use Rattle.vt_can.specs.transport.Sessions.{each_below}
 use Rattle.vt_names.specs.Claims.{address_of}
 use Rattle.vt_server.specs.shown.ShownSet.{raised_at, events_of_change, ACTIVATE, DEACTIVATE}
 use Rattle.vt_server.specs.state.AddressViews.{Act, Hears, Rebinds, Raises}
-use Rattle.vt_server.specs.Steps.{before, rebind_acts, rebind_left_acts, left_by, left_holder, changes, heard_at_source}
+use Rattle.vt_server.specs.Steps.{before, rebind_acts, rebind_former_acts, former_address, former_holder, changes, heard_at_source}
 use Rattle.vt_server.specs.Terminals.{State, holder}
 use Rattle.vt_server.specs.message.Verdicts.{Verdict}
 use Rattle.vt_node.specs.declared.bus.FrameMeaning.{FrameMeaning}
@@ -39,15 +39,15 @@ at-changed P each was t a = cases (option_eq nat_eq was (holder t a))
     cases true = tt
     cases false = (each a, tt)
 
-at-left : (P : ℕ → Act → Type 0) → ((a : ℕ) → P a Rebinds) → (was : Option ℕ) (t : State) (o : Option ℕ) → AllAt P (rebind_left_acts was t o)
+at-left : (P : ℕ → Act → Type 0) → ((a : ℕ) → P a Rebinds) → (was : Option ℕ) (t : State) (o : Option ℕ) → AllAt P (rebind_former_acts was t o)
 at-left P each was t None = tt
 at-left P each was t (Some left) = at-changed P each was t left
 
 pub at-changes : (P : ℕ → Act → Type 0) → ((a : ℕ) → P a Rebinds) → (s : State) (source : ℕ) (n : FrameMeaning) → AllAt P (changes s source n)
 at-changes P each s source (Claim name) =
     let t = before s source (Claim name) in
-    let left = left_by source (address_of s.claims.addresses name) in
-    at-append P (rebind_left_acts (left_holder s left) t left) (rebind_acts (holder s source) t source) (at-left P each (left_holder s left) t left) (at-changed P each (holder s source) t source)
+    let left = former_address source (address_of s.claims.addresses name) in
+    at-append P (rebind_former_acts (former_holder s left) t left) (rebind_acts (holder s source) t source) (at-left P each (former_holder s left) t left) (at-changed P each (holder s source) t source)
 at-changes P each s source ClaimRequest = tt
 at-changes P each s source (Master count) = tt
 at-changes P each s source (Member name) = tt

@@ -5,7 +5,7 @@ use Rattle.std.proofs.lemmas.Bool.{eqb-true, false≢true}
 use Rattle.std.specs.Option.{option_eq}
 use Rattle.vt_names.specs.Claims.{IsRisingByName, OtherHoldersStay, address_of}
 use Rattle.vt_server.specs.state.AddressViews.{Act, Rebinds}
-use Rattle.vt_server.specs.Steps.{before, rebind_acts, left_by, changes, changes_by}
+use Rattle.vt_server.specs.Steps.{before, rebind_acts, former_address, changes, changes_by}
 use Rattle.vt_server.specs.Terminals.{State, holder, after_acts}
 use Rattle.vt_node.specs.declared.bus.FrameMeaning.{FrameMeaning}
 use Rattle.vt_node.specs.declared.bus.FrameMeaning.TheVariants.{Claim, ClaimRequest, Master, Member, Message, Tp, Etp, Nothing}
@@ -74,7 +74,7 @@ module _ (law : OtherHoldersStay) (s : State) (rising : IsRisingByName s.claims.
       (λ other. of-changed_other a left (holder s left) t other
       ∙ unchanged (λ e. ne (sym e)) (λ e. other (same_Some left a (sym is-left ∙ e)))))
 
-  of-left : (o : Option ℕ) → address_of s.claims.addresses name ≡ o → of a (changes_by s t (left_by source o) source) ≡ change (holder s a) (holder t a)
+  of-left : (o : Option ℕ) → address_of s.claims.addresses name ≡ o → of a (changes_by s t (former_address source o) source) ≡ change (holder s a) (holder t a)
   of-left None e = of-none (λ _. λ h. none-some (sym e ∙ h))
   of-left (Some left) e =
       by_eq left source

@@ -8,7 +8,7 @@ use Rattle.vt_node.specs.Messages.{claim_from}
 use Rattle.vt_server.specs.Outputs.{outputs_of}
 use Rattle.vt_server.specs.state.AddressViews.{AddressView, AddressOutcome, Act, Hears, Rebinds, unchanged, with_other_set, without_set, outcome, stays_under, with_holder_name, after_change, after_claim_heard}
 use Rattle.vt_server.specs.state.AddressStates.{AddressState, no_content, with_content, heard_at}
-use Rattle.vt_server.specs.Steps.{before, rebind_acts, rebind_left_acts, left_by, left_holder, changes_by, changes, heard_at_source, acts, acted, answer_to, is_defended, defence, sent_by_frame}
+use Rattle.vt_server.specs.Steps.{before, rebind_acts, rebind_former_acts, former_address, former_holder, changes_by, changes, heard_at_source, acts, acted, answer_to, is_defended, defence, sent_by_frame}
 use Rattle.vt_server.specs.Terminals.{State, Sent, ToOne, ToAll, holder, part, put, sent_refusal, after_act, after_acts, sent_by_act, sent_by_acts}
 use Rattle.vt_node.specs.AddressFunctions.{with_at}
 use Rattle.vt_server.specs.message.Verdicts.{Verdict}
@@ -92,15 +92,15 @@ pub rebind_acts-same : (was : Option ℕ) (s t : State) (a : ℕ) → s.claims �
 rebind_acts-same was s t a e = ap (λ (c : Claimed). cond (option_eq nat_eq was (holder_of c.addresses a)) [] ((a, Rebinds) ∷ [])) e
 
 pub after-changes : (s t u v : State) (source name : ℕ) (left l h : Option ℕ) → t ≡ before s source (Claim name)
-    → left ≡ left_by source (address_of s.claims.addresses name) → l ≡ left_holder s left → h ≡ holder s source
-    → u ≡ after_acts t (rebind_left_acts l t left) → v ≡ after_acts u (rebind_acts h u source)
+    → left ≡ former_address source (address_of s.claims.addresses name) → l ≡ former_holder s left → h ≡ holder s source
+    → u ≡ after_acts t (rebind_former_acts l t left) → v ≡ after_acts u (rebind_acts h u source)
     → v ≡ after_acts (before s source (Claim name)) (changes s source (Claim name))
 after-changes s t u v source name left l h t-is left-is l-is h-is u-is v-is =
-    let first = rebind_left_acts l t left in
+    let first = rebind_former_acts l t left in
     let second = rebind_acts h t source in
     let same = rebind_acts-same h u t source (ap (λ (x : State). x.claims) u-is ∙ claims-acts t first) in
     v-is ∙ ap (after_acts u) same ∙ ap (λ x. after_acts x second) u-is ∙ sym (acts-append t first second)
-    ∙ (λ i. after_acts (t-is i) (rebind_left_acts (l-is i) (t-is i) left ++ rebind_acts (h-is i) (t-is i) source))
+    ∙ (λ i. after_acts (t-is i) (rebind_former_acts (l-is i) (t-is i) left ++ rebind_acts (h-is i) (t-is i) source))
     ∙ ap (λ o. after_acts (before s source (Claim name)) (changes_by s (before s source (Claim name)) o source)) left-is
 
 -- A claim counts as a frame of its source, and the source's set takes the holder's NAME.
@@ -164,7 +164,7 @@ sent-changed was s t a = cases (option_eq nat_eq was (holder t a))
     cases true = refl
     cases false = append-nil (sent_by_act s a Rebinds) ∙ sent-none s a Rebinds (change-silent (part a s) (set_at a s.sets))
 
-sent-left : (was : Option ℕ) (s t : State) (left : Option ℕ) → sent_by_acts s (rebind_left_acts was t left) ≡ []
+sent-left : (was : Option ℕ) (s t : State) (left : Option ℕ) → sent_by_acts s (rebind_former_acts was t left) ≡ []
 sent-left was s t None = refl
 sent-left was s t (Some left) = sent-changed was s t left
 
@@ -185,11 +185,11 @@ both-none s hs ks first second = sent-append s hs ks ∙ (λ i. first i ++ secon
 sent-acts : (s : State) (source name : ℕ) (frame : Frame) (verdict : Verdict) → sent_by_acts (before s source (Claim name)) (acts s source (Claim name) frame verdict) ≡ []
 sent-acts s source name frame verdict =
     let t = before s source (Claim name) in
-    let left = left_by source (address_of s.claims.addresses name) in
-    let first = rebind_left_acts (left_holder s left) t left in
+    let left = former_address source (address_of s.claims.addresses name) in
+    let first = rebind_former_acts (former_holder s left) t left in
     let second = rebind_acts (holder s source) t source in
     both-none t (first ++ second) (heard_at_source s.claims.own source (Claim name) frame verdict)
-    (both-none t first second (sent-left (left_holder s left) t t left) (sent-changed (holder s source) (after_acts t first) t source))
+    (both-none t first second (sent-left (former_holder s left) t t left) (sent-changed (holder s source) (after_acts t first) t source))
     (sent-heard s.claims.own source name frame verdict (after_acts t (first ++ second)))
 
 -- The only frame sent for a claim is the terminal's own claim, if it defends its address.

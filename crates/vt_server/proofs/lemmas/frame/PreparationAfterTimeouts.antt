@@ -22,7 +22,7 @@ use Rattle.vt_server.specs.state.AddressStates.{SetPool, watched}
 use Rattle.vt_server.specs.frame.TimeoutContracts.{HasLapsed}
 use Rattle.vt_server.specs.frame.SessionEffects.{message_to_terminal}
 use Rattle.vt_server.specs.States.{state_of}
-use Rattle.vt_server.specs.Steps.{hear_claim, answer_to, is_lost_by, is_defended, left_by, left_holder}
+use Rattle.vt_server.specs.Steps.{hear_claim, answer_to, is_lost_by, is_defended, former_address, former_holder}
 use Rattle.vt_server.specs.Terminals.{State}
 use Rattle.vt_server.specs.state.PoolTables.{content_of, spare_of}
 use Rattle.vt_node.specs.declared.bus.FrameMeaning.{FrameMeaning}
@@ -61,14 +61,14 @@ module _ (s u : State) (same : u.claims ≡ s.claims) where
   claim-same a notices.Etp = sym same
   claim-same a notices.Nothing = sym same
 
-  holder-same : (o : Option ℕ) → left_holder s o ≡ left_holder u o
+  holder-same : (o : Option ℕ) → former_holder s o ≡ former_holder u o
   holder-same None = refl
   holder-same (Some left) = ap (λ (c : Claimed). holder_of c.addresses left) (sym same)
 
   former-same : (a name : ℕ) (former : FormerHolders) → AreFormer s a name former → AreFormer u a name former
   former-same a name former are = record {
-    left = are.left ∙ ap (λ (c : Claimed). left_by a (address_of c.addresses name)) (sym same);
-    left_holder = are.left_holder ∙ holder-same former.left;
+    address = are.address ∙ ap (λ (c : Claimed). former_address a (address_of c.addresses name)) (sym same);
+    address_holder = are.address_holder ∙ holder-same former.address;
     holder = are.holder ∙ ap (λ (c : Claimed). holder_of c.addresses a) (sym same);
   }
 

@@ -17,8 +17,8 @@ returns-then-source-own-clause-takes c s name frame verdict from former defended
     let t = c.rebind.new.self in
     let v = state_of t in
     let changed : v ≡ after_acts (before s c.args.source (Claim name)) (changes s c.args.source (Claim name)) =
-    after-changes s (state_of c.args.self.now) (state_of c.rebind_left.new.self) v c.args.source name f.left f.left_holder f.holder
-    is former.left former.left_holder former.holder c.rebind_left.ensures c.rebind.ensures in (
+    after-changes s (state_of c.args.self.now) (state_of c.rebind_former.new.self) v c.args.source name f.address f.address_holder f.holder
+    is former.address former.address_holder former.holder c.rebind_former.ensures c.rebind.ensures in (
       acted-other s v c.args.source name frame verdict changed
           (record v { sets = c.hear.new.self.sets; places = places_by (content_of t.contents) t.node (heard_of c.hear.new.self.watch) }) (state_of c.bind.new.self)
           (λ e. c.if-source-own.true (e ∙ sym c.own.ensures))
@@ -36,8 +36,8 @@ returns-else-source-own-clause-takes c s name frame verdict from former defended
     let f = c.args.former.now in
     let v = state_of c.rebind.new.self in
     let changed : v ≡ after_acts (before s c.args.source (Claim name)) (changes s c.args.source (Claim name)) =
-    after-changes s (state_of c.args.self.now) (state_of c.rebind_left.new.self) v c.args.source name f.left f.left_holder f.holder
-    is former.left former.left_holder former.holder c.rebind_left.ensures c.rebind.ensures in (
+    after-changes s (state_of c.args.self.now) (state_of c.rebind_former.new.self) v c.args.source name f.address f.address_holder f.holder
+    is former.address former.address_holder former.holder c.rebind_former.ensures c.rebind.ensures in (
       acted-own s v c.args.source name frame verdict changed (c.if-source-own.false ∙ c.own.ensures),
       elim c.if-former.branch [
         | then-former w ↦ ap (λ outputs. outputs.items) w.outputs-is ∙ sent-defence s c.args.source name frame verdict f.is_defended defended (state_of c.args.self.now) w.own_claim.result c.args.outputs.now.items w.send.new.outputs.items is w.own_claim.ensures w.if-former.true w.send.ensures.items
