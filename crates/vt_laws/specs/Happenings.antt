@@ -17,7 +17,7 @@ use Rattle.vt_node.specs.Watches.{is_silent}
 use Rattle.vt_server.specs.state.StateInvariants.{IsOrderly, IsOther}
 use Rattle.vt_server.specs.state.AddressViews.{AddressView, Act, Hears, Rebinds, Preloads, TpExpires, EtpExpires, SendingExpires, FallsSilent, Operates, Raises, outcome, untimed_part}
 use Rattle.vt_laws.specs.Responses.{Response, without_effect, response_of, frames_to}
-use Rattle.vt_server.specs.Steps.{JudgedInput, FrameAt, ActionAt, step, after_all, sent_by_all, acted, selecting, at_shown, hear_claim, answer_to, is_lost_by, preloading}
+use Rattle.vt_server.specs.Steps.{JudgedInput, FrameAt, ActionAt, step, after_all, sent_by_all, acted, selecting, at_shown, receive_claim, answer_to, is_lost_by, preloading}
 use Rattle.vt_server.specs.Terminals.{State, holder, part, after_acts}
 use Rattle.vt_server.specs.message.Verdicts.{Verdict}
 
@@ -98,7 +98,7 @@ loses s frame = is_lost_by (answer_to s (source_of frame) (notice_of s.claims.ow
 
 -- the address claims after a frame by which the own address is not lost
 abbrev pub claims_after : State → Frame → Claimed
-claims_after s frame = hear_claim s (source_of frame) (notice_of s.claims.own s.claims.name frame)
+claims_after s frame = receive_claim s (source_of frame) (notice_of s.claims.own s.claims.name frame)
 
 abbrev pub holder_change : ℕ → Claimed → Claimed → List Happening
 holder_change address old new =

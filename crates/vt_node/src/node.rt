@@ -110,7 +110,7 @@ impl Node {
     }
 
     /// Records the claim of an address by a NAME. After `OutOfMemory` nothing is changed.
-    pub fn hear_claim(&mut self, address: u8, name: Name) -> Result<(), OutOfMemory>
+    pub fn receive_claim(&mut self, address: u8, name: Name) -> Result<(), OutOfMemory>
         ensures ok { OnOk result (self.new ≡ record self.old { claims = heard self.old.claims address name }) }
         ensures err { OnErr result (self.new ≡ self.old) }
     {
@@ -149,7 +149,7 @@ impl Node {
     }
 
     /// Handles a frame of the transport protocol as the receiver. Its memory is reserved by `prepare_tp`.
-    pub fn hear_tp(&mut self, now: u64, frame: &Frame) -> Heard
+    pub fn receive_tp(&mut self, now: u64, frame: &Frame) -> Heard
         requires { HasCapacityFor tp.protocol (tp_frame self.old.claims.own frame.now) self.old.tp_spare }
         ensures taken { HasTaken (tp_taken self.old now frame.now) (source_of frame.now) self.old.tp self.new.tp result }
         ensures rest { self.new ≡ record self.old { tp = self.new.tp; tp_spare = self.new.tp_spare } }
@@ -161,7 +161,7 @@ impl Node {
     }
 
     /// Handles a frame of the extended transport protocol as the receiver. Its memory is reserved by `prepare_etp`.
-    pub fn hear_etp(&mut self, now: u64, frame: &Frame) -> Heard
+    pub fn receive_etp(&mut self, now: u64, frame: &Frame) -> Heard
         requires { HasCapacityFor etp.protocol (etp_frame self.old.claims.own frame.now) self.old.etp_spare }
         ensures taken { HasTaken (etp_taken self.old now frame.now) (source_of frame.now) self.old.etp self.new.etp result }
         ensures rest { self.new ≡ record self.old { etp = self.new.etp; etp_spare = self.new.etp_spare } }
@@ -180,7 +180,7 @@ impl Node {
     }
 
     /// Handles a frame of the transport protocol as the sender, and returns the frames to send.
-    pub fn hear_as_sender(&mut self, now: u64, frame: &Frame) -> ArrayVec<Frame, 255>
+    pub fn receive_as_sender(&mut self, now: u64, frame: &Frame) -> ArrayVec<Frame, 255>
         ensures answered { HasAnswered (sender_answer self.old now frame.now) (source_of frame.now) self.old.sending self.new.sending result.items }
         ensures rest { self.new ≡ record self.old { sending = self.new.sending } }
     {

@@ -56,7 +56,7 @@ impl Watch {
     }
 
     /// Records a frame from an address.
-    pub(crate) fn hear(&mut self, address: u8, now: u64)
+    pub(crate) fn note_frame(&mut self, address: u8, now: u64)
         ensures { heard_of self.new ≡ with_at address (Some now) (heard_of self.old) }
     {
         self.last[usize::from(address)] = now;

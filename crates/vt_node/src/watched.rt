@@ -168,13 +168,13 @@ impl WatchedRegistry {
     }
 
     /// Records a frame from an address.
-    pub fn hear(&mut self, address: u8, now: u64)
+    pub fn note_frame(&mut self, address: u8, now: u64)
         ensures heard { heard_of self.new.watch ≡ with_at address (Some now) (heard_of self.old.watch) }
         ensures sets { self.new.sets ≡ self.old.sets }
         ensures capacity { self.new.capacity ≡ self.old.capacity }
     {
         self.earliest = self.earliest.min(now);
-        self.watch.hear(address, now);
+        self.watch.note_frame(address, now);
     }
 
     /// Returns the address of the first silent set in order of registration. Nothing is changed.

@@ -35,13 +35,13 @@ no_step s = record { after = s; sent = [] }
 
 -- ---- the acts of a frame
 
-abbrev pub hear_claim : State → ℕ → FrameMeaning → Claimed
-hear_claim s source (Claim name) = heard s.claims source name
-hear_claim s source _ = s.claims
+abbrev pub receive_claim : State → ℕ → FrameMeaning → Claimed
+receive_claim s source (Claim name) = heard s.claims source name
+receive_claim s source _ = s.claims
 
 -- the state with the claim recorded, before any act at an address
 abbrev pub before : State → ℕ → FrameMeaning → State
-before s source notice = record s { claims = hear_claim s source notice }
+before s source notice = record s { claims = receive_claim s source notice }
 
 -- the act of an address whose holder has changed
 abbrev pub rebind_acts : Option ℕ → State → ℕ → List (ℕ × Act)

@@ -164,7 +164,7 @@ impl Terminal {
         ensures same { OnOk result (redraws self.new ≡ false → KeepsScreen (state_of self.old) (state_of self.new)) }
     {
         match input {
-            Input::Frame { time, frame } => self.hear(*time, frame, outputs),
+            Input::Frame { time, frame } => self.step_frame(*time, frame, outputs),
             Input::Operator(action) => self.operate(action, outputs),
         }
     }

@@ -178,7 +178,7 @@ pub record TakesFrame (s : State) (notice : FrameMeaning) (frame : Frame) (t : S
   pub sent : after ≡ before ++ outputs_of (sent_by_frame s (source_of frame) notice frame verdict)
 
 -- A frame has its effect after the timeouts and closings of its time.
-pub record Hears (old s : State) (notice : FrameMeaning) (frame : Frame) (t : State) (before after : List Output) : Type 0 where
+pub record FinishesFrame (old s : State) (notice : FrameMeaning) (frame : Frame) (t : State) (before after : List Output) : Type 0 where
   pub verdict : Verdict
   pub judged : IsJudged s.now (source_of frame) (part (source_of frame) s) notice frame verdict
   pub state : t ≡ (hearing old s (source_of frame) notice frame verdict).after

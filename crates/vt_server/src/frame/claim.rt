@@ -52,7 +52,7 @@ impl Terminal {
         self.rebind_former(former.address, former.address_holder);
         self.rebind(source, former.holder);
         if source != self.node.own() {
-            self.registry.hear(source, self.time);
+            self.registry.note_frame(source, self.time);
             self.bind(source);
         }
     }
@@ -84,7 +84,7 @@ impl Terminal {
             address_holder: self.former_holder(address),
             holder: self.node.holder(source),
         };
-        self.node.hear_claim(source, name)?;
+        self.node.receive_claim(source, name)?;
         Ok(former)
     }
 

@@ -5,7 +5,7 @@ ghost use Rattle.vt_can.specs.frames.Frame.{source_of};
 ghost use Rattle.vt_node.specs.Bus.{notice_of};
 ghost use Rattle.vt_server.specs.shown.ShownSet.{display};
 ghost use Rattle.vt_server.specs.shown.DisplayValues.{display_value};
-ghost use Rattle.vt_server.specs.frame.FrameContracts.{FitsBeforeTimeouts, FitsAfterTimeouts, IsNoClaim, HasCapacity, HasUpload, Hears, TakesFrame, TakesNotice};
+ghost use Rattle.vt_server.specs.frame.FrameContracts.{FitsBeforeTimeouts, FitsAfterTimeouts, IsNoClaim, HasCapacity, HasUpload, FinishesFrame, TakesFrame, TakesNotice};
 ghost use Rattle.vt_server.specs.Outputs.{outputs_of, HasSpare};
 ghost use Rattle.vt_server.specs.state.AddressViews as parts;
 ghost use Rattle.vt_server.specs.shown.Screens.{KeepsScreen, ShowsWhatIsLeft, TellsChanges, redraws};
@@ -42,7 +42,7 @@ pub(crate) enum PreparedFrame {
 
 impl Terminal {
     /// Handles a frame received at a time. All growths are made before the first change.
-    pub(crate) fn hear(
+    pub(crate) fn step_frame(
         &mut self,
         time: u64,
         frame: &Frame,
@@ -125,7 +125,7 @@ impl Terminal {
         requires capacity { HasSpare 258 outputs.old }
         requires ready { (s : spec.State) × FitsAfterTimeouts s self.old notice.now frame.now ready }
         ensures hears { (old s : spec.State) → display_value before.now ≡ display old → FitsAfterTimeouts s self.old notice.now frame.now ready
-            → Hears old s notice.now frame.now (state_of self.new) outputs.old.items outputs.new.items }
+            → FinishesFrame old s notice.now frame.now (state_of self.new) outputs.old.items outputs.new.items }
         ensures tells { redraws self.new ≡ false → ShowsWhatIsLeft (state_of self.old) (state_of self.new) }
     {
         match ready {
@@ -184,7 +184,7 @@ impl Terminal {
         if source == self.node.own() {
             return;
         }
-        self.registry.hear(source, self.time);
+        self.registry.note_frame(source, self.time);
         self.take_notice(notice, frame, upload, outputs);
     }
 
@@ -200,7 +200,7 @@ impl Terminal {
         if source == self.node.own() {
             return;
         }
-        self.registry.hear(source, self.time);
+        self.registry.note_frame(source, self.time);
     }
 
     /// Handles a frame of another node by its meaning.

@@ -66,7 +66,7 @@ impl Terminal {
             self.take_tp_as_sender(frame, upload, outputs);
             return;
         }
-        let (reply, message) = parts_of(self.node.hear_tp(self.time, frame));
+        let (reply, message) = parts_of(self.node.receive_tp(self.time, frame));
         send_reply(outputs, reply);
         let reply = self.take_whole(source, message, upload);
         send_reply(outputs, reply);
@@ -90,9 +90,9 @@ impl Terminal {
         ensures capacity { HasSpare 1 outputs.new }
     {
         let source = frame.id.source();
-        let (reply, message) = parts_of(self.node.hear_tp(self.time, frame));
+        let (reply, message) = parts_of(self.node.receive_tp(self.time, frame));
         send_reply(outputs, reply);
-        send_all(outputs, self.node.hear_as_sender(self.time, frame));
+        send_all(outputs, self.node.receive_as_sender(self.time, frame));
         let reply = self.take_whole(source, message, upload);
         send_reply(outputs, reply);
     }
@@ -113,7 +113,7 @@ impl Terminal {
         ensures tells { TellsChanges self.old self.new }
         ensures capacity { HasSpare 1 outputs.new }
     {
-        let (reply, message) = parts_of(self.node.hear_etp(self.time, frame));
+        let (reply, message) = parts_of(self.node.receive_etp(self.time, frame));
         send_reply(outputs, reply);
         let reply = self.take_whole(frame.id.source(), message, upload);
         send_reply(outputs, reply);

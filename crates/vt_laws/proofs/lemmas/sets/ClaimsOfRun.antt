@@ -9,7 +9,7 @@ use Rattle.vt_server.specs.shown.ShownSet.{choosing, shown_now, events_of_change
 use Rattle.vt_laws.specs.ReceivedClaims.{claim_of, takes_address, claims_heard, HoldersOfRuns}
 use Rattle.vt_server.specs.frame.TimeoutActs.{at_time, lapsed}
 use Rattle.vt_server.specs.state.AddressViews.{Act, Operates}
-use Rattle.vt_server.specs.Steps.{JudgedInput, FrameAt, ActionAt, step, after_all, before, hear_claim, acts, no_step, losing, acted, acting, hearing, with_shown_updated, is_lost_by, answer_to, selecting, at_shown, step_frame, step_action}
+use Rattle.vt_server.specs.Steps.{JudgedInput, FrameAt, ActionAt, step, after_all, before, receive_claim, acts, no_step, losing, acted, acting, hearing, with_shown_updated, is_lost_by, answer_to, selecting, at_shown, step_frame, step_action}
 use Rattle.vt_server.specs.Terminals.{State, after_acts}
 use Rattle.vt_server.specs.message.Verdicts.{Verdict}
 use Rattle.vt_node.specs.declared.bus.FrameMeaning.{FrameMeaning}
@@ -68,7 +68,7 @@ unfoldable kept-by : ℕ → ℕ → List Claim → Claimed
 kept-by own name earlier = record { own = own; name = name; addresses = after_claims earlier }
 
 heard-is : (own name : ℕ) (earlier : List Claim) (s : State) (source : ℕ) (m : FrameMeaning) → s.claims ≡ kept-by own name earlier
-    → hear_claim s source m ≡ kept-by own name (claim_of source m ++ earlier)
+    → receive_claim s source m ≡ kept-by own name (claim_of source m ++ earlier)
 unfolding kept-by
 heard-is own name earlier s source (notices.Claim other) is = ap (λ (c : Claimed). heard c source other) is
 heard-is own name earlier s source ClaimRequest is = is

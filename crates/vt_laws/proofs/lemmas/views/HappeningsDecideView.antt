@@ -20,7 +20,7 @@ use Rattle.vt_node.specs.Watches.{is_silent}
 use Rattle.vt_server.specs.operator.ActionEffects.{object_acted_on}
 use Rattle.vt_server.specs.state.AddressViews.{AddressView, AddressOutcome, untimed_part}
 use Rattle.vt_server.specs.frame.SessionEffects.{Came}
-use Rattle.vt_server.specs.Steps.{JudgedInput, FrameAt, ActionAt, step, hear_claim}
+use Rattle.vt_server.specs.Steps.{JudgedInput, FrameAt, ActionAt, step, receive_claim}
 use Rattle.vt_server.specs.Terminals.{State, part, pool_at}
 use Rattle.vt_server.specs.message.Verdicts.{Verdict}
 use Rattle.vt_node.specs.declared.bus.FrameMeaning.{FrameMeaning}
@@ -128,10 +128,10 @@ module _ (laws : Laws) where
         cases true = refl
         cases false = ap (λ (o : Response). o.part.terminal) (response-has a (bare a u) (HolderIs (holder_of c.addresses a)) has)
 
-    claim-right : (name : ℕ) → frame_notice own f ≡ Claim name → IsRightAfter (holder_change a u.claims (hear_claim u (source_of f) (Claim name)))
+    claim-right : (name : ℕ) → frame_notice own f ≡ Claim name → IsRightAfter (holder_change a u.claims (receive_claim u (source_of f) (Claim name)))
     claim-right name is =
-        let q = part_after_all a (bare a u) (holder_change a u.claims (hear_claim u (source_of f) (Claim name))) in
-        let said = ap (λ (t : ℕ). frame_notice t f) (terminal-after (hear_claim u (source_of f) (Claim name))) ∙ is in
+        let q = part_after_all a (bare a u) (holder_change a u.claims (receive_claim u (source_of f) (Claim name))) in
+        let said = ap (λ (t : ℕ). frame_notice t f) (terminal-after (receive_claim u (source_of f) (Claim name))) ∙ is in
         subst (λ (n : FrameMeaning). IsJudged 0 a q n f verdict) (sym said) (λ e. never-ends q.set e)
 
     same-right : (n : FrameMeaning) → frame_notice own f ≡ n → IsJudged u.now a (part a u) n f verdict → IsRightAfter (holder_change a u.claims u.claims)
@@ -139,7 +139,7 @@ module _ (laws : Laws) where
         subst IsRightAfter (sym (same-holder a u.claims))
         (subst (λ (m : FrameMeaning). IsJudged 0 a (bare a u) m f verdict) (sym is) (judged-timeless u.now a (part a u) n f verdict judged))
 
-    notice-right : (n : FrameMeaning) → frame_notice own f ≡ n → IsJudged u.now a (part a u) n f verdict → IsRightAfter (holder_change a u.claims (hear_claim u (source_of f) n))
+    notice-right : (n : FrameMeaning) → frame_notice own f ≡ n → IsJudged u.now a (part a u) n f verdict → IsRightAfter (holder_change a u.claims (receive_claim u (source_of f) n))
     notice-right (Claim name) is judged = claim-right name is
     notice-right ClaimRequest is judged = same-right ClaimRequest is judged
     notice-right (Master count) is judged = same-right (Master count) is judged

@@ -11,7 +11,7 @@ use Rattle.vt_laws.specs.Happenings.{HolderIs, FrameHeard, with_holder, by_act, 
 use Rattle.vt_laws.specs.Responses.{Response, frames_to}
 use Rattle.vt_node.specs.Messages.{claim_from}
 use Rattle.vt_server.specs.state.AddressViews.{Hears, Rebinds}
-use Rattle.vt_server.specs.Steps.{hear_claim, before, changes, heard_at_source, acts, answer_to, is_defended, defence, with_shown_updated, sent_by_shown_update, acted, sent_by_frame, acting}
+use Rattle.vt_server.specs.Steps.{receive_claim, before, changes, heard_at_source, acts, answer_to, is_defended, defence, with_shown_updated, sent_by_shown_update, acted, sent_by_frame, acting}
 use Rattle.vt_server.specs.Terminals.{State, ToAll, holder, after_acts, sent_by_acts}
 use Rattle.vt_server.specs.message.Verdicts.{Verdict}
 use Rattle.vt_node.specs.declared.bus.FrameMeaning.{FrameMeaning}
@@ -60,7 +60,7 @@ module _ (laws : Laws) (a : ℕ) (s : State) (f : Frame) (verdict : Verdict) (ri
       ap (λ p. (by_act a p Rebinds).frames ++ []) bare-before
       ∙ sym (ap (λ (o : Response). o.frames ++ []) (response-has a (bare a s) (HolderIs (holder recorded a)) has))
 
-  rebinds-take : Takes a (bare a s) (sent_by_acts recorded (changes s source m)) rebound (holder_change a s.claims (hear_claim s source m))
+  rebinds-take : Takes a (bare a s) (sent_by_acts recorded (changes s source m)) rebound (holder_change a s.claims (receive_claim s source m))
   rebinds-take =
       let happened = of-changes laws.holders s rising a source m in
       let b = option_eq nat_eq (holder s a) (holder recorded a) in
@@ -97,7 +97,7 @@ module _ (laws : Laws) (a : ℕ) (s : State) (f : Frame) (verdict : Verdict) (ri
       let these = changes s source m in
       let last = heard_at_source s.claims.own source m f verdict in
       let taken = then-takes a (bare a s) (sent_by_acts recorded these) (sent_by_acts rebound last) rebound (after_acts rebound last)
-      (holder_change a s.claims (hear_claim s source m)) (if_so (eqb source a) (FrameHeard f verdict)) rebinds-take hears-take in
+      (holder_change a s.claims (receive_claim s source m)) (if_so (eqb source a) (FrameHeard f verdict)) rebinds-take hears-take in
       takes-beside a (bare a s) (defence s source m) (sent_by_acts recorded (these ++ last)) (acted s source m f verdict) (heard_happenings a s f verdict)
       (frames-defence (is_defended m (answer_to s source m)) (claim_from s.claims.own s.claims.name))
       (record {

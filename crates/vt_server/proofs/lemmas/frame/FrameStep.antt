@@ -11,7 +11,7 @@ use Rattle.vt_extended.specs.Protocol as etp
 use Rattle.vt_extended.specs.Wire.{etp_frame}
 use Rattle.vt_node.specs.Bus.{notice_of}
 use Rattle.vt_server.specs.Findings.{IsJudged, ends_transfer}
-use Rattle.vt_server.specs.frame.FrameContracts.{FitsMessage, FitsOneFrame, FitsCompleted, FitsMeaning, HasCapacity, HasUpload, IsNoClaim, TakesNotice, TakesFrame, TakesClaim, Hears, timely, message_by}
+use Rattle.vt_server.specs.frame.FrameContracts.{FitsMessage, FitsOneFrame, FitsCompleted, FitsMeaning, HasCapacity, HasUpload, IsNoClaim, TakesNotice, TakesFrame, TakesClaim, FinishesFrame, timely, message_by}
 use Rattle.vt_server.specs.frame.HoldersBeforeClaim.{AreFormer}
 use Rattle.vt_server.specs.frame.TimeoutActs.{at_time, lapsed, sent_by_lapses}
 use Rattle.vt_server.specs.Outputs.{outputs_of, frames_of}
@@ -295,7 +295,7 @@ module _ (old s : State) (n : FrameMeaning) (frame : Frame) where
   from = source_of frame
 
   pub hears-loss : (t : State) (before after : List Output) → is_lost_by (answer_to s from n) ≡ true
-      → t ≡ (losing s).after → after ≡ before ++ outputs_of (losing s).sent → Hears old s n frame t before after
+      → t ≡ (losing s).after → after ≡ before ++ outputs_of (losing s).sent → FinishesFrame old s n frame t before after
   hears-loss t before after lost left sent =
       let is : hearing old s from n frame any_verdict ≡ losing s = ap (λ b. cond b (losing s) (acting old s from n frame any_verdict)) lost in record {
         verdict = any_verdict;
@@ -307,7 +307,7 @@ module _ (old s : State) (n : FrameMeaning) (frame : Frame) where
   pub hears-acts : (v : Verdict) (u t : State) (before middle after : List Output) → is_lost_by (answer_to s from n) ≡ false
       → IsJudged s.now from (part from s) n frame v
       → u ≡ acted s from n frame v → middle ≡ before ++ outputs_of (sent_by_frame s from n frame v)
-      → t ≡ with_shown_updated u → after ≡ middle ++ outputs_of (sent_by_shown_update old u) → Hears old s n frame t before after
+      → t ≡ with_shown_updated u → after ≡ middle ++ outputs_of (sent_by_shown_update old u) → FinishesFrame old s n frame t before after
   hears-acts v u t before middle after kept judged first sent left rest =
       let is : hearing old s from n frame v ≡ acting old s from n frame v = ap (λ b. cond b (losing s) (acting old s from n frame v)) kept in record {
         verdict = v;
@@ -331,7 +331,7 @@ module _ (old s : State) (n : FrameMeaning) (frame : Frame) where
   -- The step of a frame that is a claim.
   pub hears-claim : (name : ℕ) (u t : State) (before middle after : List Output) → n ≡ notices.Claim name → is_lost_by (answer_to s from n) ≡ false
       → (u ≡ acted s from (notices.Claim name) frame any_verdict) × (middle ≡ before ++ outputs_of (sent_by_frame s from (notices.Claim name) frame any_verdict))
-      → t ≡ with_shown_updated u → after ≡ middle ++ outputs_of (sent_by_shown_update old u) → Hears old s n frame t before after
+      → t ≡ with_shown_updated u → after ≡ middle ++ outputs_of (sent_by_shown_update old u) → FinishesFrame old s n frame t before after
   hears-claim name u t before middle after is kept takes left rest =
       hears-acts any_verdict u t before middle after kept
       (subst (λ m. IsJudged s.now from (part from s) m frame any_verdict) (sym is) (λ ends. none-ends (part from s).set ends (IsVerdict (s.places from).content any_verdict)))
@@ -339,7 +339,7 @@ module _ (old s : State) (n : FrameMeaning) (frame : Frame) where
 
   -- The step of a frame that is not a claim.
   pub hears-other : (r u t : State) (before middle after : List Output) → IsNoClaim n → r ≡ s → TakesFrame r n frame u before middle
-      → t ≡ with_shown_updated u → after ≡ middle ++ outputs_of (sent_by_shown_update old u) → Hears old s n frame t before after
+      → t ≡ with_shown_updated u → after ≡ middle ++ outputs_of (sent_by_shown_update old u) → FinishesFrame old s n frame t before after
   hears-other r u t before middle after unclaimed same takes left rest =
       let it : TakesFrame s n frame u before middle = subst (λ x. TakesFrame x n frame u before middle) same takes in
       hears-acts it.verdict u t before middle after (no-loss s from n unclaimed) it.judged it.state it.sent left rest
@@ -349,7 +349,7 @@ module _ (old s : State) (n : FrameMeaning) (frame : Frame) where
 module _ (s : State) (time : ℕ) (frame : Frame) where
   pub takes-line : (n : FrameMeaning) (t : State) (before middle after : List Output) → s.lost ≡ false → n ≡ notice_of s.claims.own s.claims.name frame
       → middle ≡ before ++ outputs_of (sent_by_lapses (at_time s time))
-      → Hears s (lapsed (at_time s time)) n frame t middle after → TakesInput s (inputs.Frame time frame) t before after
+      → FinishesFrame s (lapsed (at_time s time)) n frame t middle after → TakesInput s (inputs.Frame time frame) t before after
   takes-line n t before middle after kept is sent hears =
       let v = hears.verdict in
       let u = lapsed (at_time s time) in

@@ -22,7 +22,7 @@ use Rattle.vt_server.specs.state.AddressStates.{SetPool, watched}
 use Rattle.vt_server.specs.frame.TimeoutContracts.{HasLapsed}
 use Rattle.vt_server.specs.frame.SessionEffects.{message_to_terminal}
 use Rattle.vt_server.specs.States.{state_of}
-use Rattle.vt_server.specs.Steps.{hear_claim, answer_to, is_lost_by, is_defended, former_address, former_holder}
+use Rattle.vt_server.specs.Steps.{receive_claim, answer_to, is_lost_by, is_defended, former_address, former_holder}
 use Rattle.vt_server.specs.Terminals.{State}
 use Rattle.vt_server.specs.state.PoolTables.{content_of, spare_of}
 use Rattle.vt_node.specs.declared.bus.FrameMeaning.{FrameMeaning}
@@ -51,7 +51,7 @@ module _ (s u : State) (same : u.claims ≡ s.claims) where
   answer-same a notices.Etp = refl
   answer-same a notices.Nothing = refl
 
-  claim-same : (a : ℕ) (n : FrameMeaning) → hear_claim s a n ≡ hear_claim u a n
+  claim-same : (a : ℕ) (n : FrameMeaning) → receive_claim s a n ≡ receive_claim u a n
   claim-same a (notices.Claim name) = ap (λ c. heard c a name) (sym same)
   claim-same a notices.ClaimRequest = sym same
   claim-same a (notices.Master count) = sym same
@@ -160,7 +160,7 @@ module _ (s : State) (t : Terminal) (time now : ℕ) (n : FrameMeaning) (frame :
   claims = claims-lapsed (at_time s time)
 
   abbrev with_claim : Claimed
-  with_claim = hear_claim s a n
+  with_claim = receive_claim s a n
 
   pub prepared-display : (ready : PreparedFrame) → FitsBeforeTimeouts s t now n frame ready → display (state_of t) ≡ display s
   unfolding display

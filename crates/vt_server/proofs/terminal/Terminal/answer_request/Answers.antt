@@ -37,7 +37,7 @@ returns-clause-takes c =
     let sent : after ≡ before ++ outputs_of (defence s a notices.ClaimRequest) =
     c.send.ensures.items ∙ ap (λ (f : Frame). before ++ declared.Frame f ∷ []) c.own_claim.ensures in
     subst (λ (x : State). TakesFrame s notices.ClaimRequest frame x before after)
-    (sym (heard-state t c.hear.new.self c.source-source.result a c.source-source.ensures c.hear.ensures.sets c.hear.ensures.heard))
+    (sym (heard-state t c.note_frame.new.self c.source-source.result a c.source-source.ensures c.note_frame.ensures.sets c.note_frame.ensures.heard))
     (takes-heard s frame notices.ClaimRequest request-unclaimed heard before after after
     (λ e. c.if-source-own.false (c.source-source.ensures ∙ e ∙ sym c.own.ensures)) sent
     (takes-nothing heard notices.ClaimRequest frame after tt) (accepted s.now a notices.ClaimRequest frame request-unclaimed))

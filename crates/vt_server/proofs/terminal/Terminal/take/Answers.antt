@@ -33,7 +33,7 @@ pub take_notice-requires-clause-reserved : goal.take_notice-requires-clause-rese
 take_notice-requires-clause-reserved c = record {
   tp = c.requires.reserved.tp;
   etp = c.requires.reserved.etp;
-  sets = λ count is. subst (λ n. 0 < n) (sym c.hear.ensures.capacity) (c.requires.reserved.sets count is);
+  sets = λ count is. subst (λ n. 0 < n) (sym c.note_frame.ensures.capacity) (c.requires.reserved.sets count is);
 }
 
 pub take_notice-requires-clause-upload : goal.take_notice-requires-clause-upload
@@ -44,8 +44,8 @@ take_notice-requires-clause-upload c some =
     let a = source_of frame in
     let place : AddressState = (state_of t).places a in
     subst (λ m. FitsMeaning n (content_of t.contents a) (spare_of t.contents a) m c.args.upload)
-    (came-reads t.time t.node.claims.own a place (record place { heard = heard_of c.hear.new.self.watch a }) n frame refl refl)
-    (c.requires.upload (ap (λ (l : List Set). is_some (set_at a l)) (sym c.hear.ensures.sets) ∙ some))
+    (came-reads t.time t.node.claims.own a place (record place { heard = heard_of c.note_frame.new.self.watch a }) n frame refl refl)
+    (c.requires.upload (ap (λ (l : List Set). is_some (set_at a l)) (sym c.note_frame.ensures.sets) ∙ some))
 
 pub returns-clause-takes : goal.returns-clause-takes
 returns-clause-takes c =
@@ -64,5 +64,5 @@ returns-clause-takes c =
     takes-heard s frame n c.requires.no_claim u before before after
     (λ e. c.if-source-own.false (c.source-source.ensures ∙ e ∙ sym c.own.ensures))
     (sym (append-nil before) ∙ ap (λ (l : List Sent). before ++ outputs_of l) (sym (defence-none s a n c.requires.no_claim other)))
-    (subst (λ (x : State). TakesNotice x n frame u before after) (heard-state t c.hear.new.self c.source-source.result a c.source-source.ensures c.hear.ensures.sets c.hear.ensures.heard) c.take_notice.ensures.takes)
+    (subst (λ (x : State). TakesNotice x n frame u before after) (heard-state t c.note_frame.new.self c.source-source.result a c.source-source.ensures c.note_frame.ensures.sets c.note_frame.ensures.heard) c.take_notice.ensures.takes)
     (accepted s.now a n frame c.requires.no_claim)

@@ -20,9 +20,9 @@ returns-then-source-own-clause-takes c s name frame verdict from former defended
     after-changes s (state_of c.args.self.now) (state_of c.rebind_former.new.self) v c.args.source name f.address f.address_holder f.holder
     is former.address former.address_holder former.holder c.rebind_former.ensures c.rebind.ensures in (
       acted-other s v c.args.source name frame verdict changed
-          (record v { sets = c.hear.new.self.sets; places = places_by (content_of t.contents) t.node (heard_of c.hear.new.self.watch) }) (state_of c.bind.new.self)
+          (record v { sets = c.note_frame.new.self.sets; places = places_by (content_of t.contents) t.node (heard_of c.note_frame.new.self.watch) }) (state_of c.bind.new.self)
           (λ e. c.if-source-own.true (e ∙ sym c.own.ensures))
-          ((λ i. record v { sets = c.hear.ensures.sets i; places = places_by (content_of t.contents) t.node (c.hear.ensures.heard i) })
+          ((λ i. record v { sets = c.note_frame.ensures.sets i; places = places_by (content_of t.contents) t.node (c.note_frame.ensures.heard i) })
           ∙ ap (λ (places : ℕ → AddressState). record v { places = places }) (heard-placed (content_of t.contents) t.node (heard_of t.registry.watch) c.args.source (Some t.time)))
           c.bind.ensures,
       elim c.if-former.branch [

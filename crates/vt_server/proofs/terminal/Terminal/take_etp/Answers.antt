@@ -8,7 +8,7 @@ use Rattle.vt_server.proofs.terminal.Terminal.take_etp.Goals as goal
 pub returns-clause-takes : goal.returns-clause-takes
 returns-clause-takes c =
     let before = c.args.outputs.now.items in
-    let received = c.hear_etp in
+    let received = c.receive_etp in
     etp-takes c.args.self.now c.args.frame.now received.result received.new.self received.ensures.rest received.ensures.taken
     (state_of c.take_whole-reply.new.self) c.source.result c.parts_of-reply.result.1 c.take_whole-reply.result before c.send_reply-2.new.outputs.items c.source.ensures
     c.parts_of-reply.ensures.message c.take_whole-reply.ensures.handles

@@ -13,7 +13,7 @@ returns-clause-takes c =
     let t = c.args.self.now in
     let frame = c.args.frame.now in
     let before = c.args.outputs.now.items in
-    let received = c.hear_tp in
+    let received = c.receive_tp in
     let none : is_some (finite.get received.new.self.sending (source_of frame)) ≡ false =
     ap (λ (n : NodeState). is_some (finite.get n.sending (source_of frame))) received.ensures.rest
     ∙ ap (λ a. is_some (finite.get t.node.sending a)) (sym c.source-source.ensures)

@@ -9,8 +9,8 @@ use Rattle.vt_server.proofs.terminal.Terminal.take_tp_as_sender.Goals as goal
 pub returns-clause-takes : goal.returns-clause-takes
 returns-clause-takes c =
     let before = c.args.outputs.now.items in
-    let received = c.hear_tp in
-    let answered = c.hear_as_sender in
+    let received = c.receive_tp in
+    let answered = c.receive_as_sender in
     tp-takes c.args.self.now c.args.frame.now received.result received.new.self answered.new.self answered.result.items
     received.ensures.rest received.ensures.taken answered.ensures.rest answered.ensures.answered
     (state_of c.take_whole-reply.new.self) c.source-source.result c.parts_of-reply.result.1 c.take_whole-reply.result before c.send_reply-2.new.outputs.items c.source-source.ensures

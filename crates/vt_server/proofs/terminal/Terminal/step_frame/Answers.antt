@@ -8,7 +8,7 @@ use Rattle.vt_server.proofs.lemmas.frame.FrameStep.{takes-line, takes-lost}
 use Rattle.vt_server.proofs.lemmas.frame.PreparationAfterTimeouts.{ready-then, prepared-display, prepared-sent}
 use Rattle.vt_server.proofs.lemmas.shown.ShownSetHasPool.{ShownHasPool, hearing-pooled}
 use Rattle.vt_server.proofs.lemmas.shown.SameScreen.{line-kept, prepared-shows}
-use Rattle.vt_server.proofs.terminal.Terminal.hear.Goals as goal
+use Rattle.vt_server.proofs.terminal.Terminal.step_frame.Goals as goal
 
 pub returns-then-self-clause-ok : goal.returns-then-self-clause-ok
 returns-then-self-clause-ok c = takes-lost (state_of c.args.self.now) c.args.time c.args.frame.now c.args.outputs.now.items c.if-self.true
