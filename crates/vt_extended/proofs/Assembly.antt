@@ -7,7 +7,7 @@ use Rattle.vt_can.specs.transport.Messages.{Message}
 use Rattle.vt_can.specs.transport.Histories.{Came, TimedOut, HasBrought, untimed}
 use Rattle.vt_can.specs.transport.Steps.{event_step, session_after}
 use Rattle.vt_can.proofs.lemmas.transport.Booleans.{both_of}
-use Rattle.vt_can.proofs.lemmas.transport.Standing.{last_of}
+use Rattle.vt_can.proofs.lemmas.transport.OpenSessions.{last_of}
 use Rattle.vt_extended.specs.declared.messages.Opening.{Opening}
 use Rattle.vt_extended.specs.declared.messages.Part.{Part}
 use Rattle.vt_extended.specs.declared.messages.Part.TheVariants.{Offset, Packet}

@@ -6,7 +6,7 @@ use Rattle.vt_can.specs.declared.transport.sessions.Timed.{Timed}
 use Rattle.vt_can.specs.declared.transport.wire.Reason.TheVariants.{Disorder}
 use Rattle.vt_can.specs.transport.Messages.{joined}
 use Rattle.vt_can.specs.transport.Protocols.{silent, ended}
-use Rattle.vt_can.proofs.lemmas.transport.Joining.{take_again}
+use Rattle.vt_can.proofs.lemmas.transport.TruncatedBytes.{take_again}
 use Rattle.vt_extended.specs.declared.messages.Opening.{Opening}
 use Rattle.vt_extended.specs.declared.messages.Reply.{Reply}
 use Rattle.vt_extended.specs.declared.messages.Reply.TheVariants.{Abort}

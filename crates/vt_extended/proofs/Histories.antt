@@ -1,7 +1,7 @@
 -- ETP histories with one more session event. Every history has the latest first.
 use Rattle.std.proofs.Common.{◌≡◌, ℕ, ◌+◌, ◌≤◌, ◌<◌, true, List, [], ◌∷◌, ◌++◌, length, ap, subst, ◌∙◌, refl, arith}
 use Rattle.vt_can.specs.transport.Histories.{Came, AreQuiet, HasBrought}
-use Rattle.vt_can.proofs.lemmas.transport.Standing.{sent_more, Last, AtRequest, Later}
+use Rattle.vt_can.proofs.lemmas.transport.OpenSessions.{sent_more, Last, AtRequest, Later}
 use Rattle.vt_extended.specs.declared.messages.Opening.{Opening}
 use Rattle.vt_extended.specs.declared.messages.Part.{Part}
 use Rattle.vt_extended.specs.declared.messages.Part.TheVariants.{Offset, Packet}

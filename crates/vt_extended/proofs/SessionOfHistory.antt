@@ -5,9 +5,9 @@ use Rattle.vt_can.specs.declared.transport.sessions.Timed.{Timed}
 use Rattle.vt_can.specs.transport.Histories.{Came, TimedOut, untimed}
 use Rattle.vt_can.specs.transport.Steps as steps
 use Rattle.vt_can.specs.transport.Steps.{event_step, session_after}
-use Rattle.vt_can.proofs.lemmas.transport.Joining.{take_none}
+use Rattle.vt_can.proofs.lemmas.transport.TruncatedBytes.{take_none}
 use Rattle.vt_can.proofs.lemmas.transport.Booleans.{both_of, all_of}
-use Rattle.vt_can.proofs.lemmas.transport.Standing.{last_of, matches_none, matches_quiet, matches_end, matches_request}
+use Rattle.vt_can.proofs.lemmas.transport.OpenSessions.{last_of, matches_none, matches_quiet, matches_end, matches_request}
 use Rattle.vt_extended.specs.declared.messages.Opening.{Opening}
 use Rattle.vt_extended.specs.declared.messages.Part.{Part}
 use Rattle.vt_extended.specs.declared.messages.Part.TheVariants.{Offset, Packet}

@@ -5,7 +5,7 @@ use Rattle.vt_can.specs.declared.transport.sessions.Timed.{Timed}
 use Rattle.vt_can.specs.Assigned.{ETP_CM, ETP_DT}
 use Rattle.vt_can.specs.frames.Frame.{source_of}
 use Rattle.vt_can.specs.transport.Steps.{stepped}
-use Rattle.vt_can.proofs.lemmas.transport.Timeless as can
+use Rattle.vt_can.proofs.lemmas.transport.UntimedOutcomes as can
 use Rattle.vt_extended.specs.declared.messages.EtpFrame.TheVariants as etp
 use Rattle.vt_extended.specs.declared.messages.Part.TheVariants.{Offset, Packet}
 use Rattle.vt_extended.specs.Messages.{opens, first_reply, packet_count_of}

@@ -1,7 +1,7 @@
-mod Appending
-mod Begun
-mod Ended
+mod AppendedText
+mod EarlyEndInLines
+mod EarlyEndOfLog
+mod InputOfLine
 mod LongLines
-mod Midway
-mod Stepping
-mod Taking
+mod ReplayInvariants
+mod TakenLines

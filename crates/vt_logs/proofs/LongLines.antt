@@ -5,13 +5,13 @@ use Rattle.std.specs.List.{onto_first}
 use Rattle.std.specs.Io.KnownBytes.{Appends, Consumes}
 use Rattle.std.proofs.KnownBytes.{Appends-trans, Consumes-trans}
 use Rattle.vt_logs.specs.declared.counts.Counts.{Counts}
-use Rattle.vt_logs.specs.Begun.{StopsAtLong, HasStoppedAtLong}
+use Rattle.vt_logs.specs.EarlyEnds.{StopsAtLong, HasStoppedAtLong}
 use Rattle.vt_logs.specs.Lines.{lines_of}
 use Rattle.vt_logs.specs.Progress.{ReplayPoint, HasNoNewline, TakesBytes}
-use Rattle.vt_logs.specs.Taken.{TakesReadings}
+use Rattle.vt_logs.specs.LineEffects.{TakesReadings}
 use Rattle.vt_logs.specs.Texts.{no_counts}
-use Rattle.vt_logs.proofs.Taking.{no_newline, no_later, HasNoNewline-append, takes_none, takes_more}
-use Rattle.vt_logs.proofs.Midway.{IsMidway, IsUnderWay}
+use Rattle.vt_logs.proofs.TakenLines.{no_newline, no_later, HasNoNewline-append, takes_none, takes_more}
+use Rattle.vt_logs.proofs.ReplayInvariants.{IsMidway, IsUnderWay}
 use Rattle.vt_server.specs.shown.Screens.{IsScreenOf}
 use Rattle.vt_server.specs.Terminals.{State}
 

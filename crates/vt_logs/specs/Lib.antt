@@ -1,7 +1,7 @@
 -- Definitions of the replay of a log.
-pub mod Begun
+pub mod EarlyEnds
+pub mod LineEffects
 pub mod Lines
 pub mod Progress
 pub mod Replays
-pub mod Taken
 pub mod Texts

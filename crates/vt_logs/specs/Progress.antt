@@ -7,7 +7,7 @@ use Rattle.vt_logs.specs.declared.counts.Counts.{Counts}
 use Rattle.vt_logs.specs.declared.fault.ReplayFault.{ReplayFault}
 use Rattle.vt_logs.specs.declared.fault.ReplayFault.TheVariants.{Memory, TooLong, Write}
 use Rattle.vt_logs.specs.Lines.{lines_of}
-use Rattle.vt_logs.specs.Taken.{ReplayState, TakesReading, TakesReadings}
+use Rattle.vt_logs.specs.LineEffects.{ReplayState, TakesReading, TakesReadings}
 use Rattle.vt_logs.specs.Texts.{LineReading, with_line_counted, with_lines_counted}
 use Rattle.vt_server.specs.declared.terminal.Terminal.{Terminal}
 use Rattle.vt_server.specs.States.{state_of}

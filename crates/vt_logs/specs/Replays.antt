@@ -6,7 +6,7 @@ use Rattle.vt_logs.specs.declared.counts.Counts.{Counts}
 use Rattle.vt_logs.specs.declared.fault.ReplayFault.{ReplayFault}
 use Rattle.vt_logs.specs.declared.fault.ReplayFault.TheVariants.{Memory, Read, TooLong, Write}
 use Rattle.vt_logs.specs.Lines.{lines_of}
-use Rattle.vt_logs.specs.Taken.{ReplayState, TakesReadings}
+use Rattle.vt_logs.specs.LineEffects.{ReplayState, TakesReadings}
 use Rattle.vt_logs.specs.Texts.{LineReading, with_lines_counted, no_counts, counts_text}
 use Rattle.vt_server.specs.shown.Screens.{IsScreenOf}
 use Rattle.vt_server.specs.Terminals.{State}

@@ -2,7 +2,7 @@
 
 ghost use Rattle.std.specs.Prelude.{◌≡◌, [], length, IfOk, IfErr, IfSome, OnOk, OnErr, IsErrOf, List, ℕ};
 ghost use Rattle.std.specs.Io.KnownBytes.{Appends, IsAtEnd};
-ghost use Rattle.vt_logs.specs.Begun.{HasStopped, HasStoppedAtLong};
+ghost use Rattle.vt_logs.specs.EarlyEnds.{HasStopped, HasStoppedAtLong};
 ghost use Rattle.vt_logs.specs.Replays.{IsReplay, MayEndWith};
 ghost use Rattle.vt_logs.specs.Texts.{no_counts};
 ghost use Rattle.vt_server.specs.States.{state_of};

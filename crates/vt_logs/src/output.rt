@@ -4,7 +4,7 @@ ghost use Rattle.std.specs.Prelude.{◌≡◌, ◌++◌, OnOk, OnErr, IfErr};
 ghost use Rattle.std.specs.Fmt.{decimal};
 ghost use Rattle.std.specs.List.{flat_map};
 ghost use Rattle.std.specs.Io.KnownBytes.{Appends, Keeps};
-ghost use Rattle.vt_logs.specs.Begun.{Begins};
+ghost use Rattle.vt_logs.specs.EarlyEnds.{Begins};
 ghost use Rattle.vt_logs.specs.Progress.{IsStepFault};
 ghost use Rattle.vt_logs.specs.Texts.{output_text, refusal_name, line_fault_text, fault_name, counts_text};
 

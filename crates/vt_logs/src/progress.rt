@@ -4,8 +4,8 @@ ghost use Rattle.std.specs.Prelude.{◌≡◌, ◌^◌, ◌+◌, ◌++◌, [], �
 ghost use Rattle.std.specs.Io.KnownBytes.{Appends};
 ghost use Rattle.vt_can.specs.lines.Readings.{reading_of};
 ghost use Rattle.vt_logs.specs.Lines.{lines_of};
-ghost use Rattle.vt_logs.specs.Begun.{BreaksOff, MayBegin, Stops, StopsAtLong};
-ghost use Rattle.vt_logs.specs.Taken.{Follows, FollowsInput, TakesInputLine, TakesReading, input_line};
+ghost use Rattle.vt_logs.specs.EarlyEnds.{BreaksOff, MayBegin, Stops, StopsAtLong};
+ghost use Rattle.vt_logs.specs.LineEffects.{Follows, FollowsInput, TakesInputLine, TakesReading, input_line};
 ghost use Rattle.vt_logs.specs.Texts.{with_line_counted, no_counts, new_screen};
 ghost use Rattle.vt_logs.specs.Progress.{AtMost, HasNoNewline, IsLineFault, IsStepFault, Takes, TakesBytes, TakesOne, Writes, scene, stand};
 ghost use Rattle.vt_server.specs.shown.Screens.{IsScreenOf, redraws};

@@ -9,9 +9,9 @@ use Rattle.vt_server.specs.Steps.{JudgedInput, after_all, preloading, step}
 use Rattle.vt_server.specs.Terminals.{State}
 use Rattle.vt_laws.specs.Headline.{Pools, ArePoolsInForce, NeverSticks}
 use Rattle.vt_logs.specs.declared.counts.Counts.{Counts}
-use Rattle.vt_logs.specs.Begun.{BeginsCounts, HasStopped, LeavesLines}
+use Rattle.vt_logs.specs.EarlyEnds.{BeginsCounts, HasStopped, LeavesLines}
 use Rattle.vt_logs.specs.Replays.{IsReplay}
-use Rattle.vt_logs.specs.Taken.{ReplayState, Follows, TakesReadings}
+use Rattle.vt_logs.specs.LineEffects.{ReplayState, Follows, TakesReadings}
 use Rattle.vt_logs.specs.Texts.{LineReading}
 use Rattle.vt_program.specs.declared.options.Options.{Options}
 use Rattle.vt_program.specs.declared.options.Preload.{Preload}

@@ -17,7 +17,7 @@ use Rattle.vt_program.specs.declared.options.Options.{Options}
 use Rattle.vt_program.specs.declared.options.Preload.{Preload}
 use Rattle.vt_logs.specs.declared.fault.ReplayFault.{ReplayFault}
 use Rattle.vt_logs.specs.declared.fault.ReplayFault.TheVariants.{TooLong, Write}
-use Rattle.vt_logs.specs.Begun.{HasStopped, HasStoppedAtLong}
+use Rattle.vt_logs.specs.EarlyEnds.{HasStopped, HasStoppedAtLong}
 use Rattle.vt_logs.specs.Lines.{lines_of}
 use Rattle.vt_logs.specs.Replays.{IsReplay, HasLongLine}
 use Rattle.vt_program.specs.Runs.{FileContents, IsLoaded, IsPoolOf, IsAcceptedPoolOf, IsRefusedPool, IsReportOf, IsStart, StandsReplayed, WritesReplay, new_state}

@@ -15,7 +15,7 @@ use Rattle.vt_layout.specs.Screens.{ScreensAreOne}
 use Rattle.vt_logs.specs.declared.counts.Counts.{Counts}
 use Rattle.vt_logs.specs.Lines.{lines_of}
 use Rattle.vt_logs.specs.Replays.{IsReplay}
-use Rattle.vt_logs.specs.Taken.{ReplayState, IsInputOfLine, TakesInputLine, TakesReading, TakesReadings}
+use Rattle.vt_logs.specs.LineEffects.{ReplayState, IsInputOfLine, TakesInputLine, TakesReading, TakesReadings}
 use Rattle.vt_logs.specs.Texts.{LineReading, counts_text, new_screen, no_counts, output_text, with_lines_counted}
 use Rattle.vt_machine.specs.SetStates.{SetState}
 use Rattle.vt_kinds.specs.Records.{Seen}

@@ -5,9 +5,9 @@ use Rattle.std.specs.Prelude.{◌≡◌, ◌⊎◌, List, [], ◌∷◌, ◌++�
 use Rattle.vt_can.specs.lines.Readings.{FrameAt, OperatorAction, SkippedFrame, CommentLine}
 use Rattle.vt_laws.specs.Headline.{Pools, ArePoolsInForce, EventsKeep}
 use Rattle.vt_logs.specs.declared.counts.Counts.{Counts}
-use Rattle.vt_logs.specs.Begun.{BeginsCounts, HasStopped, LeavesLines}
+use Rattle.vt_logs.specs.EarlyEnds.{BeginsCounts, HasStopped, LeavesLines}
 use Rattle.vt_logs.specs.Replays.{IsReplay}
-use Rattle.vt_logs.specs.Taken.{IsInputOfLine, ReplayState}
+use Rattle.vt_logs.specs.LineEffects.{IsInputOfLine, ReplayState}
 use Rattle.vt_logs.specs.Texts.{LineReading}
 use Rattle.vt_program.specs.declared.options.Options.{Options}
 use Rattle.vt_node.specs.AddressFunctions.{with_at}

@@ -27,7 +27,7 @@ use Rattle.vt_program.specs.declared.program.Fault.{Fault}
 use Rattle.vt_program.specs.declared.program.Fault.TheVariants as fault
 use Rattle.vt_program.specs.declared.program.Status.{Status}
 use Rattle.vt_program.specs.declared.program.Status.TheVariants as status
-use Rattle.vt_logs.specs.Begun.{HasStopped, HasStoppedAtLong}
+use Rattle.vt_logs.specs.EarlyEnds.{HasStopped, HasStoppedAtLong}
 use Rattle.vt_logs.specs.Replays.{IsReplay, HasLongLine}
 use Rattle.vt_logs.specs.Texts.{newline}
 use Rattle.vt_program.specs.Words.{IsRefusalOf, WordsGive}

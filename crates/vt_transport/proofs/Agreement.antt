@@ -6,7 +6,7 @@ use Rattle.vt_can.specs.declared.transport.wire.Reason.TheVariants.{Disorder}
 use Rattle.vt_can.specs.transport.Messages.{Message, joined}
 use Rattle.vt_can.specs.transport.Histories.{Came, TimedOut, HasBrought, untimed}
 use Rattle.vt_can.specs.transport.Steps.{event_step, session_after}
-use Rattle.vt_can.proofs.lemmas.transport.Standing.{last_of}
+use Rattle.vt_can.proofs.lemmas.transport.OpenSessions.{last_of}
 use Rattle.vt_transport.specs.declared.messages.Opening.{Opening}
 use Rattle.vt_transport.specs.declared.messages.TpFrame.TheVariants.{Rts, Cts, EndOfMessage, Aborted, Data, Other}
 use Rattle.vt_transport.specs.declared.messages.Reply.TheVariants.{Abort}

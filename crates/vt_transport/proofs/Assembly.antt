@@ -9,8 +9,8 @@ use Rattle.vt_can.specs.transport.Histories.{Came, TimedOut, HasBrought, AreQuie
 use Rattle.vt_can.specs.transport.Protocols.{ended}
 use Rattle.vt_can.specs.transport.Steps as steps
 use Rattle.vt_can.specs.transport.Steps.{event_step, session_after}
-use Rattle.vt_can.proofs.lemmas.transport.Joining.{take_again, take_none}
-use Rattle.vt_can.proofs.lemmas.transport.Standing.{sent_more, Last, AtRequest, Later, last_of, matches_none, matches_quiet, matches_end, matches_request}
+use Rattle.vt_can.proofs.lemmas.transport.TruncatedBytes.{take_again, take_none}
+use Rattle.vt_can.proofs.lemmas.transport.OpenSessions.{sent_more, Last, AtRequest, Later, last_of, matches_none, matches_quiet, matches_end, matches_request}
 use Rattle.vt_transport.specs.declared.messages.Opening.{Opening}
 use Rattle.vt_transport.specs.declared.messages.TpFrame.TheVariants.{Rts, Cts, EndOfMessage, Aborted, Data, Other}
 use Rattle.vt_transport.specs.declared.messages.Reply.TheVariants.{Abort}

@@ -7,7 +7,7 @@ use Rattle.vt_can.specs.transport.Messages.{Message}
 use Rattle.vt_can.specs.frames.Frame.{source_of}
 use Rattle.vt_can.specs.transport.Sessions.{untimed_session}
 use Rattle.vt_can.specs.transport.Steps.{stepped}
-use Rattle.vt_can.proofs.lemmas.transport.Timeless as can
+use Rattle.vt_can.proofs.lemmas.transport.UntimedOutcomes as can
 use Rattle.vt_transport.specs.declared.messages.TpFrame.TheVariants.{Rts, Cts, EndOfMessage, Aborted, Data, Other}
 use Rattle.vt_transport.specs.Messages.{opens, first_reply}
 use Rattle.vt_transport.specs.Wire.{connection_management}

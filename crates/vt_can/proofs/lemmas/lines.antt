@@ -1,8 +1,8 @@
 -- Lemmas on log lines.
 pub mod Actions
-pub mod Cutting
 pub mod Digits
+pub mod LineRoundTrip
 pub mod OneReading
 pub mod Shape
-pub mod Writing
-pub mod Written
+pub mod UniqueSplit
+pub mod WrittenDigits

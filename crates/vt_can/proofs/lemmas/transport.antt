@@ -1,13 +1,13 @@
 -- Lemmas on both transport protocols.
 pub mod Booleans
 pub mod ByAddress
-pub mod Joining
-pub mod Marking
+pub mod CallsAsSteps
+pub mod MarkedHistories
 pub mod OneSource
+pub mod OpenSessions
 pub mod Overdue
 pub mod Places
-pub mod Receiving
 pub mod Runs
-pub mod Serving
-pub mod Standing
-pub mod Timeless
+pub mod SessionsAfterAborts
+pub mod TruncatedBytes
+pub mod UntimedOutcomes

@@ -1,4 +1,4 @@
-use Rattle.vt_can.proofs.lemmas.lines.Written.{lines-read}
+use Rattle.vt_can.proofs.lemmas.lines.LineRoundTrip.{lines-read}
 use Rattle.vt_can.proofs.laws.written_lines_are_read.Goals as goal
 
 pub returns : goal.returns

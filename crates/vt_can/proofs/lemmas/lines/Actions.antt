@@ -7,7 +7,7 @@ use Rattle.hex.specs.Hex.{decode_of}
 use Rattle.hex.proofs.HexLemmas.{decode_of-same}
 use Rattle.vt_can.specs.lines.Actions.{ActionValue, Press, Release, Select, Number, Text, Set, HasId, HasIdAnd, IsActionText, IsNumber}
 use Rattle.vt_can.specs.lines.Fields.{IsSplitAtByte, IsIdAnd, Lacks}
-use Rattle.vt_can.proofs.lemmas.lines.Cutting.{Lacks-from_pass, cut_missing, one_cut}
+use Rattle.vt_can.proofs.lemmas.lines.UniqueSplit.{Lacks-from_pass, cut_missing, one_cut}
 
 -- the first and the third byte of a text, which differ from word to word
 abbrev text_mark : List ℕ → ℕ

@@ -6,7 +6,7 @@ use Rattle.std.specs.List.{AllPass}
 use Rattle.std.specs.Str.Parse.{digits_value}
 use Rattle.vt_can.specs.lines.Line.{AreDigits, HasShape, HasTime, IsFraction}
 use Rattle.vt_can.specs.lines.Fields.{IsSplitAtByte, IsThirdWord, Lacks}
-use Rattle.vt_can.proofs.lemmas.lines.Cutting.{Lacks-append, Lacks-cons, Lacks-from_pass, Lacks-left, Lacks-right, Lacks-tail, cut_missing, one_cut, third_word-one}
+use Rattle.vt_can.proofs.lemmas.lines.UniqueSplit.{Lacks-append, Lacks-cons, Lacks-from_pass, Lacks-left, Lacks-right, Lacks-tail, cut_missing, one_cut, third_word-one}
 
 -- ---- the time
 

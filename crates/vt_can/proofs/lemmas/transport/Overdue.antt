@@ -5,7 +5,7 @@ use Rattle.std.specs.Cmp.{nat_cmp_total}
 use Rattle.std.specs.FinMap as finite
 use Rattle.vt_can.specs.transport.Sessions.{ByAddress, each_below, is_overdue, Expires, TheFirstExpires, IsRemoved}
 use Rattle.vt_can.proofs.lemmas.transport.ByAddress.{get-removed, get-removed_other}
-use Rattle.vt_can.proofs.lemmas.transport.Serving.{not_empty}
+use Rattle.vt_can.proofs.lemmas.transport.SessionsAfterAborts.{not_empty}
 
 module _ {X : Type 0} (what : X) where
   abbrev chosen : ℕ → Bool → List (ℕ × X)

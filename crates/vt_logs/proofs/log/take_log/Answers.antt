@@ -5,10 +5,10 @@ use Rattle.std.proofs.KnownBytes.{Keeps-refl}
 use Rattle.vt_server.specs.States.{state_of}
 use Rattle.vt_logs.specs.Texts.{no_counts}
 use Rattle.vt_logs.specs.Progress.{scene, stand, ReplayPoint}
-use Rattle.vt_logs.proofs.Midway.{way_drawn, way_flushed, way_start, way_more, way_reads, way_end, read_front}
+use Rattle.vt_logs.proofs.ReplayInvariants.{way_drawn, way_flushed, way_start, way_more, way_reads, way_end, read_front}
 use Rattle.vt_logs.proofs.LongLines.{way_long, end_long}
-use Rattle.vt_logs.proofs.Begun.{on_any_err}
-use Rattle.vt_logs.proofs.Ended.{begun_none, begun_first, ends_in_line, stopped_long, way_stop, way_stops, way_last, way_counts}
+use Rattle.vt_logs.proofs.EarlyEndInLines.{on_any_err}
+use Rattle.vt_logs.proofs.EarlyEndOfLog.{begun_none, begun_first, ends_in_line, stopped_long, way_stop, way_stops, way_last, way_counts}
 use Rattle.vt_logs.proofs.log.take_log.Goals as goal
 
 pub loop-init : goal.loop-init

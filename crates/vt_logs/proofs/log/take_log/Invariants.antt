@@ -1,7 +1,7 @@
 use Rattle.std.proofs.Common.{◌≡◌, length}
 use Rattle.vt_logs.specs.Progress.{stand}
 use Rattle.vt_logs.specs.Texts.{no_counts}
-use Rattle.vt_logs.proofs.Midway.{IsUnderWay}
+use Rattle.vt_logs.proofs.ReplayInvariants.{IsUnderWay}
 use Rattle.vt_logs.proofs.log.take_log.Given as goal
 
 abbrev pub invariant-loop : goal.invariant-loop

@@ -2,7 +2,7 @@ use Rattle.std.proofs.Common.{◌≡◌, ◌≤◌, ◌<◌, ◌+◌, ◌++◌, 
 use Rattle.std.proofs.lemmas.List.{drop_all, take_rest}
 use Rattle.std.specs.Io.KnownBytes.{Appends}
 use Rattle.std.proofs.KnownBytes.{Appends-trans, Appends-kept}
-use Rattle.vt_logs.proofs.Midway.{above_zero}
+use Rattle.vt_logs.proofs.ReplayInvariants.{above_zero}
 use Rattle.vt_logs.proofs.output.put.Goals as goal
 use Rattle.vt_logs.proofs.output.put.Goals.{in-Ok, in-Err+in-Interrupted}
 

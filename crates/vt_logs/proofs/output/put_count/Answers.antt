@@ -1,6 +1,6 @@
 use Rattle.std.specs.Fmt.{decimal}
 use Rattle.std.proofs.lemmas.Result.{on_err_weaker}
-use Rattle.vt_logs.proofs.Begun.{begins_later, begins_more, on_any_err}
+use Rattle.vt_logs.proofs.EarlyEndInLines.{begins_later, begins_more, on_any_err}
 use Rattle.vt_logs.proofs.output.put_count.Goals as goal
 
 pub returns-in_err-put-clause-front : goal.returns-in_err-put-clause-front

@@ -3,8 +3,8 @@ use Rattle.std.proofs.KnownBytes.{Appends-trans}
 use Rattle.std.proofs.lemmas.Result.{on_err_weaker}
 use Rattle.vt_logs.specs.declared.counts.Counts.{Counts}
 use Rattle.vt_logs.specs.Texts.{count_text, newline}
-use Rattle.vt_logs.proofs.Appending.{seven_writes, begun_first, begun_after, appends_three, appends_four, appends_five, appends_six}
-use Rattle.vt_logs.proofs.Begun.{on_any_err}
+use Rattle.vt_logs.proofs.AppendedText.{seven_writes, begun_first, begun_after, appends_three, appends_four, appends_five, appends_six}
+use Rattle.vt_logs.proofs.EarlyEndInLines.{on_any_err}
 use Rattle.vt_logs.proofs.output.put_counts.Goals as goal
 
 pub returns-clause-text : goal.returns-clause-text

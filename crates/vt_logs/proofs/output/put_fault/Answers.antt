@@ -4,8 +4,8 @@ use Rattle.std.proofs.lemmas.Result.{on_err_weaker}
 use Rattle.std.specs.Fmt.{decimal}
 use Rattle.vt_can.specs.declared.lines.line.LineFault.{LineFault}
 use Rattle.vt_logs.specs.Texts.{fault_name, newline}
-use Rattle.vt_logs.proofs.Appending.{begun_first, begun_after, appends_three, appends_four}
-use Rattle.vt_logs.proofs.Begun.{on_any_err}
+use Rattle.vt_logs.proofs.AppendedText.{begun_first, begun_after, appends_three, appends_four}
+use Rattle.vt_logs.proofs.EarlyEndInLines.{on_any_err}
 use Rattle.vt_logs.proofs.output.put_fault.Goals as goal
 
 abbrev parts : ℕ → LineFault → List (List ℕ)

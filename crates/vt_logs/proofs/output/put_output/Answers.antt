@@ -3,8 +3,8 @@ use Rattle.std.proofs.KnownBytes.{Appends-trans}
 use Rattle.std.proofs.lemmas.Result.{on_err_weaker}
 use Rattle.vt_can.specs.lines.WrittenForms.{frame_text}
 use Rattle.vt_logs.specs.Texts.{refusal_name, newline}
-use Rattle.vt_logs.proofs.Appending.{begun_first, begun_after}
-use Rattle.vt_logs.proofs.Begun.{begins_later, begins_more, on_any_err}
+use Rattle.vt_logs.proofs.AppendedText.{begun_first, begun_after}
+use Rattle.vt_logs.proofs.EarlyEndInLines.{begins_later, begins_more, on_any_err}
 use Rattle.vt_logs.proofs.output.put_output.Goals as goal
 
 pub returns-in_err-put-in-Frame-clause-front : goal.returns-in_err-put-in-Frame-clause-front

@@ -1,6 +1,6 @@
 use Rattle.vt_logs.specs.Texts.{output_text}
-use Rattle.vt_logs.proofs.Appending.{begun_item}
-use Rattle.vt_logs.proofs.Begun.{on_any_err}
+use Rattle.vt_logs.proofs.AppendedText.{begun_item}
+use Rattle.vt_logs.proofs.EarlyEndInLines.{on_any_err}
 use Rattle.vt_logs.proofs.output.put_outputs.Goals as goal
 
 pub returns-in_err-put_output-clause-front : goal.returns-in_err-put_output-clause-front

@@ -1,4 +1,4 @@
-use Rattle.vt_can.proofs.lemmas.transport.Marking.{sessions_same, run_whole}
+use Rattle.vt_can.proofs.lemmas.transport.MarkedHistories.{sessions_same, run_whole}
 use Rattle.vt_transport.specs.Protocol.{protocol}
 use Rattle.vt_transport.specs.Messages.{IsWhole}
 use Rattle.vt_transport.proofs.Agreement.{agrees}

@@ -1,5 +1,5 @@
 use Rattle.std.proofs.Common.{◌∙◌}
-use Rattle.vt_can.proofs.lemmas.transport.Serving.{expired_same, expired_fewer, serves_as}
+use Rattle.vt_can.proofs.lemmas.transport.SessionsAfterAborts.{expired_same, expired_fewer, serves_as}
 use Rattle.vt_transport.specs.Protocol.{protocol}
 use Rattle.vt_bus_tests.proofs.transport.serving.served.Goals as goal
 

@@ -1,6 +1,6 @@
 use Rattle.std.proofs.Common.{inl, inr}
 use Rattle.std.proofs.lemmas.Bool.{iff_false}
-use Rattle.vt_can.proofs.lemmas.lines.Cutting.{third_word-none}
+use Rattle.vt_can.proofs.lemmas.lines.UniqueSplit.{third_word-none}
 use Rattle.vt_can.proofs.lines.fields.third_word.Goals as goal
 
 pub returns-then-not-is_letter : goal.returns-then-not-is_letter

@@ -2,7 +2,7 @@ use Rattle.std.proofs.Common.{◌≡◌, ◌+◌, ◌/◌, ◌%◌, ◌∷◌, [
 use Rattle.std.proofs.lemmas.Fmt.{decimal_digit, decimal_step}
 use Rattle.std.specs.Fmt.{decimal}
 use Rattle.arrayvec.specs.ArrayVec.{array_vec_len}
-use Rattle.vt_can.proofs.lemmas.lines.Writing.{length-decimal-one, length-decimal-step}
+use Rattle.vt_can.proofs.lemmas.lines.WrittenDigits.{length-decimal-one, length-decimal-step}
 use Rattle.vt_can.proofs.lines.write.+push_decimal.Goals as goal
 use Rattle.vt_can.proofs.lines.write.+push_decimal.Goals.{then-n-ge10, else-n-ge10}
 

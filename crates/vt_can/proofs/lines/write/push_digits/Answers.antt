@@ -3,7 +3,7 @@ use Rattle.std.proofs.lemmas.Grind.{common_steps}
 use Rattle.std.proofs.lemmas.List.{take_all}
 use Rattle.hex.specs.Hex.{encode_lower, lower_digits}
 use Rattle.hex.proofs.HexLemmas.{length-encode_with}
-use Rattle.vt_can.proofs.lemmas.lines.Writing.{uppercase-encode_lower}
+use Rattle.vt_can.proofs.lemmas.lines.WrittenDigits.{uppercase-encode_lower}
 use Rattle.vt_can.proofs.lines.write.push_digits.Goals as goal
 use Rattle.vt_can.proofs.lines.write.push_digits.Goals.{After-encode_to_slice}
 

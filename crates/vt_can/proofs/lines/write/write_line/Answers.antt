@@ -1,5 +1,5 @@
 use Rattle.std.proofs.Common.{length, ap, arith}
-use Rattle.vt_can.proofs.lemmas.lines.Writing.{seconds-short}
+use Rattle.vt_can.proofs.lemmas.lines.WrittenDigits.{seconds-short}
 use Rattle.vt_can.proofs.lines.write.write_line.Goals as goal
 
 pub push_decimal-requires : goal.push_decimal-requires

@@ -3,7 +3,7 @@ use Rattle.vt_can.specs.transport.Receivers.{ReceiverState}
 use Rattle.vt_can.proofs.lemmas.transport.ByAddress.{removed_others}
 use Rattle.vt_extended.specs.SessionState.{SessionState}
 use Rattle.vt_extended.specs.Protocol.{protocol}
-use Rattle.vt_can.proofs.lemmas.transport.Receiving.{removed_makes_step}
+use Rattle.vt_can.proofs.lemmas.transport.CallsAsSteps.{removed_makes_step}
 use Rattle.vt_extended.proofs.receiver.Receiver.aborted.Goals as goal
 
 pub returns-clause-step : goal.returns-clause-step

@@ -8,7 +8,7 @@ use Rattle.vt_extended.specs.Steps.{after_part}
 use Rattle.vt_extended.specs.Wire.{reply_frame}
 use Rattle.vt_can.specs.declared.transport.heard.Heard.TheVariants as heard
 use Rattle.vt_can.proofs.lemmas.transport.ByAddress.{removed_others, put_again_others}
-use Rattle.vt_can.proofs.lemmas.transport.Receiving.{removed_makes_step, put_makes_step, replied, makes_step_as, session_removed, none_there}
+use Rattle.vt_can.proofs.lemmas.transport.CallsAsSteps.{removed_makes_step, put_makes_step, replied, makes_step_as, session_removed, none_there}
 use Rattle.vt_extended.proofs.receiver.Receiver.receive_part.Goals as goal
 
 pub returns-in_default-clause-step : goal.returns-in_default-clause-step

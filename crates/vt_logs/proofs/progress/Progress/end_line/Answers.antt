@@ -1,7 +1,7 @@
 use Rattle.std.proofs.Common.{◌++◌, ◌∷◌, []}
 use Rattle.std.proofs.KnownBytes.{Keeps-refl}
 use Rattle.vt_logs.specs.Progress.{stand}
-use Rattle.vt_logs.proofs.Begun.{on_any_err, stops_none}
+use Rattle.vt_logs.proofs.EarlyEndInLines.{on_any_err, stops_none}
 use Rattle.vt_logs.proofs.progress.Progress.end_line.Goals as goal
 
 pub returns-in_err-keep-clause-stopped : goal.returns-in_err-keep-clause-stopped

@@ -1,9 +1,9 @@
 use Rattle.std.proofs.Common.{List, ℕ, subst}
 use Rattle.std.specs.Prelude.{OnOk, OnErr}
 use Rattle.vt_server.specs.States.{state_of}
-use Rattle.vt_logs.specs.Begun.{Stops}
+use Rattle.vt_logs.specs.EarlyEnds.{Stops}
 use Rattle.vt_logs.specs.Progress.{stand, ReplayPoint, Takes}
-use Rattle.vt_logs.proofs.Midway.{last_line}
+use Rattle.vt_logs.proofs.ReplayInvariants.{last_line}
 use Rattle.vt_logs.proofs.progress.Progress.end_log.Goals as goal
 use Rattle.vt_server.specs.Terminals.{State}
 

@@ -3,10 +3,10 @@ use Rattle.std.proofs.lemmas.List.{append-nil}
 use Rattle.std.proofs.KnownBytes.{Keeps-refl}
 use Rattle.std.proofs.lemmas.Result.{err_from_is_err_and, IfErr-at_err}
 use Rattle.vt_logs.specs.Progress.{stand, ReplayPoint}
-use Rattle.vt_logs.proofs.Midway.{midway_drawn, midway_few, midway_line}
+use Rattle.vt_logs.proofs.ReplayInvariants.{midway_drawn, midway_few, midway_line}
 use Rattle.vt_server.specs.States.{state_of}
 use Rattle.vt_logs.proofs.LongLines.{midway_long}
-use Rattle.vt_logs.proofs.Begun.{on_any_err, midway_stops, midway_stop}
+use Rattle.vt_logs.proofs.EarlyEndInLines.{on_any_err, midway_stops, midway_stop}
 use Rattle.vt_logs.proofs.progress.Progress.take_chunk.Goals as goal
 
 pub end_line-requires : goal.end_line-requires

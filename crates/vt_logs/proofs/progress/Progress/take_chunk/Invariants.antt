@@ -1,6 +1,6 @@
 use Rattle.std.proofs.Common.{length}
 use Rattle.vt_logs.specs.Progress.{stand}
-use Rattle.vt_logs.proofs.Midway.{IsMidway}
+use Rattle.vt_logs.proofs.ReplayInvariants.{IsMidway}
 use Rattle.vt_logs.proofs.progress.Progress.take_chunk.Given as goal
 
 abbrev pub invariant-loop-line : goal.invariant-loop-line

@@ -2,10 +2,10 @@ use Rattle.std.proofs.Common.{◌≡◌, ◌∙◌, Bool, [], if◌then◌else�
 use Rattle.std.specs.Io.KnownBytes.{Appends}
 use Rattle.std.proofs.KnownBytes.{Appends-nil}
 use Rattle.vt_logs.specs.Progress.{scene}
-use Rattle.vt_logs.specs.Taken.{ReplayState}
+use Rattle.vt_logs.specs.LineEffects.{ReplayState}
 use Rattle.vt_logs.specs.Texts.{new_screen}
-use Rattle.vt_logs.proofs.Begun.{on_any_err}
-use Rattle.vt_logs.proofs.Stepping.{input_prints, input_refused, input_taken, input_unprinted, sent_begun, shown_begun}
+use Rattle.vt_logs.proofs.EarlyEndInLines.{on_any_err}
+use Rattle.vt_logs.proofs.InputOfLine.{input_prints, input_refused, input_taken, input_unprinted, sent_begun, shown_begun}
 use Rattle.vt_server.specs.States.{state_of}
 use Rattle.vt_logs.proofs.progress.Progress.take_input.Goals as goal
 

@@ -4,8 +4,8 @@ use Rattle.vt_can.specs.lines.Readings.{reading_of}
 use Rattle.vt_logs.specs.Progress.{stand, ReplayPoint}
 use Rattle.vt_logs.specs.declared.progress.Progress.{Progress}
 use Rattle.vt_server.specs.States.{state_of}
-use Rattle.vt_logs.proofs.Taking.{takes_one}
-use Rattle.vt_logs.proofs.Begun.{stops_one}
+use Rattle.vt_logs.proofs.TakenLines.{takes_one}
+use Rattle.vt_logs.proofs.EarlyEndInLines.{stops_one}
 use Rattle.vt_logs.proofs.progress.Progress.take_line.Goals as goal
 use Rattle.vt_logs.proofs.progress.Progress.take_line.Goals.{in-Err, in_default}
 

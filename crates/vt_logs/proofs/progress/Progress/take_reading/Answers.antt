@@ -2,8 +2,8 @@ use Rattle.std.proofs.Common.{◌+◌}
 use Rattle.std.proofs.lemmas.Result.{on_err_weaker}
 use Rattle.vt_can.specs.lines.Actions.{action_value}
 use Rattle.vt_logs.specs.Progress.{scene}
-use Rattle.vt_logs.specs.Taken.{ReplayState}
-use Rattle.vt_logs.proofs.Stepping.{action_off, fault_begun, frame_off}
+use Rattle.vt_logs.specs.LineEffects.{ReplayState}
+use Rattle.vt_logs.proofs.InputOfLine.{action_off, fault_begun, frame_off}
 use Rattle.vt_server.specs.States.{state_of}
 use Rattle.vt_logs.proofs.progress.Progress.take_reading.Goals as goal
 

@@ -5,7 +5,7 @@ use Rattle.vt_transport.specs.SessionState.{SessionState}
 use Rattle.vt_transport.specs.Protocol.{protocol}
 use Rattle.vt_can.specs.transport.Receivers.{ReceiverState}
 use Rattle.vt_can.proofs.lemmas.transport.ByAddress.{removed_others}
-use Rattle.vt_can.proofs.lemmas.transport.Receiving.{removed_makes_step}
+use Rattle.vt_can.proofs.lemmas.transport.CallsAsSteps.{removed_makes_step}
 use Rattle.vt_transport.proofs.receiver.Receiver.aborted.Goals as goal
 
 not_of_terminal : (pgn : ℕ) (current : Option (Timed SessionState)) → (pgn ≡ VT_TO_ECU → ⊥) → cond (eqb pgn VT_TO_ECU) current None ≡ None

@@ -6,7 +6,7 @@ use Rattle.vt_transport.specs.Messages.{opens}
 use Rattle.vt_transport.specs.Protocol.{protocol}
 use Rattle.vt_can.specs.transport.Receivers.{ReceiverState}
 use Rattle.vt_can.proofs.lemmas.transport.ByAddress.{removed_others, put_others}
-use Rattle.vt_can.proofs.lemmas.transport.Receiving.{removed_makes_step, put_makes_step, replied}
+use Rattle.vt_can.proofs.lemmas.transport.CallsAsSteps.{removed_makes_step, put_makes_step, replied}
 use Rattle.vt_transport.proofs.receiver.Receiver.open.Goals as goal
 
 refused : (o : Opening) (timed : Timed SessionState) → opens o ≡ false → cond (opens o) (Some timed) None ≡ None

@@ -6,12 +6,12 @@ use Rattle.std.specs.Io.KnownBytes.{Appends, Keeps}
 use Rattle.std.proofs.KnownBytes.{Appends-trans}
 use Rattle.vt_can.specs.lines.Line.{ReadsAs}
 use Rattle.vt_logs.specs.Lines.{lines_of}
-use Rattle.vt_logs.specs.Taken.{Follows, ReplayState, TakesReading}
+use Rattle.vt_logs.specs.LineEffects.{Follows, ReplayState, TakesReading}
 use Rattle.vt_logs.specs.Texts.{LineReading}
-use Rattle.vt_logs.specs.Begun.{Begins, BreaksOff, LeavesLines, Stops}
+use Rattle.vt_logs.specs.EarlyEnds.{Begins, BreaksOff, LeavesLines, Stops}
 use Rattle.vt_logs.specs.Progress.{ReplayPoint, Takes, HasNoNewline, TakesBytes, Writes}
-use Rattle.vt_logs.proofs.Taking.{takes_none, takes_more, lines_of-line, HasNoNewline-append}
-use Rattle.vt_logs.proofs.Midway.{IsMidway}
+use Rattle.vt_logs.proofs.TakenLines.{takes_none, takes_more, lines_of-line, HasNoNewline-append}
+use Rattle.vt_logs.proofs.ReplayInvariants.{IsMidway}
 use Rattle.vt_server.specs.Terminals.{State}
 
 -- ---- what stands written

@@ -6,7 +6,7 @@ use Rattle.vt_can.specs.lines.Line.{ReadsAs}
 use Rattle.vt_logs.specs.Lines.{lines_of}
 use Rattle.vt_logs.specs.Progress.{ReplayPoint, Takes}
 use Rattle.vt_logs.specs.Replays.{HasLong, HasLongLine}
-use Rattle.vt_logs.specs.Taken.{ReplayState, Follows, TakesReading, TakesReadings}
+use Rattle.vt_logs.specs.LineEffects.{ReplayState, Follows, TakesReading, TakesReadings}
 use Rattle.vt_logs.specs.Texts.{LineReading, with_lines_counted, no_counts, counts_text}
 use Rattle.vt_server.specs.shown.Screens.{IsScreenOf}
 use Rattle.vt_server.specs.Terminals.{State}

@@ -23,9 +23,9 @@ use Rattle.vt_can.specs.lines.Readings.{ParsedLine, FrameAt}
 use Rattle.vt_can.specs.lines.Line.{AreDigits, HasShape, HasTime, IsRead, begins_with, data_reading, id_of, frame_line, frame_line_reading}
 use Rattle.vt_can.specs.lines.Fields.{Lacks}
 use Rattle.vt_can.specs.lines.WrittenForms.{WrittenLinesAreRead, line_text, lowest_digits}
-use Rattle.vt_can.proofs.lemmas.lines.Cutting.{Lacks-append, Lacks-from_pass, Lacks-head, cut_missing}
+use Rattle.vt_can.proofs.lemmas.lines.UniqueSplit.{Lacks-append, Lacks-from_pass, Lacks-head, cut_missing}
 use Rattle.vt_can.proofs.lemmas.lines.Digits.{data-short}
-use Rattle.vt_can.proofs.lemmas.lines.Writing.{seconds-short}
+use Rattle.vt_can.proofs.lemmas.lines.WrittenDigits.{seconds-short}
 
 -- ---- the time
 

@@ -7,11 +7,11 @@ use Rattle.vt_can.specs.declared.frames.frame.Frame.{Frame}
 use Rattle.vt_can.specs.declared.lines.line.LineFault.{LineFault}
 use Rattle.vt_can.specs.lines.Actions.{ActionValue}
 use Rattle.vt_can.specs.lines.Readings.{FrameAt, OperatorAction}
-use Rattle.vt_logs.specs.Begun.{Begins, BreaksOff, IsFrontOfPrint}
+use Rattle.vt_logs.specs.EarlyEnds.{Begins, BreaksOff, IsFrontOfPrint}
 use Rattle.vt_logs.specs.Progress.{Writes}
-use Rattle.vt_logs.specs.Taken.{ReplayState, Follows, FollowsInput, IsInputOfLine, TakesInputLine, TakesReading, input_line}
+use Rattle.vt_logs.specs.LineEffects.{ReplayState, Follows, FollowsInput, IsInputOfLine, TakesInputLine, TakesReading, input_line}
 use Rattle.vt_logs.specs.Texts.{line_fault_text, new_screen, output_text}
-use Rattle.vt_logs.proofs.Begun.{begins_later, begins_more}
+use Rattle.vt_logs.proofs.EarlyEndInLines.{begins_later, begins_more}
 use Rattle.vt_server.specs.Findings.{IsEventOf}
 use Rattle.vt_server.specs.Outputs.{outputs_of}
 use Rattle.vt_server.specs.shown.Screens.{IsScreenOf}

@@ -8,11 +8,11 @@ use Rattle.std.proofs.KnownBytes.{Appends-kept, Appends-trans, Consumes-nil, Con
 use Rattle.vt_can.specs.lines.Line.{ReadsAs}
 use Rattle.vt_logs.specs.declared.counts.Counts.{Counts}
 use Rattle.vt_logs.specs.Lines.{lines_of}
-use Rattle.vt_logs.specs.Taken.{ReplayState, TakesReadings}
+use Rattle.vt_logs.specs.LineEffects.{ReplayState, TakesReadings}
 use Rattle.vt_logs.specs.Texts.{no_counts, with_lines_counted, counts_text}
 use Rattle.vt_logs.specs.Replays.{IsReplay}
 use Rattle.vt_logs.specs.Progress.{AtMost, ReplayPoint, Takes, HasNoNewline, TakesBytes}
-use Rattle.vt_logs.proofs.Taking.{bytes_none, bytes_kept, bytes_line, bytes_more, bytes-AtMost, lines_of-last, HasNoNewline-append, AtMost-more, takes_drawn, takes_more}
+use Rattle.vt_logs.proofs.TakenLines.{bytes_none, bytes_kept, bytes_line, bytes_more, bytes-AtMost, lines_of-last, HasNoNewline-append, AtMost-more, takes_drawn, takes_more}
 use Rattle.vt_server.specs.shown.Screens.{IsScreenOf}
 
 -- ---- between two lines of a chunk

@@ -8,16 +8,16 @@ use Rattle.vt_can.specs.lines.Line.{ReadsAs}
 use Rattle.vt_logs.specs.declared.counts.Counts.{Counts}
 use Rattle.vt_logs.specs.declared.fault.ReplayFault.{ReplayFault}
 use Rattle.vt_logs.specs.declared.fault.ReplayFault.TheVariants.{Memory, Read, TooLong, Write}
-use Rattle.vt_logs.specs.Begun.{Begins, MayBegin, LeavesLines, Stops, HasStopped, HasStoppedAtLong}
+use Rattle.vt_logs.specs.EarlyEnds.{Begins, MayBegin, LeavesLines, Stops, HasStopped, HasStoppedAtLong}
 use Rattle.vt_logs.specs.Lines.{lines_of}
 use Rattle.vt_logs.specs.Progress.{ReplayPoint, Takes, TakesBytes, IsLineFault}
 use Rattle.vt_logs.specs.Replays.{HasLongLine, MayEndWith}
-use Rattle.vt_logs.specs.Taken.{TakesReadings}
+use Rattle.vt_logs.specs.LineEffects.{TakesReadings}
 use Rattle.vt_logs.specs.Texts.{no_counts, counts_text, with_lines_counted}
-use Rattle.vt_logs.proofs.Begun.{stops_none, later_bytes}
+use Rattle.vt_logs.proofs.EarlyEndInLines.{stops_none, later_bytes}
 use Rattle.vt_logs.proofs.LongLines.{begun}
-use Rattle.vt_logs.proofs.Midway.{IsUnderWay}
-use Rattle.vt_logs.proofs.Taking.{length-zip, takes-lines, takes_more}
+use Rattle.vt_logs.proofs.ReplayInvariants.{IsUnderWay}
+use Rattle.vt_logs.proofs.TakenLines.{length-zip, takes-lines, takes_more}
 use Rattle.vt_server.specs.shown.Screens.{IsScreenOf}
 use Rattle.vt_server.specs.Terminals.{State}
 

@@ -7,8 +7,8 @@ use Rattle.std.proofs.lemmas.List.{drop_more}
 use Rattle.std.proofs.lemmas.Result.{on_ok_weaker}
 use Rattle.std.specs.Io.KnownBytes.{Appends}
 use Rattle.std.proofs.KnownBytes.{Appends-trans}
-use Rattle.vt_logs.specs.Begun.{Begins}
-use Rattle.vt_logs.proofs.Begun.{begins_later, begins_more}
+use Rattle.vt_logs.specs.EarlyEnds.{Begins}
+use Rattle.vt_logs.proofs.EarlyEndInLines.{begins_later, begins_more}
 
 pub then_last : {T E : Type 0} (r : Result T E) (a b c : Option (List ℕ)) (front last : List ℕ) → Appends a b front → OnOk r (Appends b c last) → OnOk r (Appends a c (front ++ last))
 then_last r a b c front last p q = on_ok_weaker r (Appends-trans a b c front last p) q

@@ -9,7 +9,7 @@ use Rattle.vt_can.specs.lines.Line.{ReadsAs}
 use Rattle.vt_can.specs.lines.Readings.{FrameAt, OperatorAction, SkippedFrame, CommentLine}
 use Rattle.vt_logs.specs.declared.counts.Counts.{Counts}
 use Rattle.vt_logs.specs.Lines.{lines_of}
-use Rattle.vt_logs.specs.Taken.{ReplayState, TakesReading, TakesReadings}
+use Rattle.vt_logs.specs.LineEffects.{ReplayState, TakesReading, TakesReadings}
 use Rattle.vt_logs.specs.Texts.{LineReading, with_line_counted, with_lines_counted}
 use Rattle.vt_logs.specs.Progress.{AtMost, ReplayPoint, Takes, TakesOne, HasNoNewline, TakesBytes}
 use Rattle.vt_server.specs.shown.Screens.{IsScreenOf}
