@@ -63,6 +63,6 @@ command_among (r ∷ rs) bytes =
 abbrev pub command_at : List ℕ → Option Command
 command_at bytes = command_among rows bytes
 
--- Its function is their first byte.
+-- The function of a command is the first byte of its message.
 abbrev pub FunctionIsFirst : Type 0
 FunctionIsFirst = (bytes : List ℕ) (command : Command) → command_at bytes ≡ Some command → function_of command ≡ byte bytes 0

@@ -1,4 +1,4 @@
--- One step of a ETP receiver on the session of one source.
+-- One step of an ETP receiver on the session of one source.
 use Rattle.std.specs.Prelude.{◌≡◌, ℕ, ◌+◌, Bool, nat_le, nat_lt, ◌==◌, ◌&&◌, if◌then◌else◌, max, Option, Some, None, List, [], ◌∷◌, ◌++◌, length, take}
 use Rattle.vt_can.specs.declared.transport.sessions.Timed.{Timed}
 use Rattle.vt_can.specs.declared.transport.wire.Reason.TheVariants.{Disorder}

@@ -1,4 +1,4 @@
-//! A ETP session: a message being received.
+//! An ETP session: a message being received.
 
 ghost use Rattle.std.specs.Prelude.{◌≡◌, ◌≤◌, ℕ, max, true, Some, length, List, vec_len, vec_capacity};
 ghost use Rattle.vt_can.specs.declared.transport.wire.Reason.TheVariants.{Disorder};

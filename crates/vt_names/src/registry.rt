@@ -32,7 +32,7 @@ pub enum RegistryFault {
 }
 
 /// The working sets, seen as their list in order of registration, and the capacity reserved for one more, 1 or 0.
-/// Their addresses are unique.
+/// No two sets have the same address.
 ///
 /// docs/PROFILE.md, "Working sets".
 pub struct Registry {

@@ -11,12 +11,12 @@ use Rattle.vt_records.specs.declared.record_fault.RecordFault.{RecordFault}
 use Rattle.vt_records.specs.declared.record_fault.RecordFault.TheVariants as stops
 use Rattle.vt_records.specs.declared.fault.PoolFault.{PoolFault}
 use Rattle.vt_records.specs.declared.fault.PoolFault.TheVariants as faults
-use Rattle.vt_pool.specs.declared.parts.EntryCounts.{EntryCounts}
-use Rattle.vt_pool.specs.declared.parts.FieldLayout.{FieldLayout}
+use Rattle.vt_pool.specs.declared.field_layout.EntryCounts.{EntryCounts}
+use Rattle.vt_pool.specs.declared.field_layout.FieldLayout.{FieldLayout}
 use Rattle.vt_records.specs.RecordFaults.{fault_at}
 use Rattle.vt_records.specs.Heads.{if_none, misfit, or_misfit, fitting}
 use Rattle.vt_records.specs.TableReads.{◌>>=◌, values_at, rows_at}
-use Rattle.vt_pool.specs.Parts.{counted_as, part_of, count_in, with_count, part_size, counts_behind, fault_without, part_fault, PassesFields}
+use Rattle.vt_pool.specs.FieldLayouts.{counted_as, layout_of, count_in, with_count, field_size, counts_behind, fault_without, field_fault, PassesFields}
 use Rattle.vt_records.specs.TableReads.{row_size}
 use Rattle.vt_records.proofs.Numbers.{IsBytes, IsBytes-drop, number_short}
 use Rattle.vt_records.proofs.Tables.{rows_take}
@@ -93,30 +93,30 @@ rows_length sizes count rest rs fits le e =
     let len = ap length took.0.parts ∙ length-append (rows_spelling sizes rs) (drop (count * row_size sizes) rest) in
     omega (arith, len, length-drop (count * row_size sizes) rest)
 
-pub part_given : (at : ℕ) (met : Option PoolFault) (offset : ℕ) (f : RecordField) (fs : List RecordField) (counts : EntryCounts) (rest : List ℕ) → IsBytes rest → part_size (part_of f) counts ≤ length rest
+pub field_given : (at : ℕ) (met : Option PoolFault) (offset : ℕ) (f : RecordField) (fs : List RecordField) (counts : EntryCounts) (rest : List ℕ) → IsBytes rest → field_size (layout_of f) counts ≤ length rest
     → given at met offset (f ∷ fs) (values_at (f ∷ fs) (counts_so counts) rest)
-    ≡ given at (option_or met (part_fault (part_of f) (take (part_size (part_of f) counts) rest) (at + offset))) (offset + part_size (part_of f) counts) fs
-    (values_at fs (counts_so (counts_behind (part_of f) (take (part_size (part_of f) counts) rest) counts)) (drop (part_size (part_of f) counts) rest))
-part_given at met offset (Number (Unsigned size)) fs counts rest fits le =
+    ≡ given at (option_or met (field_fault (layout_of f) (take (field_size (layout_of f) counts) rest) (at + offset))) (offset + field_size (layout_of f) counts) fs
+    (values_at fs (counts_so (counts_behind (layout_of f) (take (field_size (layout_of f) counts) rest) counts)) (drop (field_size (layout_of f) counts) rest))
+field_given at met offset (Number (Unsigned size)) fs counts rest fits le =
     let n = little_number size (take size rest) in
     rw (number_front size rest le, or_none met)
     (given_next at met met offset (offset + size) (Number (Unsigned size)) fs (number (natural n)) (values_at fs (counts_so counts) (drop size rest)) (λ vs. refl))
-part_given at met offset (Number (Signed w)) fs counts rest fits le =
+field_given at met offset (Number (Signed w)) fs counts rest fits le =
     let z = signed_front w rest le in
     rw (z.1, or_none met)
     (given_next at met met offset (offset + bytes_in w) (Number (Signed w)) fs (number (integer z.0)) (values_at fs (counts_so counts) (drop (bytes_in w) rest)) (λ vs. refl))
-part_given at met offset (Count size of) fs counts rest fits le =
+field_given at met offset (Count size of) fs counts rest fits le =
     let n = little_number size (take size rest) in
     rw (number_front size rest le, or_none met, ← same_counts counts of n)
     (given_next at met met offset (offset + size) (Count size of) fs (number (natural n)) (values_at fs (counted of n (counts_so counts)) (drop size rest)) (λ vs. refl))
-part_given at met offset (Rows of sizes) fs counts rest fits le =
+field_given at met offset (Rows of sizes) fs counts rest fits le =
     let count = count_in counts (counted_as of) in
     let rs = rows_front sizes count rest le in
     let len = rows_length sizes count rest rs.0 fits le rs.1 in
     rw (same_count counts of, rs.1, or_none met)
     (given_next at met met offset (offset + count * row_size sizes) (Rows of sizes) fs (rows rs.0) (values_at fs (counts_so counts) (drop (count * row_size sizes) rest))
     (λ vs. ap (λ (k : ℕ). option_or met (faulty at (misfit (offset + k) fs vs))) len))
-part_given at met offset (Bytes of) fs counts rest fits le =
+field_given at met offset (Bytes of) fs counts rest fits le =
     let count = count_in counts (counted_as of) in
     let one : count * 1 ≡ count = omega arith in
     let within : count ≤ length rest = omega arith in
@@ -124,27 +124,27 @@ part_given at met offset (Bytes of) fs counts rest fits le =
     rw (one, same_count counts of, bytes_front count rest within, or_none met)
     (given_next at met met offset (offset + count) (Bytes of) fs (bytes (take count rest)) (values_at fs (counts_so counts) (drop count rest))
     (λ vs. ap (λ (k : ℕ). option_or met (faulty at (misfit (offset + k) fs vs))) len))
-part_given at met offset ScaleBytes fs counts rest fits le =
+field_given at met offset ScaleBytes fs counts rest fits le =
     let n = little_number 4 (take 4 rest) in
     rw (number_front 4 rest le)
     (given_next at met (option_or met (fault_without (scale_at n) (faults.Scale (at + offset)))) offset (offset + 4) ScaleBytes fs (number (natural n)) (values_at fs (counts_so counts) (drop 4 rest))
     (λ vs. scale_cases (scale_at n) met at offset (misfit (offset + 4) fs vs)))
-part_given at met offset DecimalPlaces fs counts rest fits le =
+field_given at met offset DecimalPlaces fs counts rest fits le =
     let n = little_number 1 (take 1 rest) in
     rw (number_front 1 rest le)
     (given_next at met (option_or met (cond (ltb 7 n) (Some (faults.Decimals (at + offset))) None)) offset (offset + 1) DecimalPlaces fs (number (natural n)) (values_at fs (counts_so counts) (drop 1 rest))
     (λ vs. decimals_cases (ltb 7 n) met at offset (misfit (offset + 1) fs vs)))
 
-pub part_short : (f : RecordField) (fs : List RecordField) (counts : EntryCounts) (rest : List ℕ) → length rest < part_size (part_of f) counts → values_at (f ∷ fs) (counts_so counts) rest ≡ None
-part_short (Number (Unsigned size)) fs counts rest lt = rw (number_short size rest lt) refl
-part_short (Number (Signed w)) fs counts rest lt = rw (signed_short w rest lt) refl
-part_short (Count size of) fs counts rest lt = rw (number_short size rest lt) refl
-part_short (Rows of sizes) fs counts rest lt = rw (same_count counts of, rows_short sizes (count_in counts (counted_as of)) rest lt) refl
-part_short (Bytes of) fs counts rest lt =
+pub field_short : (f : RecordField) (fs : List RecordField) (counts : EntryCounts) (rest : List ℕ) → length rest < field_size (layout_of f) counts → values_at (f ∷ fs) (counts_so counts) rest ≡ None
+field_short (Number (Unsigned size)) fs counts rest lt = rw (number_short size rest lt) refl
+field_short (Number (Signed w)) fs counts rest lt = rw (signed_short w rest lt) refl
+field_short (Count size of) fs counts rest lt = rw (number_short size rest lt) refl
+field_short (Rows of sizes) fs counts rest lt = rw (same_count counts of, rows_short sizes (count_in counts (counted_as of)) rest lt) refl
+field_short (Bytes of) fs counts rest lt =
     let few : length rest < count_in counts (counted_as of) = omega arith in
     rw (same_count counts of, bytes_short (count_in counts (counted_as of)) rest few) (refl {a = None})
-part_short ScaleBytes fs counts rest lt = rw (number_short 4 rest lt) refl
-part_short DecimalPlaces fs counts rest lt = rw (number_short 1 rest lt) refl
+field_short ScaleBytes fs counts rest lt = rw (number_short 4 rest lt) refl
+field_short DecimalPlaces fs counts rest lt = rw (number_short 1 rest lt) refl
 
 -- ---- one step of the loop
 
@@ -179,26 +179,26 @@ module _ (fs : List RecordField) (ps : List FieldLayout) (all : List ℕ) (at i 
   p = get_or ps i d
 
   abbrev size : ℕ
-  size = part_size p counts
+  size = field_size p counts
 
-  there : ps ≡ map part_of fs → i < length ps → (i < length fs) × (p ≡ part_of (field_at fs i))
+  there : ps ≡ map layout_of fs → i < length ps → (i < length fs) × (p ≡ layout_of (field_at fs i))
   there same lt =
-      let lt' : i < length fs = omega (arith, ap length same, length-map fs part_of) in
-      (lt', ap (λ (l : List FieldLayout). get_or l i d) same ∙ get_or-map part_of fs i DecimalPlaces d lt')
+      let lt' : i < length fs = omega (arith, ap length same, length-map fs layout_of) in
+      (lt', ap (λ (l : List FieldLayout). get_or l i d) same ∙ get_or-map layout_of fs i DecimalPlaces d lt')
 
-  step : IsBytes rest → p ≡ part_of (field_at fs i) → size ≤ length rest
+  step : IsBytes rest → p ≡ layout_of (field_at fs i) → size ≤ length rest
       → given at met (length all - length rest) (field_at fs i ∷ drop (i + 1) fs) (values_at (field_at fs i ∷ drop (i + 1) fs) (counts_so counts) rest)
-      ≡ given at (option_or met (part_fault p (take size rest) (at + (length all - length rest)))) (length all - length rest + size) (drop (i + 1) fs)
+      ≡ given at (option_or met (field_fault p (take size rest) (at + (length all - length rest)))) (length all - length rest + size) (drop (i + 1) fs)
       (values_at (drop (i + 1) fs) (counts_so (counts_behind p (take size rest) counts)) (drop size rest))
   step fits is le =
-      subst (λ (q : FieldLayout). part_size q counts ≤ length rest
+      subst (λ (q : FieldLayout). field_size q counts ≤ length rest
       → given at met (length all - length rest) (field_at fs i ∷ drop (i + 1) fs) (values_at (field_at fs i ∷ drop (i + 1) fs) (counts_so counts) rest)
-      ≡ given at (option_or met (part_fault q (take (part_size q counts) rest) (at + (length all - length rest)))) (length all - length rest + part_size q counts) (drop (i + 1) fs)
-      (values_at (drop (i + 1) fs) (counts_so (counts_behind q (take (part_size q counts) rest) counts)) (drop (part_size q counts) rest))) (sym is)
-      (part_given at met (length all - length rest) (field_at fs i) (drop (i + 1) fs) counts rest fits) le
+      ≡ given at (option_or met (field_fault q (take (field_size q counts) rest) (at + (length all - length rest)))) (length all - length rest + field_size q counts) (drop (i + 1) fs)
+      (values_at (drop (i + 1) fs) (counts_so (counts_behind q (take (field_size q counts) rest) counts)) (drop (field_size q counts) rest))) (sym is)
+      (field_given at met (length all - length rest) (field_at fs i) (drop (i + 1) fs) counts rest fits) le
 
-  goes_on : ps ≡ map part_of fs → i < length ps → size ≤ length rest → IsPassed fs all at i met counts rest
-      → IsPassed fs all at (i + 1) (option_or met (part_fault p (take size rest) (at + (length all - length rest)))) (counts_behind p (take size rest) counts) (drop size rest)
+  goes_on : ps ≡ map layout_of fs → i < length ps → size ≤ length rest → IsPassed fs all at i met counts rest
+      → IsPassed fs all at (i + 1) (option_or met (field_fault p (take size rest) (at + (length all - length rest)))) (counts_behind p (take size rest) counts) (drop size rest)
   goes_on same lt le so_far =
       let t = there same lt in
       let here = drop_more fs i DecimalPlaces t.0 in
@@ -208,29 +208,29 @@ module _ (fs : List RecordField) (ps : List FieldLayout) (all : List ℕ) (at i 
         within = omega (arith, length-drop size rest);
         rest_fits = IsBytes-drop size rest so_far.rest_fits;
         so_far =
-            ap (λ (k : ℕ). given at (option_or met (part_fault p (take size rest) (at + (length all - length rest)))) k (drop (i + 1) fs)
+            ap (λ (k : ℕ). given at (option_or met (field_fault p (take size rest) (at + (length all - length rest)))) k (drop (i + 1) fs)
             (values_at (drop (i + 1) fs) (counts_so (counts_behind p (take size rest) counts)) (drop size rest))) next
             ∙ sym (step so_far.rest_fits t.1 le) ∙ ap (λ (l : List RecordField). given at met (length all - length rest) l (values_at l (counts_so counts) rest)) (sym here) ∙ so_far.so_far;
       }
 
-  pub next_part : (front behind : List ℕ) (found met' : Option PoolFault) (counts' : EntryCounts) → ps ≡ map part_of fs → i < length ps → IsPassed fs all at i met counts rest
-      → size ≤ length rest → front ≡ take size rest → behind ≡ drop size rest → found ≡ part_fault p front (at + (length all - length rest)) → met' ≡ option_or met found → counts' ≡ counts_behind p front counts
+  pub next_field : (front behind : List ℕ) (found met' : Option PoolFault) (counts' : EntryCounts) → ps ≡ map layout_of fs → i < length ps → IsPassed fs all at i met counts rest
+      → size ≤ length rest → front ≡ take size rest → behind ≡ drop size rest → found ≡ field_fault p front (at + (length all - length rest)) → met' ≡ option_or met found → counts' ≡ counts_behind p front counts
       → IsPassed fs all at (i + 1) met' counts' behind
-  next_part front behind found met' counts' same lt so_far le front_is behind_is found_is met_is counts_is =
+  next_field front behind found met' counts' same lt so_far le front_is behind_is found_is met_is counts_is =
       let next = goes_on same lt le so_far in
-      let found' : found ≡ part_fault p (take size rest) (at + (length all - length rest)) = found_is ∙ ap (λ (l : List ℕ). part_fault p l (at + (length all - length rest))) front_is in
+      let found' : found ≡ field_fault p (take size rest) (at + (length all - length rest)) = found_is ∙ ap (λ (l : List ℕ). field_fault p l (at + (length all - length rest))) front_is in
       let met'' = met_is ∙ ap (option_or met) found' in
       let counts'' = counts_is ∙ ap (λ (l : List ℕ). counts_behind p l counts) front_is in
       subst (λ (m : Option PoolFault). IsPassed fs all at (i + 1) m counts' behind) (sym met'')
-      (subst (λ (k : EntryCounts). IsPassed fs all at (i + 1) (option_or met (part_fault p (take size rest) (at + (length all - length rest)))) k behind) (sym counts'')
-      (subst (λ (l : List ℕ). IsPassed fs all at (i + 1) (option_or met (part_fault p (take size rest) (at + (length all - length rest)))) (counts_behind p (take size rest) counts) l) (sym behind_is) next))
+      (subst (λ (k : EntryCounts). IsPassed fs all at (i + 1) (option_or met (field_fault p (take size rest) (at + (length all - length rest)))) k behind) (sym counts'')
+      (subst (λ (l : List ℕ). IsPassed fs all at (i + 1) (option_or met (field_fault p (take size rest) (at + (length all - length rest)))) (counts_behind p (take size rest) counts) l) (sym behind_is) next))
 
-  stops_short : ps ≡ map part_of fs → i < length ps → IsPassed fs all at i met counts rest → length rest < size → PassesFields (λ r. r) at (Err (faults.Truncated at)) (passed fs all)
+  stops_short : ps ≡ map layout_of fs → i < length ps → IsPassed fs all at i met counts rest → length rest < size → PassesFields (λ r. r) at (Err (faults.Truncated at)) (passed fs all)
   stops_short same lt so_far short =
       let t = there same lt in
       let here = drop_more fs i DecimalPlaces t.0 in
-      let few : length rest < part_size (part_of (field_at fs i)) counts = subst (λ (q : FieldLayout). length rest < part_size q counts) t.1 short in
-      let none : values_at (drop i fs) (counts_so counts) rest ≡ None = ap (λ (l : List RecordField). values_at l (counts_so counts) rest) here ∙ part_short (field_at fs i) (drop (i + 1) fs) counts rest few in
+      let few : length rest < field_size (layout_of (field_at fs i)) counts = subst (λ (q : FieldLayout). length rest < field_size q counts) t.1 short in
+      let none : values_at (drop i fs) (counts_so counts) rest ≡ None = ap (λ (l : List RecordField). values_at l (counts_so counts) rest) here ∙ field_short (field_at fs i) (drop (i + 1) fs) counts rest few in
       given_is fs all at (Err (faults.Truncated at)) (sym so_far.so_far ∙ ap (given at met (length all - length rest) (drop i fs)) none)
 
 ends : (fs : List RecordField) (all : List ℕ) (at i : ℕ) (met : Option PoolFault) (counts : EntryCounts) (rest : List ℕ) → length fs ≤ i → IsPassed fs all at i met counts rest
@@ -251,18 +251,18 @@ ok_seen view at x (Ok y) is = is
 ok_seen view at x (Err stop) is = is
 
 pub returns_short : {X : Type 0} (view : X → List ℕ) (fs : List RecordField) (ps : List FieldLayout) (all : List ℕ) (at i : ℕ) (met : Option PoolFault) (counts : EntryCounts) (rest : List ℕ) (d : FieldLayout)
-    → ps ≡ map part_of fs → i < length ps → IsPassed fs all at i met counts rest → length rest < part_size (get_or ps i d) counts → PassesFields view at (Err (faults.Truncated at)) (passed fs all)
+    → ps ≡ map layout_of fs → i < length ps → IsPassed fs all at i met counts rest → length rest < field_size (get_or ps i d) counts → PassesFields view at (Err (faults.Truncated at)) (passed fs all)
 returns_short view fs ps all at i met counts rest d same lt so_far short = err_seen view at (faults.Truncated at) (passed fs all) (stops_short fs ps all at i met counts rest d same lt so_far short)
 
-past_end : (fs : List RecordField) (ps : List FieldLayout) (i : ℕ) → ps ≡ map part_of fs → length ps ≤ i → length fs ≤ i
-past_end fs ps i same le = omega (arith, ap length same, length-map fs part_of)
+past_end : (fs : List RecordField) (ps : List FieldLayout) (i : ℕ) → ps ≡ map layout_of fs → length ps ≤ i → length fs ≤ i
+past_end fs ps i same le = omega (arith, ap length same, length-map fs layout_of)
 
 pub returns_fault : {X : Type 0} (view : X → List ℕ) (fs : List RecordField) (ps : List FieldLayout) (all : List ℕ) (at i : ℕ) (met : Option PoolFault) (counts : EntryCounts) (rest : List ℕ) (fault : PoolFault)
-    → ps ≡ map part_of fs → length ps ≤ i → IsPassed fs all at i met counts rest → met ≡ Some fault → PassesFields view at (Err fault) (passed fs all)
+    → ps ≡ map layout_of fs → length ps ≤ i → IsPassed fs all at i met counts rest → met ≡ Some fault → PassesFields view at (Err fault) (passed fs all)
 returns_fault view fs ps all at i met counts rest fault same le so_far is =
     err_seen view at fault (passed fs all) (subst (λ (m : Option PoolFault). PassesFields (λ r. r) at (ended rest m) (passed fs all)) is (ends fs all at i met counts rest (past_end fs ps i same le) so_far))
 
 pub returns_rest : {X : Type 0} (view : X → List ℕ) (fs : List RecordField) (ps : List FieldLayout) (all : List ℕ) (at i : ℕ) (met : Option PoolFault) (counts : EntryCounts) (x : X)
-    → ps ≡ map part_of fs → length ps ≤ i → IsPassed fs all at i met counts (view x) → met ≡ None → PassesFields view at (Ok x) (passed fs all)
+    → ps ≡ map layout_of fs → length ps ≤ i → IsPassed fs all at i met counts (view x) → met ≡ None → PassesFields view at (Ok x) (passed fs all)
 returns_rest view fs ps all at i met counts x same le so_far is =
     ok_seen view at x (passed fs all) (subst (λ (m : Option PoolFault). PassesFields (λ r. r) at (ended (view x) m) (passed fs all)) is (ends fs all at i met counts (view x) (past_end fs ps i same le) so_far))

@@ -15,7 +15,7 @@ use Rattle.vt_records.specs.TableReads.{values_at}
 use Rattle.vt_pool.specs.Pools.{joined, IsFault}
 use Rattle.vt_records.specs.RecordFaults.{fault_at}
 use Rattle.vt_pool.specs.PoolUploads.{lasting_of, AreWholeTo, IsReadTo, WereReadTo}
-use Rattle.vt_pool.specs.Parts.{PassesRecord}
+use Rattle.vt_pool.specs.FieldLayouts.{PassesRecord}
 use Rattle.vt_records.proofs.Numbers.{IsBytes, IsBytes-drop, IsBytes-rest}
 use Rattle.vt_records.proofs.Tables.{values_take}
 use Rattle.vt_records.proofs.Misfits.{misfit_is, fitting_err}

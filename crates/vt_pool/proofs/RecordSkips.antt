@@ -14,7 +14,7 @@ use Rattle.vt_records.specs.declared.fault.PoolFault.{PoolFault}
 use Rattle.vt_records.specs.RecordFaults.{fault_at}
 use Rattle.vt_records.specs.Heads.{ReadRecord, ◌>>=◌, or_stop, other_type, fields_at, record_at}
 use Rattle.vt_records.specs.TableReads.{number_at}
-use Rattle.vt_pool.specs.Parts.{HeadGives, PassesFields, PassesRecord}
+use Rattle.vt_pool.specs.FieldLayouts.{HeadGives, PassesFields, PassesRecord}
 use Rattle.vt_pool.proofs.FrontBytes.{number_front}
 use Rattle.vt_records.proofs.RecordHeads.{of_values, of_kind, behind}
 

@@ -1,5 +1,5 @@
 -- The specifications that the contracts of vt_pool use.
 pub mod EntryWrites
-pub mod Parts
+pub mod FieldLayouts
 pub mod Pools
 pub mod PoolUploads

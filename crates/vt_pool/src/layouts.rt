@@ -2,9 +2,9 @@
 
 ghost use Rattle.std.specs.Prelude.{◌≡◌, map, true};
 ghost use Rattle.vt_kinds.specs.Records.{fields_of};
-ghost use Rattle.vt_pool.specs.Parts.{part_of, are_countable};
+ghost use Rattle.vt_pool.specs.FieldLayouts.{layout_of, are_countable};
 
-use crate::parts::{Counted, FieldLayout};
+use crate::field_layout::{Counted, FieldLayout};
 use vt_kinds::Kind;
 
 const BYTE: FieldLayout = FieldLayout::Number(1);
@@ -281,8 +281,8 @@ const OBJECT_POINTER: &[FieldLayout] = &[WORD];
 const MACRO_OBJECT: &[FieldLayout] = &[WORD_COUNT, CONTENT];
 
 /// The field layout of a record of this kind.
-pub fn parts(kind: Kind) -> &'static [FieldLayout]
-    ensures parts { result.now ≡ map part_of (fields_of kind) }
+pub fn layout(kind: Kind) -> &'static [FieldLayout]
+    ensures layout { result.now ≡ map layout_of (fields_of kind) }
     ensures countable { are_countable result.now ≡ true }
 {
     match kind {

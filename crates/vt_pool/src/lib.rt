@@ -8,9 +8,9 @@
 #![tactic(auto)]
 
 mod arriving;
+mod field_layout;
 pub mod laws;
 mod layouts;
-mod parts;
 mod passing;
 mod pool;
 

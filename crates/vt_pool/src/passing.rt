@@ -4,10 +4,10 @@ ghost use Rattle.std.specs.Prelude.{◌≡◌, ◌<◌, ◌≤◌, ◌+◌, ◌^
 ghost use Rattle.vt_kinds.specs.Records.{fields_of};
 ghost use Rattle.vt_records.specs.Heads.{fields_at, record_at};
 ghost use Rattle.vt_pool.specs.PoolUploads.{AreWholeTo, IsReadTo, lasting_of};
-ghost use Rattle.vt_pool.specs.Parts.{HeadGives, PassesFields, PassesRecord};
+ghost use Rattle.vt_pool.specs.FieldLayouts.{HeadGives, PassesFields, PassesRecord};
 
-use crate::layouts::parts;
-use crate::parts::EntryCounts;
+use crate::field_layout::EntryCounts;
+use crate::layouts::layout;
 use vt_kinds::Kind;
 use vt_records::{PoolFault, Reader, RecordFault, kind_with};
 
@@ -78,12 +78,12 @@ fn pass_fields<'a>(kind: Kind, bytes: &'a [u8], at: usize) -> Result<&'a [u8], P
     let mut counts = EntryCounts::none();
     let mut rest = &bytes[3..];
     let mut met = None;
-    for part in parts(kind) {
-        match part.split(counts, rest) {
+    for field in layout(kind) {
+        match field.split(counts, rest) {
             None => return Err(PoolFault::Truncated { at }),
             Some((front, behind)) => {
-                met = met.or(part.fault(front, at + (bytes.len() - rest.len())));
-                counts = part.count(front, counts);
+                met = met.or(field.fault(front, at + (bytes.len() - rest.len())));
+                counts = field.count(front, counts);
                 rest = behind;
             }
         }

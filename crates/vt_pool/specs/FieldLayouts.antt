@@ -5,11 +5,11 @@ use Rattle.vt_kinds.specs.declared.scale.Scale.{Scale}
 use Rattle.vt_kinds.specs.Scales.{scale_at}
 use Rattle.vt_kinds.specs.Layout.{Size, Unsigned, Signed, bytes_in, RecordField, Number, Count, Rows, Bytes, ScaleBytes, DecimalPlaces, Value, Objects, Macros, Others}
 use Rattle.vt_kinds.specs.Layout as layout
-use Rattle.vt_pool.specs.declared.parts.Counted.{Counted}
-use Rattle.vt_pool.specs.declared.parts.Counted.TheVariants as counted
-use Rattle.vt_pool.specs.declared.parts.EntryCounts.{EntryCounts}
-use Rattle.vt_pool.specs.declared.parts.FieldLayout.{FieldLayout}
-use Rattle.vt_pool.specs.declared.parts.FieldLayout.TheVariants as parts
+use Rattle.vt_pool.specs.declared.field_layout.Counted.{Counted}
+use Rattle.vt_pool.specs.declared.field_layout.Counted.TheVariants as counted
+use Rattle.vt_pool.specs.declared.field_layout.EntryCounts.{EntryCounts}
+use Rattle.vt_pool.specs.declared.field_layout.FieldLayout.{FieldLayout}
+use Rattle.vt_pool.specs.declared.field_layout.FieldLayout.TheVariants as layouts
 use Rattle.vt_records.specs.declared.record_fault.RecordFault.{RecordFault}
 use Rattle.vt_records.specs.declared.fault.PoolFault.{PoolFault}
 use Rattle.vt_records.specs.declared.fault.PoolFault.TheVariants as faults
@@ -26,18 +26,18 @@ counted_as Objects = counted.Objects
 counted_as Macros = counted.Macros
 counted_as Others = counted.Others
 
-abbrev pub part_of : RecordField → FieldLayout
-part_of (Number (Unsigned size)) = parts.Number size
-part_of (Number (Signed width)) = parts.Number (bytes_in width)
-part_of (Count size of) = parts.Count (counted_as of) size
-part_of (Rows of sizes) = parts.List (counted_as of) (row_size sizes)
-part_of (Bytes of) = parts.List (counted_as of) 1
-part_of ScaleBytes = parts.Scale
-part_of DecimalPlaces = parts.Decimals
+abbrev pub layout_of : RecordField → FieldLayout
+layout_of (Number (Unsigned size)) = layouts.Number size
+layout_of (Number (Signed width)) = layouts.Number (bytes_in width)
+layout_of (Count size of) = layouts.Count (counted_as of) size
+layout_of (Rows of sizes) = layouts.List (counted_as of) (row_size sizes)
+layout_of (Bytes of) = layouts.List (counted_as of) 1
+layout_of ScaleBytes = layouts.Scale
+layout_of DecimalPlaces = layouts.Decimals
 
 -- a count has one to eight bytes
 abbrev pub is_countable : FieldLayout → Bool
-is_countable (parts.Count of size) = nat_le 1 size && nat_le size 8
+is_countable (layouts.Count of size) = nat_le 1 size && nat_le size 8
 is_countable _ = true
 
 abbrev pub are_countable : List FieldLayout → Bool
@@ -59,16 +59,16 @@ with_count counts counted.Others n = record counts { others = n }
 -- ---- the size and the fault of a field
 
 -- the number of bytes of a field, given the counts before it
-abbrev pub part_size : FieldLayout → EntryCounts → ℕ
-part_size (parts.Number size) counts = size
-part_size (parts.Count of size) counts = size
-part_size (parts.List of size) counts = count_in counts of * size
-part_size parts.Scale counts = 4
-part_size parts.Decimals counts = 1
+abbrev pub field_size : FieldLayout → EntryCounts → ℕ
+field_size (layouts.Number size) counts = size
+field_size (layouts.Count of size) counts = size
+field_size (layouts.List of size) counts = count_in counts of * size
+field_size layouts.Scale counts = 4
+field_size layouts.Decimals counts = 1
 
 -- the counts after a field with these bytes
 abbrev pub counts_behind : FieldLayout → List ℕ → EntryCounts → EntryCounts
-counts_behind (parts.Count of size) bytes counts = with_count counts of (little_number size bytes)
+counts_behind (layouts.Count of size) bytes counts = with_count counts of (little_number size bytes)
 counts_behind _ bytes counts = counts
 
 abbrev pub fault_without : Option Scale → PoolFault → Option PoolFault
@@ -76,16 +76,16 @@ fault_without None fault = Some fault
 fault_without (Some s) fault = None
 
 -- the fault of a field with these bytes, at an index of the pool
-abbrev pub part_fault : FieldLayout → List ℕ → ℕ → Option PoolFault
-part_fault parts.Scale bytes at = fault_without (scale_at (little_number 4 bytes)) (faults.Scale at)
-part_fault parts.Decimals bytes at = if nat_lt 7 (little_number 1 bytes) then Some (faults.Decimals at) else None
-part_fault _ bytes at = None
+abbrev pub field_fault : FieldLayout → List ℕ → ℕ → Option PoolFault
+field_fault layouts.Scale bytes at = fault_without (scale_at (little_number 4 bytes)) (faults.Scale at)
+field_fault layouts.Decimals bytes at = if nat_lt 7 (little_number 1 bytes) then Some (faults.Decimals at) else None
+field_fault _ bytes at = None
 
 -- the bytes are enough to read the field's value
 abbrev pub IsLongEnough : FieldLayout → List ℕ → Type 0
-IsLongEnough (parts.Count of size) bytes = (1 ≤ size) × (size ≤ 8) × (size ≤ length bytes)
-IsLongEnough parts.Scale bytes = 4 ≤ length bytes
-IsLongEnough parts.Decimals bytes = 1 ≤ length bytes
+IsLongEnough (layouts.Count of size) bytes = (1 ≤ size) × (size ≤ 8) × (size ≤ length bytes)
+IsLongEnough layouts.Scale bytes = 4 ≤ length bytes
+IsLongEnough layouts.Decimals bytes = 1 ≤ length bytes
 IsLongEnough _ bytes = Unit {0}
 
 -- ---- skipping fields and records

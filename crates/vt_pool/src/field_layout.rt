@@ -1,7 +1,7 @@
 //! The layout of a record's fields: enough to find the record's end and its faults.
 
 ghost use Rattle.std.specs.Prelude.{◌≡◌, ◌<◌, ◌≤◌, ◌^◌, length, take, drop, IfSome, IfNone};
-ghost use Rattle.vt_pool.specs.Parts.{count_in, with_count, part_size, counts_behind, part_fault, IsLongEnough};
+ghost use Rattle.vt_pool.specs.FieldLayouts.{count_in, with_count, field_size, counts_behind, field_fault, IsLongEnough};
 
 use byteorder::{ByteOrder, LittleEndian};
 use vt_kinds::{Decimals, Scale};
@@ -82,10 +82,10 @@ impl EntryCounts {
 impl FieldLayout {
     /// Splits the field's bytes off the front, given the counts before it; `None` if the bytes are too few.
     pub fn split<'a>(self, counts: EntryCounts, bytes: &'a [u8]) -> Option<(&'a [u8], &'a [u8])>
-        ensures there { IfSome result (λ split. part_size self counts ≤ length bytes.now) }
-        ensures front { IfSome result (λ split. split.0.now ≡ take (part_size self counts) bytes.now) }
-        ensures rest { IfSome result (λ split. split.1.now ≡ drop (part_size self counts) bytes.now) }
-        ensures none { IfNone result (length bytes.now < part_size self counts) }
+        ensures there { IfSome result (λ split. field_size self counts ≤ length bytes.now) }
+        ensures front { IfSome result (λ split. split.0.now ≡ take (field_size self counts) bytes.now) }
+        ensures rest { IfSome result (λ split. split.1.now ≡ drop (field_size self counts) bytes.now) }
+        ensures none { IfNone result (length bytes.now < field_size self counts) }
     {
         let size = self.size(counts)?;
         if bytes.len() < size {
@@ -96,8 +96,8 @@ impl FieldLayout {
 
     /// The number of bytes of the field, or `None` if it does not fit a `usize`.
     fn size(self, counts: EntryCounts) -> Option<usize>
-        ensures some { IfSome result (λ size. size ≡ part_size self counts) }
-        ensures none { IfNone result (2 ^ 64 ≤ part_size self counts) }
+        ensures some { IfSome result (λ size. size ≡ field_size self counts) }
+        ensures none { IfNone result (2 ^ 64 ≤ field_size self counts) }
     {
         match self {
             FieldLayout::Number(size) | FieldLayout::Count(_, size) => Some(size),
@@ -123,7 +123,7 @@ impl FieldLayout {
     /// The fault of the field, which has these bytes and is at index `at` of the pool.
     pub fn fault(self, bytes: &[u8], at: usize) -> Option<PoolFault>
         requires { IsLongEnough self bytes.now }
-        ensures { result ≡ part_fault self bytes.now at }
+        ensures { result ≡ field_fault self bytes.now at }
     {
         match self {
             FieldLayout::Scale => {
