@@ -1,3 +1,5 @@
+//! Tests of vt_can: identifiers, written frames and lines, comments, and the texts of faults.
+
 mod frames;
 mod operator;
 mod sessions;

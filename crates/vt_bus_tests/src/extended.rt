@@ -1,3 +1,5 @@
+//! Tests of vt_extended: the steps of ETP receivers.
+
 mod linux;
 mod linux_20000;
 mod linux_logs;

@@ -1,3 +1,5 @@
+//! Tests of vt_names: the numbers of NAMEs and their order.
+
 mod heard_claims;
 mod want_of_memory;
 mod working_sets;

@@ -1,3 +1,5 @@
+//! Tests of vt_transport: the steps of TP receivers and senders.
+
 mod linux;
 mod linux_logs;
 mod receiving;

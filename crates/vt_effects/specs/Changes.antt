@@ -128,7 +128,7 @@ in_parent change _ = Err errors.OBJECT
 
 -- ---- commands that write fields and do no more
 
--- what is made of an object of these kinds, else the bit of another object
+-- the result for an object of these kinds, and the error byte for an object of another kind
 abbrev pub for_kinds : Kinds → Seen → Result Seen ℕ → Result Seen ℕ
 for_kinds kinds o made = if is_member kinds (kind_of o) then made else Err errors.OBJECT
 

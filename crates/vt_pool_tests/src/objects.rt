@@ -1,3 +1,5 @@
+//! Tests of the kinds of objects, their entries, scales and decimals, and of both stores.
+
 ghost use Rattle.std.specs.Prelude.{◌≡◌, IfOk, map};
 ghost use Rattle.vt_stores.specs.Stores.{AreNamed, seen_entry};
 

@@ -1,3 +1,5 @@
+//! Tests of pools: records written again, faults of cut and bad records, and the last record of an ID.
+
 mod arriving;
 mod each_kind;
 mod want_of_memory;

@@ -1,3 +1,5 @@
+//! Tests of ranks: the least circle of a graph, and the ranks of graphs without one.
+
 use arrayvec::ArrayVec;
 use std::alloc::{AllocError, Global};
 use std::test::Fail;

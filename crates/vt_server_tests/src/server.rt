@@ -1,3 +1,5 @@
+//! Tests of the terminal: the frames sent for frames received, and runs of many inputs.
+
 mod addresses;
 mod alarms;
 mod changes;

@@ -1,3 +1,5 @@
+//! Tests of the lines of frames: times, shapes and data, with the fault of each bad line.
+
 use super::Wanted::*;
 use super::{Wanted, expect_lines};
 use vt_can::{LineFault, Skipped};

@@ -1,3 +1,5 @@
+//! Tests of the lines of the operator's actions: the action or the fault of each line.
+
 use super::Wanted::*;
 use super::{Wanted, expect_lines};
 use vt_can::{Action, LineFault};

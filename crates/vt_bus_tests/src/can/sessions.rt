@@ -1,3 +1,5 @@
+//! Tests of sessions by address: a session is found and taken at its address, and the least overdue one expires first.
+
 use std::process::Abort;
 use vt_can::{Sessions, Timed};
 

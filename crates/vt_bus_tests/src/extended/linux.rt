@@ -1,3 +1,5 @@
+//! Tests of ETP receivers on sessions of Linux: a receiver gives the same replies.
+
 use super::linux_20000::{LOG_20000, SENT_20000};
 use super::linux_logs::*;
 use super::*;

@@ -1,4 +1,4 @@
-// The longest session of the J1939 stack of the Linux kernel, recorded like those in linux_logs.rt.
+//! Tests of ETP receivers on the longest session of Linux: its log and its bytes, recorded like those in linux_logs.rt.
 
 pub(super) const LOG_20000: [&[u8]; 26] = [
     b"(1795329442.843520) vcan0 1CC82680#14204E000000E700",

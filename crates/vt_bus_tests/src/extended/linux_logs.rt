@@ -1,8 +1,10 @@
-// ETP sessions of the J1939 stack of the Linux kernel (can-j1939): its sender at 80 sent these bytes to its
-// receiver at 26, both on one virtual bus, and candump wrote the log. The packets had seven bytes each, the
-// last one filled with FF, numbered from 1 after each offset.
-//
-// Each session has its log without the packets, and the bytes in hexadecimal, ten packets to a line.
+//! Tests of ETP receivers on sessions of Linux: the recorded logs and bytes.
+//!
+//! The sender of the J1939 stack of the Linux kernel (can-j1939) at 80 sent these bytes to its receiver at 26, both on one
+//! virtual bus, and candump wrote the log. The packets had seven bytes each, the last one filled with FF, numbered from 1
+//! after each offset.
+//!
+//! Each session has its log without the packets, and the bytes in hexadecimal, ten packets to a line.
 
 pub(super) const LOG_1786: [&[u8]; 6] = [
     b"(1795329417.512922) vcan0 1CC82680#14FA06000000E700",

@@ -1,3 +1,5 @@
+//! Tests of ETP receivers: messages that are handed out, and sessions that end early.
+
 use super::Act::{Expires, Group, Hears, Packet};
 use super::Wanted::*;
 use super::*;

@@ -1,4 +1,5 @@
-// Frames that a receiver refuses with an abort, and frames that it ignores.
+//! Tests of frames that an ETP receiver refuses with an abort, and of frames that it ignores.
+
 use super::Act::Hears;
 use super::Wanted::*;
 use super::*;

@@ -1,3 +1,5 @@
+//! Tests of an ETP receiver with sessions of all sources at once.
+
 use super::*;
 use vt_can::assigned::ETP_CM;
 

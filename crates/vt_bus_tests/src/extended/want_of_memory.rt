@@ -1,4 +1,5 @@
-// A call of the ETP receiver that is refused memory changes nothing, and may be repeated.
+//! Tests of calls of the ETP receiver that are refused memory: they change nothing, and may be repeated.
+
 use super::refusing::{BYTES, END, LAST, REQUEST, opens};
 use super::*;
 

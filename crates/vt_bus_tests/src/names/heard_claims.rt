@@ -1,3 +1,5 @@
+//! Tests of claims: their meaning for the own address, and the holders of addresses after them.
+
 use super::*;
 use std::alloc::Global;
 use std::process::Abort;

@@ -1,3 +1,5 @@
+//! Tests of the registry: the working sets after master and member messages, closings and preloads.
+
 use super::*;
 use std::alloc::Global;
 use std::test::Fail;

@@ -1,3 +1,5 @@
+//! Tests of TP on sessions of Linux: a receiver gives the same replies, and a sender sends the same packets.
+
 use super::linux_logs::*;
 use super::*;
 use arrayvec::ArrayVec;

@@ -1,7 +1,9 @@
-// TP sessions of the J1939 stack of the Linux kernel (can-j1939): its sender at 80 sent these bytes to its
-// receiver at 26, both on one virtual bus, and candump wrote the log.
-//
-// Each session has its log, and the bytes in hexadecimal, ten packets to a line.
+//! Tests of TP on sessions of Linux: the recorded logs and bytes.
+//!
+//! The sender of the J1939 stack of the Linux kernel (can-j1939) at 80 sent these bytes to its receiver at 26, both on one
+//! virtual bus, and candump wrote the log.
+//!
+//! Each session has its log, and the bytes in hexadecimal, ten packets to a line.
 
 pub(super) const LOG_9: [&[u8]; 5] = [
     b"(1795329415.081562) vcan0 1CEC2680#100900020200E700",

@@ -1,3 +1,5 @@
+//! Tests of TP receivers: messages that are handed out, and sessions that end early.
+
 use super::Act::{Expires, Hears};
 use super::Wanted::*;
 use super::*;

@@ -1,3 +1,5 @@
+//! Tests of TP senders: messages sent by the CTS of the receiver, refused starts, and aborts.
+
 use super::*;
 use SenderAct::*;
 use arrayvec::ArrayVec;

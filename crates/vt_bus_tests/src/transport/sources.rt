@@ -1,3 +1,5 @@
+//! Tests of a TP receiver with sessions of all sources at once.
+
 ghost use Rattle.std.specs.Prelude.{◌<◌};
 
 use super::receiving::both_packets;

@@ -1,4 +1,5 @@
-// A call of the TP receiver or sender that is refused memory changes nothing, and may be repeated.
+//! Tests of calls of the TP receiver and sender that are refused memory: they change nothing, and may be repeated.
+
 use super::*;
 
 const REQUEST: &[u8] = b"(1.000000) can0 1CEC2680#10090002FF00E700";

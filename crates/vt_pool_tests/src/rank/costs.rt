@@ -1,3 +1,5 @@
+//! Tests of costs: the costs of nodes and groups, and the first one over the cap.
+
 use super::{graph_of, line_of};
 use std::alloc::{AllocError, Global};
 use std::test::Fail;

@@ -1,5 +1,7 @@
-// Sessions of the J1939 stack of the Linux kernel (can-j1939). Its sender at 80 sent a piece of a pool to its receiver at 26,
-// both on one virtual bus, and candump wrote the log. The terminal must send the receiver's answers.
+//! Tests of the terminal on sessions of Linux: the recorded logs, with the answers that the terminal must send.
+//!
+//! The sender of the J1939 stack of the Linux kernel (can-j1939) at 80 sent a piece of a pool to its receiver at 26, both on
+//! one virtual bus, and candump wrote the log.
 
 use super::script::Step;
 
