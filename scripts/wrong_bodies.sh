@@ -7,15 +7,15 @@
 # It works on a copy, which begins with what `rt check` kept in the crates.
 set -eu
 cd "$(dirname "$0")/.."
-room=$(mktemp -d)
-trap 'rm -rf "$room"' EXIT
+copy=$(mktemp -d)
+trap 'rm -rf "$copy"' EXIT
 if [ $# -eq 0 ]; then
     set -- $(ls wrong_bodies)
 fi
-cp -a HANDLES crates.txt crates "$room"
-rm -rf "$room"/crates/*/must-fail
+cp -a HANDLES crates.txt crates "$copy"
+rm -rf "$copy"/crates/*/must-fail
 for crate in "$@"; do
-    cp -a "wrong_bodies/$crate" "$room/crates/$crate/must-fail"
+    cp -a "wrong_bodies/$crate" "$copy/crates/$crate/must-fail"
 done
-cd "$room"
+cd "$copy"
 rt must-fail "$@"
