@@ -41,17 +41,17 @@ IsAmong kinds (Some kind) = IsTrue (is_among kinds kind)
 
 -- a reference is allowed in a field of a kind: NULL, where the field allows it, or an object of an allowed kind
 abbrev pub MayStand : Kind → Place → ℕ → Option Kind → Type 0
-MayStand kind place id named =
-    ((id ≡ null_id) × IsTrue (may_be_null place)) ⊎ ((id ≢ null_id) × IsAmong (members (allowed kind place)) named)
+MayStand kind place id referenced =
+    ((id ≡ null_id) × IsTrue (may_be_null place)) ⊎ ((id ≢ null_id) × IsAmong (members (allowed kind place)) referenced)
 
--- A field accepts a value. For a reference, `named` is the kind of the referenced object, if it exists. An object
+-- A field accepts a value. For a reference, `referenced` is the kind of the referenced object, if it exists. An object
 -- pointer's value has to meet more conditions (docs/PROFILE.md, "Values of attributes").
 abbrev pub Accepts : Kind → ValueType → ℕ → Option Kind → Type 0
-Accepts kind (types.Reference place) n named = MayStand kind place n named
-Accepts kind types.Priority n named = n ≤ 2
-Accepts kind types.Scale n named = IsScale n
-Accepts kind types.Decimals n named = n ≤ 7
-Accepts kind _ n named = Unit {0}
+Accepts kind (types.Reference place) n referenced = MayStand kind place n referenced
+Accepts kind types.Priority n referenced = n ≤ 2
+Accepts kind types.Scale n referenced = IsScale n
+Accepts kind types.Decimals n referenced = n ≤ 7
+Accepts kind _ n referenced = Unit {0}
 
 -- ---- the attributes of each kind
 

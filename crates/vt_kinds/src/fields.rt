@@ -102,18 +102,18 @@ impl ValueType {
         }
     }
 
-    /// Whether a field in an object of this kind accepts the lowest bytes of a value. For a reference, `named` is the
+    /// Whether a field in an object of this kind accepts the lowest bytes of a value. For a reference, `referenced` is the
     /// kind of the referenced object, or `None` if it does not exist.
-    pub fn accepts(self, kind: Kind, value: u32, named: Option<Kind>) -> bool
-        ensures { IsTrue result ↔ Accepts kind self (table.lowest self value) named }
+    pub fn accepts(self, kind: Kind, value: u32, referenced: Option<Kind>) -> bool
+        ensures { IsTrue result ↔ Accepts kind self (table.lowest self value) referenced }
     {
         let lowest = self.lowest(value);
         match self {
             ValueType::Byte | ValueType::Word | ValueType::Long | ValueType::SignedLong => true,
             ValueType::Reference(place) if lowest == u32::from(ObjectId::NULL.raw()) =>
                 place.allows_null(),
-            ValueType::Reference(place) => match named {
-                Some(named) => place.kinds(kind).contains(named),
+            ValueType::Reference(place) => match referenced {
+                Some(referenced) => place.kinds(kind).contains(referenced),
                 None => false,
             },
             ValueType::Priority => lowest <= 2,

@@ -16,5 +16,5 @@ pub record WritesField (attribute : Attribute) (n : ℕ) (old new : Seen) : Type
 
 -- Change Attribute writes an accepted value of four bytes to the field of the attribute's number, and to no other field.
 abbrev pub AttributesAreWritten : Type 0
-AttributesAreWritten = (named : Option Kind) (number n : ℕ) (attribute : Attribute) (o new : Seen) → n < 256 ^ 4
-    → attribute_at (kind_of o) number ≡ Some attribute → change_attribute named number n o ≡ Ok new → WritesField attribute n o new
+AttributesAreWritten = (kind_of_other : Option Kind) (number n : ℕ) (attribute : Attribute) (o new : Seen) → n < 256 ^ 4
+    → attribute_at (kind_of o) number ≡ Some attribute → change_attribute kind_of_other number n o ≡ Ok new → WritesField attribute n o new

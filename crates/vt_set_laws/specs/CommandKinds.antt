@@ -59,8 +59,8 @@ first_id (t ∷ ts) = Some t.id
 -- allowed there; an object of an allowed kind gets the same error byte only for another cause.
 pub record KindsAreThoseOfChanges : Type 0 where
   pub object : (kind : Option Kind) (command : Command) → first_id (targets kind command) ≡ object_of command
-  pub others : (command : Command) (named : Option Kind) (o : Seen) (t : Target) (ts : List Target) → targets (Some (kind_of o)) command ≡ t ∷ ts
-      → is_member t.kinds (kind_of o) ≡ false → ◌≡◌ {A = Result Seen ℕ} (changed command named o) (Err (kind_error command))
-  pub these : (command : Command) (named : Option Kind) (o : Seen) (t : Target) (ts : List Target) → targets (Some (kind_of o)) command ≡ t ∷ ts
-      → is_member t.kinds (kind_of o) ≡ true → ◌≡◌ {A = Result Seen ℕ} (changed command named o) (Err (kind_error command))
+  pub others : (command : Command) (kind_of_other : Option Kind) (o : Seen) (t : Target) (ts : List Target) → targets (Some (kind_of o)) command ≡ t ∷ ts
+      → is_member t.kinds (kind_of o) ≡ false → ◌≡◌ {A = Result Seen ℕ} (changed command kind_of_other o) (Err (kind_error command))
+  pub these : (command : Command) (kind_of_other : Option Kind) (o : Seen) (t : Target) (ts : List Target) → targets (Some (kind_of o)) command ≡ t ∷ ts
+      → is_member t.kinds (kind_of o) ≡ true → ◌≡◌ {A = Result Seen ℕ} (changed command kind_of_other o) (Err (kind_error command))
       → IsTrue (has_other_cause command o)

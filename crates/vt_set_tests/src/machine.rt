@@ -27,14 +27,14 @@ type Row<'a> = (&'a [u8], &'a [u8], Option<Kind>, u8, &'a [(usize, u8)]);
 
 /// Whether each command returns the error byte of its row, and leaves the record of its row.
 fn hold(alloc: Global, rows: &[Row<'_>]) -> Result<bool, Fail> {
-    for (record, command, named, error, others) in rows {
+    for (record, command, kind_of_other, error, others) in rows {
         let mut wanted = Vec::from_slice(alloc, record)?;
         for (place, byte) in *others {
             if *place < wanted.len() {
                 wanted[*place] = *byte;
             }
         }
-        if !holds(alloc, record, command, *named, *error, &wanted)? {
+        if !holds(alloc, record, command, *kind_of_other, *error, &wanted)? {
             return Ok(false);
         }
     }
@@ -46,7 +46,7 @@ fn holds(
     alloc: Global,
     record: &[u8],
     command: &[u8],
-    named: Option<Kind>,
+    kind_of_other: Option<Kind>,
     error: u8,
     wanted: &[u8],
 ) -> Result<bool, Fail> {
@@ -54,7 +54,7 @@ fn holds(
         return Ok(false);
     };
     let (id, mut object) = object_of(alloc, record)?;
-    let answer = match change(&mut object, &command, named) {
+    let answer = match change(&mut object, &command, kind_of_other) {
         Ok(()) => 0,
         Err(error) => error,
     };
