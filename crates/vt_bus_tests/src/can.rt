@@ -133,7 +133,7 @@ const FAULTS: [(LineFault, u8, &str); 5] = [
     (
         LineFault::Shape,
         2,
-        "after the time there is no interface with ID#DATA, and at most R or T",
+        "the rest after the time is not of the form can0 14E72680#A064, with at most R or T behind it",
     ),
     (
         LineFault::Hex,
@@ -143,12 +143,13 @@ const FAULTS: [(LineFault, u8, &str); 5] = [
     (
         LineFault::Length,
         4,
-        "there are more than eight bytes of data",
+        "the frame has more than eight bytes of data",
     ),
     (
         LineFault::Operator,
         5,
-        "after the exclamation mark there is no action of the operator",
+        "the line has none of the forms ! press ID, ! release ID, ! select ID, ! number ID N, ! text ID TEXT and ! set AA \
+        (ID 0 to 65534, N 0 to 4294967295, AA two hex digits)",
     ),
 ];
 

@@ -4,7 +4,9 @@ mod action;
 mod digits;
 mod fields;
 mod frame_line;
+mod hex_pairs;
 mod line;
+mod places;
 mod write;
 
 pub use line::{Action, Line, LineFault, Skipped, parse_line};

@@ -1,8 +1,10 @@
 -- Lemmas on log lines.
 pub mod Actions
 pub mod Digits
+pub mod HexPairs
 pub mod LineRoundTrip
 pub mod OneReading
+pub mod Places
 pub mod Shape
 pub mod UniqueSplit
 pub mod WrittenDigits

@@ -1,17 +1,15 @@
 //! Parsing of digits: numbers, an identifier, bytes of data.
 
-ghost use Rattle.std.specs.Prelude.{◌≡◌, ◌<◌, ◌≤◌, ◌^◌, ℕ, length, take, MatchOption, MatchResult};
-ghost use Rattle.std.specs.List.{AllPass, list_all};
-ghost use Rattle.std.specs.Option.{SomeIff};
+ghost use Rattle.std.specs.Prelude.{◌≡◌, ◌≤◌, ℕ, true, false, length, take, MatchOption, MatchResult};
+ghost use Rattle.std.specs.List.{list_all};
 ghost use Rattle.std.specs.Str.Parse.{digits_value};
 ghost use Rattle.hex.specs.Hex.{decode_of, is_hex_digit};
 ghost use Rattle.vt_can.specs.lines.Actions.{IsNumber};
 ghost use Rattle.vt_can.specs.lines.Line.{AreDigits, IsFraction, id_of, data_reading};
 
-use crate::frames::CanId;
+use crate::lines::hex_pairs::decode;
 use crate::lines::line::LineFault;
 use arrayvec::ArrayVec;
-use hex::FromHex;
 
 /// Parses a number of `least` to `most` decimal digits.
 pub fn number(text: &[u8], least: usize, most: usize) -> Option<u64>
@@ -73,14 +71,18 @@ pub fn is_hex(text: &[u8]) -> bool
     text.iter().all(|byte| byte.is_ascii_hexdigit())
 }
 
-/// Parses an identifier of eight hex digits. `None` above 1FFFFFFF.
-pub fn identifier(text: &[u8]) -> Option<CanId>
-    requires eight { length text.now ≡ 8 }
-    requires digits { AllPass is_hex_digit text.now }
-    ensures { SomeIff result (id_of (decode_of text.now) < 2 ^ 29) (id_of (decode_of text.now)) }
+/// Parses the number of an identifier of eight hex digits.
+pub fn raw_id(text: &[u8]) -> Option<u32>
+    requires { length text.now ≡ 8 }
+    ensures { MatchOption result
+        (list_all is_hex_digit text.now ≡ false)
+        (λ raw. (list_all is_hex_digit text.now ≡ true) × (raw ≡ id_of (decode_of text.now))) }
 {
-    let bytes = <[u8; 4]>::from_hex(text).ok()?;
-    CanId::from_raw(u32::from_be_bytes(bytes))
+    let mut bytes = [0; 4];
+    if !decode(text, &mut bytes) {
+        return None;
+    }
+    Some(u32::from_be_bytes(bytes))
 }
 
 /// Parses data of up to sixteen hex digits. `Hex` takes precedence over `Length`.
@@ -89,15 +91,20 @@ pub fn data_bytes(text: &[u8]) -> Result<ArrayVec<u8, 8>, LineFault>
         (λ v. (decode_of text.now ≡ Ok v.items) × (length v.items ≤ 8))
         (λ e. (time id : ℕ) → data_reading time id (decode_of text.now) ≡ Err e) }
 {
+    if text.len() % 2 == 1 {
+        return Err(LineFault::Hex);
+    }
     let len = text.len() / 2;
     if len > 8 {
-        if text.len() % 2 == 1 || !is_hex(text) {
+        if !is_hex(text) {
             return Err(LineFault::Hex);
         }
         return Err(LineFault::Length);
     }
     let mut bytes = ArrayVec::from([0; 8]);
     bytes.truncate(len);
-    hex::decode_to_slice(text, bytes.as_mut_slice()).map_err(|_| LineFault::Hex)?;
+    if !decode(text, bytes.as_mut_slice()) {
+        return Err(LineFault::Hex);
+    }
     Ok(bytes)
 }

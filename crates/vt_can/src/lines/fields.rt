@@ -5,6 +5,7 @@ ghost use Rattle.vt_can.specs.lines.Line.{HasTime, HasShape};
 ghost use Rattle.vt_can.specs.lines.Fields.{Lacks, IsSplitAtByte, IsThirdWord};
 
 use crate::lines::digits::{micros, number};
+use crate::lines::places::place_of;
 
 /// Splits a line into its leading time, in microseconds, and the rest.
 pub fn time_of(content: &[u8]) -> Option<(u64, &[u8])>
@@ -65,6 +66,6 @@ fn is_letter(text: &[u8]) -> bool
 pub fn cut(text: &[u8], byte: u8) -> Option<(&[u8], &[u8])>
     ensures { MatchOption result (Lacks byte text.now) (λ p. IsSplitAtByte byte text.now p.0.now p.1.now) }
 {
-    let place = text.iter().position(|other| *other == byte)?;
+    let place = place_of(text, byte)?;
     Some((&text[..place], &text[place + 1..]))
 }

@@ -60,16 +60,16 @@ pub enum LineFault {
     #[error("the line does not begin with a time, as (1.000000)")]
     Time = 1,
     /// The rest after the time is not ` interface ID#DATA`, with at most ` R` or ` T` at the end.
-    #[error("after the time there is no interface with ID#DATA, and at most R or T")]
+    #[error("the rest after the time is not of the form can0 14E72680#A064, with at most R or T behind it")]
     Shape,
     /// The ID or the data is not written in hex digits, two for each byte.
     #[error("the ID or the data is not written in hex digits, two for each byte")]
     Hex,
     /// There are more than eight bytes of data.
-    #[error("there are more than eight bytes of data")]
+    #[error("the frame has more than eight bytes of data")]
     Length,
     /// The line begins with `! `, but does not have the form of an action.
-    #[error("after the exclamation mark there is no action of the operator")]
+    #[error("the line has none of the forms ! press ID, ! release ID, ! select ID, ! number ID N, ! text ID TEXT and ! set AA (ID 0 to 65534, N 0 to 4294967295, AA two hex digits)")]
     Operator,
 }
 

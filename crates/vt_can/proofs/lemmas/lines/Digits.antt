@@ -97,13 +97,6 @@ pub data-short : (text bytes : List ℕ) → decode_of text ≡ Ok bytes → len
 data-short text bytes is short time id =
     data-at text bytes is time id ∙ cond-false (ltb 8 (length bytes)) _ _ (le-ltb 8 (length bytes) short)
 
--- ---- eight hex digits
-
-pub identifier-read : (text : List ℕ) → length text ≡ 8 → AllPass is_hex_digit text → (bytes : List ℕ) × (decode_sized text 4 ≡ Ok bytes)
-identifier-read text len good =
-    let read = decode_of-digits text (omega arith) good in
-    (read.0, decode_sized-twice text 4 len ∙ read.1)
-
 -- ---- one byte in two hex digits
 
 ok_from_some : (r : Result (List ℕ) FromHexError) (bytes : List ℕ) → result_ok r ≡ Some bytes → r ≡ Ok bytes
