@@ -1,6 +1,6 @@
 //! Accepted object pools.
 
-ghost use Rattle.std.specs.Prelude.{◌≡◌, ◌++◌, map, Some, is_some, string_bytes, IfOk, OnOk, OnErr, IsTrue};
+ghost use Rattle.std.specs.Prelude.{◌≡◌, ◌++◌, map, Some, is_some, IfOk, OnOk, OnErr, IsTrue};
 ghost use Rattle.std.specs.List.{flat_map};
 ghost use Rattle.vt_commands.specs.Commands.{command_at};
 ghost use Rattle.vt_commands.specs.Pieces.{cut};
@@ -20,7 +20,7 @@ use crate::listing::{Listing, Listings};
 use crate::triggers::macro_bytes;
 use std::alloc::{AllocError, Global};
 use std::marker::Model;
-use vt_objects::{Object, ObjectId, SortedStore};
+use vt_objects::{Object, ObjectId, SortedStore, push_number};
 
 /// The objects of a pool that meets all rules, copied into its own memory, with the budgets of its events.
 #[derive(Drop)]
@@ -157,10 +157,14 @@ impl Accepted {
         let events = self.budgets.events.len();
         let mut text = Vec::with_capacity(alloc, events.saturating_mul(MOST_IN_LINE))?;
         let count = self.objects().len();
-        text.extend_from_slice(format!(in alloc; "accepted {count} objects\n")?.as_bytes())?;
+        push_number(&mut text, b"accepted ", count)?;
+        text.extend_from_slice(b" objects\n")?;
         for place in 0..events {
-            let line = line(alloc, self.budgets.events[place], self.budgets.steps[place])?;
-            text.extend_from_slice(line.as_bytes())?;
+            push_line(
+                &mut text,
+                self.budgets.events[place],
+                self.budgets.steps[place],
+            )?;
         }
         Ok(text)
     }
@@ -169,10 +173,12 @@ impl Accepted {
 /// The most bytes of a line, newline included.
 const MOST_IN_LINE: usize = 37;
 
-fn line(alloc: Global, raised: Listing, budget: u32) -> Result<String, AllocError>
-    ensures { IfOk result (λ line. string_bytes line ≡ budget_line raised budget) }
+/// Appends the line of an event with its budget.
+fn push_line(text: &mut Vec<u8>, raised: Listing, budget: u32) -> Result<(), AllocError>
+    ensures { OnOk result (text.new.items ≡ text.old.items ++ budget_line raised budget) }
 {
-    let id = raised.id.raw();
-    let event = raised.event;
-    format!(in alloc; "object {id} event {event} budget {budget}\n")
+    push_number(text, b"object ", raised.id.raw())?;
+    push_number(text, b" event ", raised.event)?;
+    push_number(text, b" budget ", budget)?;
+    text.extend_from_slice(b"\n")
 }

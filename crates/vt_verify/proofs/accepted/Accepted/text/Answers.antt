@@ -25,7 +25,7 @@ loop-place-preserved c =
     ∙ ap (λ (objects : Objects). budget (shape_of objects) raised.id raised.event) c.self.view_is in
     line_added (event_line shape) (count_line (length c.args.self.now)) c.loop-place.text.items _ (listed_events shape) c.loop-place.place raised
     _ there c.loop-place.invariant
-    (c.as_bytes-in-loop-place.ensures.value ∙ c.in_ok-line.ensures ∙ ap (budget_line raised) steps) c.in_ok-extend_from_slice-2.ensures.items
+    (ap (budget_line raised) steps) c.in_ok-push_line.ensures
 
 pub returns : goal.returns
 unfolding report_text
