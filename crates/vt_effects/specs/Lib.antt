@@ -3,5 +3,6 @@ pub mod Changes
 pub mod Effects
 pub mod Errors
 pub mod Fields
+pub mod Looks
 pub mod Replacements
 pub mod Soundness

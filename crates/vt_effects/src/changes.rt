@@ -8,7 +8,7 @@ mod attributes;
 mod children;
 mod fields;
 mod references;
-mod states;
+pub(crate) mod states;
 mod texts;
 mod values;
 

@@ -1,6 +1,7 @@
 //! Theorems about the definitions of vt_effects: each is the contract of a function with an empty body.
 
 ghost use Rattle.vt_effects.specs.Changes.{ChangesKeep, ReferencesMayStand};
+ghost use Rattle.vt_effects.specs.Looks.{LooksAreKept};
 ghost use Rattle.vt_effects.specs.Soundness.{CommandsKeepOrder, CommandsKeepShapes};
 
 /// No command changes the kind of an object, the macros of its events, or the bytes of a macro.
@@ -23,4 +24,10 @@ pub fn commands_keep_order()
 /// No command changes the shape of a store: its IDs, and the kind, the macro entries and the macro bytes of each object.
 pub fn commands_keep_shapes()
     ensures { CommandsKeepShapes }
+{}
+
+/// A command that writes no field in the text of a screen, or values that are there already, keeps the look of a store.
+/// docs/PROFILE.md, "The drawing and the screen text".
+pub fn looks_are_kept()
+    ensures { LooksAreKept }
 {}

@@ -2,6 +2,8 @@
 //!
 //! - `change` does a command on its object, and `change_in` on a store. `execute` keeps references and chains in order:
 //!   it also tests new pointer values and list items, and undoes the change on a refusal.
+//! - `keeps_look` tells whether a command leaves what the text of a screen shows, and `writes_unseen` tells it by the kind of
+//!   the object.
 //! - `laws` has the theorems about the definitions.
 //!
 //! docs/PROFILE.md, "Commands: all rows" and the section of each command, "Attributes", "What every store keeps".
@@ -13,6 +15,7 @@ mod effects;
 mod error;
 mod execution;
 pub mod laws;
+mod looks;
 mod numbers;
 mod pointers;
 mod references;
@@ -21,4 +24,5 @@ mod replacements;
 pub use changes::change;
 pub use effects::change_in;
 pub use execution::{execute, kind_in};
+pub use looks::{keeps_look, writes_unseen};
 pub use numbers::byte;

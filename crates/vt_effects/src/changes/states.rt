@@ -49,7 +49,7 @@ pub(crate) fn enable_disable(object: &mut Object<Vec<u8>>, state: u8) -> Result<
 }
 
 /// Replaces the lowest bit of options.
-fn with_lowest_bit(options: u8, state: u8) -> u8
+pub(crate) fn with_lowest_bit(options: u8, state: u8) -> u8
     requires { state ≤ 1 }
     ensures { result ≡ changes.with_lowest_bit options state }
 {
