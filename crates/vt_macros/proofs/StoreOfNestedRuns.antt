@@ -23,7 +23,7 @@ use Rattle.vt_effects.specs.Effects.{effect, after}
 use Rattle.vt_macros.specs.Indexes.{IsIndexOf, command_in}
 use Rattle.vt_macros.specs.Machines.{events_of, raised, event_commands, joined_all, total_budget, fault, run, follow_ups}
 use Rattle.vt_effects.specs.Soundness.{shape_in}
-use Rattle.vt_macros.specs.NestedRuns.{CanRun, StepsLead, HaveRun, AreRunning, commands_at, cost_on_store}
+use Rattle.vt_macros.specs.NestedRuns.{IsOfVerified, CanRun, StepsLead, HaveRun, AreRunning, commands_at, cost_on_store}
 use Rattle.vt_effects.specs.Soundness.{IsSound}
 use Rattle.vt_effects.proofs.lemmas.order.OrderAfterCommand.{commands_keep_order}
 use Rattle.vt_macros.proofs.RunsEnd.{raised_cost, raised_bound, budget_is, run_step, no_fault_runs}
@@ -251,6 +251,7 @@ after_can index m levels then command new can is are =
       totals = subst MacroCostsAreTotals (sym same) can.totals;
       within = subst (IsWithinBudget terminal.steps) (sym same) can.within;
       faultless = λ id. subst (λ (s : Shape). AllByRecursion (λ command. fault s command ≡ None) (commands s id)) (sym same) (can.faultless id);
+      shaped = subst IsOfVerified (sym same) can.shaped;
     }
 
 events_cost : (shape : Shape) (raised : List Raised) → total_budget shape raised ≡ sum_by (raised_cost shape) raised

@@ -1,13 +1,17 @@
 -- The index of a pool's macros: those that run at an event, and the commands of each macro.
-use Rattle.std.specs.Prelude.{◌≡◌, ◌≤◌, ℕ, List, length, map, take, drop, slice_index_or, Option, Some}
-use Rattle.std.specs.List.{AllByRecursion}
+use Rattle.std.specs.Prelude.{◌≡◌, ◌≤◌, ℕ, Bool, false, List, length, map, take, drop, slice_index_or, Option, Some}
+use Rattle.std.specs.List.{AllByRecursion, list_all}
 use Rattle.vt_commands.specs.declared.command.Command.{Command}
+use Rattle.vt_commands.specs.declared.raising.Raised.{Raised}
 use Rattle.vt_commands.specs.Commands.{command_at}
 use Rattle.vt_stores.specs.Shapes.{Shape}
 use Rattle.vt_verify.specs.Macros.{commands}
-use Rattle.vt_verify.specs.TriggerGraphs.{AreListings}
+use Rattle.vt_verify.specs.declared.listing.Listing.{Listing}
+use Rattle.vt_verify.specs.Triggers.{listing_of}
+use Rattle.vt_verify.specs.TriggerGraphs.{AreListings, macros_of_event}
 use Rattle.vt_macros.specs.declared.index.Index.{Index}
 use Rattle.vt_macros.specs.declared.index.Span.{Span}
+use Rattle.vt_macros.specs.QuietMacros.{AreQuiet}
 
 -- the elements from the start of a span to its end
 abbrev pub in_span : {A : Type 0} → List A → Span → List A
@@ -24,10 +28,18 @@ command_in index span = command_at (in_span index.bytes.items span)
 abbrev pub pieces_in : Index → ℕ → List Span
 pieces_in index id = in_span index.pieces.items (slice_index_or index.macros.items id no_span)
 
--- The index has the listed macros of each event, and the commands of each macro.
+-- whether all macros that the index has at an event are marked
+abbrev pub marked_at : Index → Listing → Bool
+marked_at index event = list_all (λ id. slice_index_or index.quiet.items id false) (macros_of_event index.listings event)
+
+abbrev pub all_marked : Index → List Raised → Bool
+all_marked index raised = list_all (λ r. marked_at index (listing_of r)) raised
+
+-- The index has the listed macros of each event, the commands of each macro, and marks of quiet macros alone.
 pub record IsIndexOf (shape : Shape) (index : Index) : Type 0 where
   pub listings_are : AreListings shape index.listings
   pub commands_are : (id : ℕ) → map (command_in index) (pieces_in index id) ≡ map Some (commands shape id)
+  pub quiet_are : AreQuiet shape index.quiet.items
 
 -- No span ends past the end of its list.
 pub record HasSpansInBounds (index : Index) : Type 0 where

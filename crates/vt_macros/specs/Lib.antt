@@ -2,4 +2,5 @@
 pub mod Indexes
 pub mod Machines
 pub mod NestedRuns
+pub mod QuietMacros
 pub mod Runs

@@ -72,6 +72,11 @@ pub data End : Type 0 where
   Ended : (store : ObjectMap) (left : ℕ) → End
   Sticks : (why : Stuck) (store : ObjectMap) → End
 
+-- the objects after a run; runs on the objects of an accepted pool never stick
+abbrev pub store_of : End → ObjectMap
+store_of (Ended store left) = store
+store_of (Sticks why store) = store
+
 abbrev pub or_sticks : Option Stuck → ObjectMap → End → End
 or_sticks (Some why) store next = Sticks why store
 or_sticks None store next = next

@@ -3,10 +3,11 @@ use Rattle.std.specs.Prelude.{◌≡◌, ◌≤◌, ◌+◌, ℕ, List, [], ◌+
 use Rattle.std.specs.Option.{option_to_list}
 use Rattle.std.specs.List.{AllByRecursion, flat_map}
 use Rattle.vt_commands.specs.declared.command.Command.{Command}
-use Rattle.vt_stores.specs.Stores.{ObjectMap}
+use Rattle.vt_stores.specs.Stores.{Objects, ObjectMap}
+use Rattle.vt_stores.specs.Shapes.{Shape, shape_of}
 use Rattle.vt_verify.specs.Macros.{commands}
 use Rattle.vt_verify.specs.Budgets.{MacroCostsAreTotals, cost, command_cost}
-use Rattle.vt_verify.specs.Rules.{IsWithinBudget, working_sets}
+use Rattle.vt_verify.specs.Rules.{IsVerified, IsWithinBudget, working_sets}
 use Rattle.vt_chains.specs.Limits.{terminal}
 use Rattle.vt_macros.specs.declared.index.Index.{Index}
 use Rattle.vt_macros.specs.declared.index.Span.{Span}
@@ -17,6 +18,12 @@ use Rattle.vt_macros.specs.Machines.{fault, run}
 use Rattle.vt_effects.specs.Soundness.{shape_in}
 use Rattle.vt_effects.specs.Soundness.{IsSound}
 
+-- The shape is that of a verified pool.
+pub record IsOfVerified (shape : Shape) : Type 0 where
+  pub pool : Objects
+  pub verified : IsVerified pool
+  pub same : shape_of pool ≡ shape
+
 -- the macros of a store can run: it is in order, with its index and levels
 pub record CanRun (index : Index) (store : ObjectMap) (levels : Levels) : Type 0 where
   pub indexed : IsIndexOf (shape_in store) index
@@ -26,6 +33,7 @@ pub record CanRun (index : Index) (store : ObjectMap) (levels : Levels) : Type 0
   pub totals : MacroCostsAreTotals (shape_in store)
   pub within : IsWithinBudget terminal.steps (shape_in store)
   pub faultless : (id : ℕ) → AllByRecursion (λ command. fault (shape_in store) command ≡ None) (commands (shape_in store) id)
+  pub shaped : IsOfVerified (shape_in store)
 
 -- `steps` steps lead from one store to another, and from pending commands to others, whatever is pending after them.
 abbrev pub StepsLead : ObjectMap → List Command → ℕ → ObjectMap → List Command → Type 0

@@ -1,10 +1,11 @@
 //! An index of a pool's macros: those that run at an event, and the commands of each macro.
 
-ghost use Rattle.std.specs.Prelude.{◌≡◌, ◌++◌, ◌∷◌, ◌==◌, ◌+◌, ℕ, [], length, map, Some, is_some, IsTrue, IfOk, OnOk, if◌then◌else◌};
+ghost use Rattle.std.specs.Prelude.{◌≡◌, ◌++◌, ◌∷◌, ◌==◌, ◌+◌, ℕ, [], length, map, Some, is_some, IsTrue, IfOk, OnOk, if◌then◌else◌, false, slice_index_or};
 ghost use Rattle.vt_commands.specs.Commands.{command_at};
 ghost use Rattle.vt_commands.specs.Pieces.{cut};
 ghost use Rattle.vt_stores.specs.Shapes.{Shape, shape_of};
 ghost use Rattle.vt_verify.specs.Macros.{cut_or_none, commands};
+ghost use Rattle.vt_verify.specs.TriggerGraphs.{macros_of_event};
 ghost use Rattle.vt_verify.specs.Triggers.{listing, listed};
 ghost use Rattle.vt_macros.specs.Indexes.{in_span, command_in, pieces_in, IsIndexOf, HasSpansInBounds};
 
@@ -30,6 +31,8 @@ pub struct Index {
     pieces: Vec<Span>,
     /// The range of each macro's commands in `pieces`.
     macros: Vec<Span>,
+    /// For each macro, whether it is known to be quiet.
+    pub(crate) quiet: Vec<bool>,
 }
 
 // Written by hand, so that the crates above need not prove it again.
@@ -40,6 +43,7 @@ impl Drop for Index {
             bytes: _bytes,
             pieces: _pieces,
             macros: _macros,
+            quiet: _quiet,
         } = self;
     }
 }
@@ -65,18 +69,21 @@ impl Index {
         Ok(index)
     }
 
-    /// Returns the index with its listings replaced.
+    /// Returns the index with its listings replaced, and without marks of quiet macros.
     pub fn with_listings(mut self, listings: Listings) -> Index
-        ensures { result ≡ record { listings = listings; bytes = self.bytes; pieces = self.pieces; macros = self.macros } }
+        ensures rest { result ≡ record self { listings = listings; quiet = result.quiet } }
+        ensures quiet { (id : ℕ) → slice_index_or result.quiet.items id false ≡ false }
     {
         self.listings = listings;
+        self.quiet.fill(false);
         self
     }
 
     /// The macros that run at an event of an object, in the order of its list. Empty if the object is missing or `event`
     /// is not an event's number.
     pub fn macros_at(&self, id: ObjectId, event: u8) -> &[u8]
-        ensures { (shape : Shape) → IsIndexOf shape self.now → result.now ≡ listed shape (listing id event) }
+        ensures macros { result.now ≡ macros_of_event self.now.listings (listing id event) }
+        ensures listed { (shape : Shape) → IsIndexOf shape self.now → result.now ≡ listed shape (listing id event) }
     {
         self.listings.at(id, event)
     }
@@ -105,11 +112,13 @@ impl Index {
     {
         let none = Span { start: 0, end: 0 };
         let macros = Vec::from_elem(alloc, none, 256)?;
+        let quiet = Vec::from_elem(alloc, false, 256)?;
         Ok(Index {
             listings: Listings::new(alloc),
             bytes: Vec::new(alloc),
             pieces: Vec::new(alloc),
             macros,
+            quiet,
         })
     }
 

@@ -1,5 +1,6 @@
 //! Theorems about the definitions of vt_macros: each is the contract of a function with an empty body.
 
+ghost use Rattle.vt_macros.specs.QuietMacros.{QuietRunsKeepLooks};
 ghost use Rattle.vt_macros.specs.Runs.{EventsEndBeforePending, EventsEndInTurn, PoolsAreReady, RunsEnd};
 
 /// Runs end: on a store of an acceptable pool whose macros cost the sum of their commands, all raised events run within
@@ -25,4 +26,10 @@ pub fn events_end_before_pending()
 /// every store keeps".
 pub fn pools_are_ready()
     ensures { PoolsAreReady }
+{}
+
+/// Events that trigger quiet macros alone keep the look of a store: the commands of these macros, and of all that they
+/// trigger, write no field that the text of a screen shows. docs/PROFILE.md, "The drawing and the screen text".
+pub fn quiet_runs_keep_looks()
+    ensures { QuietRunsKeepLooks }
 {}

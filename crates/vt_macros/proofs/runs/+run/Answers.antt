@@ -7,7 +7,7 @@ use Rattle.vt_macros.proofs.runs.+run.Goals as goal
 pub raise-run_macro-steps-requires : goal.raise-run_macro-steps-requires
 raise-run_macro-steps-requires g t c κs within =
     let old = g.S.Store.contents c.args.store.now in
-    let le = macro_within c.args.index.now old c.macros_at-macro_id-items.result.now c.args.id c.args.event (c.macros_at-macro_id-items.ensures (shape_in old) c.requires.indexed)
+    let le = macro_within c.args.index.now old c.macros_at-macro_id-items.result.now c.args.id c.args.event (c.macros_at-macro_id-items.ensures.listed (shape_in old) c.requires.indexed)
     c.loop-macro_id.macro_id-index c.loop-macro_id.steps 0 (g.S.Store.contents c.loop-macro_id.store) c.loop-macro_id.levels c.loop-macro_id.invariant c.loop-macro_id-test.true in
     let measure = c.decreases in
     (omega (arith, measure, le), (within, c.loop-macro_id.invariant.can))
@@ -15,7 +15,7 @@ raise-run_macro-steps-requires g t c κs within =
 pub raise-overflow_add-steps : goal.raise-overflow_add-steps
 raise-overflow_add-steps g t c =
     let old = g.S.Store.contents c.args.store.now in
-    let le = macro_within c.args.index.now old c.macros_at-macro_id-items.result.now c.args.id c.args.event (c.macros_at-macro_id-items.ensures (shape_in old) c.requires.indexed)
+    let le = macro_within c.args.index.now old c.macros_at-macro_id-items.result.now c.args.id c.args.event (c.macros_at-macro_id-items.ensures.listed (shape_in old) c.requires.indexed)
     c.loop-macro_id.macro_id-index c.loop-macro_id.steps 0 (g.S.Store.contents c.loop-macro_id.store) c.loop-macro_id.levels c.loop-macro_id.invariant c.loop-macro_id-test.true in
     let most = c.requires.within.budgets c.args.id c.args.event in
     let ran = c.run_macro-steps.ensures.within in
@@ -30,7 +30,7 @@ raise-loop-macro_id-preserved g t c =
 pub raise-returns : goal.raise-returns
 raise-returns g t c =
     let old = g.S.Store.contents c.args.store.now in
-    macros_end c.args.index.now old c.macros_at-macro_id-items.result.now c.args.id c.args.event (c.macros_at-macro_id-items.ensures (shape_in old) c.requires.indexed)
+    macros_end c.args.index.now old c.macros_at-macro_id-items.result.now c.args.id c.args.event (c.macros_at-macro_id-items.ensures.listed (shape_in old) c.requires.indexed)
     c.loop-macro_id.macro_id-index c.loop-macro_id.steps (g.S.Store.contents c.loop-macro_id.store) c.loop-macro_id.levels c.loop-macro_id.invariant c.loop-macro_id-test.false
 
 pub raise_all-loop-event-preserved : goal.raise_all-loop-event-preserved

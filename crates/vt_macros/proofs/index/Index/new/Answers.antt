@@ -1,9 +1,8 @@
-use Rattle.std.proofs.Common.{sym, subst}
 use Rattle.vt_stores.specs.Shapes.{shape_of}
-use Rattle.vt_macros.specs.Indexes.{IsIndexOf}
+use Rattle.vt_macros.proofs.QuietRuns.{with_listings_is}
 use Rattle.vt_macros.proofs.index.Index.new.Goals as goal
 
 pub returns : goal.returns
 returns c =
-    subst (IsIndexOf (shape_of c.args.accepted.now)) (sym c.with_listings.ensures)
-    (record { listings_are = c.in_ok-listings.ensures; commands_are = c.in_ok-index.ensures })
+    with_listings_is (shape_of c.args.accepted.now) c.in_ok-index.index c.with_listings.result c.in_ok-listings.listings
+    c.with_listings.ensures.rest c.with_listings.ensures.quiet c.in_ok-listings.ensures c.in_ok-index.ensures

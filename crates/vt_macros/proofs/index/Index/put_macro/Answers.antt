@@ -35,7 +35,7 @@ returns c =
     let now = c.loop-piece.self in
     let all = map command_at (cut_or_none c.args.bytes.now) in
     let span : Span = record { start = c.len-start.result; end = c.len-end.result } in
-    let next : Index = record { listings = now.listings; bytes = now.bytes; pieces = now.pieces; macros = with_item now.macros c.from.result span } in
+    let next : Index = record { listings = now.listings; bytes = now.bytes; pieces = now.pieces; macros = with_item now.macros c.from.result span; quiet = now.quiet } in
     let grown =
     subst (λ (pieces : List (List ℕ)). IsGrown first now all (map command_at pieces))
     (no_piece c.cut_is_one.ensures c.loop-piece.rest.now c.in_default.ensures.none c.loop-piece.invariant.0) c.loop-piece.invariant.1 in

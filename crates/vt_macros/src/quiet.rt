@@ -1,0 +1,105 @@
+//! Quiet macros: they leave what the text of a screen shows (docs/PROFILE.md, "The drawing and the screen text").
+
+ghost use Rattle.std.specs.Prelude.{◌≡◌, true, false, set, slice_index_or};
+ghost use Rattle.std.specs.List.{list_all};
+ghost use Rattle.vt_verify.specs.Triggers.{listing};
+ghost use Rattle.vt_effects.specs.Soundness.{shape_in};
+ghost use Rattle.vt_macros.specs.Indexes.{IsIndexOf, all_marked, command_in, marked_at, pieces_in};
+ghost use Rattle.vt_macros.specs.QuietMacros as quiet;
+
+use crate::index::{Index, Span};
+use vt_effects::writes_unseen;
+use vt_objects::{Command, ObjectId, Raised, Store, row_events};
+
+impl Index {
+    /// Marks macros of `order` as quiet, each if all its commands write no field that a screen's text shows, and trigger
+    /// marked macros alone. With each macro after those that it triggers, all quiet macros are marked.
+    pub fn mark_quiet<S: Store>(&mut self, store: &S, order: &[u8])
+        requires { IsIndexOf (shape_in (S.contents store.now)) self.old }
+        ensures { IsIndexOf (shape_in (S.contents store.now)) self.new }
+    {
+        for id in order {
+            if self.is_quiet_macro(store, *id) {
+                self.mark(*id);
+            }
+        }
+    }
+
+    /// Whether events trigger marked macros alone.
+    pub fn are_quiet(&self, raised: &[Raised]) -> bool
+        ensures { result ≡ all_marked self.now raised.now }
+    {
+        raised
+            .iter()
+            .all(|event| self.is_quiet_at(event.id, event.event.number()))
+    }
+
+    /// Whether an event, by its number, triggers marked macros alone.
+    pub fn is_quiet_at(&self, id: ObjectId, event: u8) -> bool
+        ensures { result ≡ marked_at self.now (listing id event) }
+    {
+        self.macros_at(id, event)
+            .iter()
+            .all(|id| self.is_marked(*id))
+    }
+
+    fn is_marked(&self, id: u8) -> bool
+        ensures { result ≡ slice_index_or self.now.quiet.items id false }
+    {
+        match self.quiet.get(usize::from(id)) {
+            Some(mark) => *mark,
+            None => false,
+        }
+    }
+
+    fn mark(&mut self, id: u8)
+        ensures rest { self.new ≡ record self.old { quiet = self.new.quiet } }
+        ensures marks { self.new.quiet.items ≡ set self.old.quiet.items id true }
+    {
+        let index = usize::from(id);
+        if index < self.quiet.len() {
+            self.quiet[index] = true;
+        }
+    }
+
+    /// Whether all commands of a macro are quiet.
+    fn is_quiet_macro<S: Store>(&self, store: &S, id: u8) -> bool
+        requires { IsIndexOf (shape_in (S.contents store.now)) self.now }
+        ensures { result ≡ list_all (λ piece. quiet.is_quiet_in (shape_in (S.contents store.now)) self.now.quiet.items (command_in self.now piece)) (pieces_in self.now id) }
+    {
+        self.pieces(id)
+            .iter()
+            .all(|piece| self.is_quiet_piece(store, piece))
+    }
+
+    fn is_quiet_piece<S: Store>(&self, store: &S, piece: &Span) -> bool
+        requires { IsIndexOf (shape_in (S.contents store.now)) self.now }
+        ensures { result ≡ quiet.is_quiet_in (shape_in (S.contents store.now)) self.now.quiet.items (command_in self.now piece.now) }
+    {
+        match self.command(piece) {
+            Some(command) => self.is_quiet(store, &command),
+            None => false,
+        }
+    }
+
+    /// Whether a command writes no field that a screen's text shows, and triggers marked macros alone.
+    fn is_quiet<S: Store>(&self, store: &S, command: &Command<'_>) -> bool
+        requires { IsIndexOf (shape_in (S.contents store.now)) self.now }
+        ensures { result ≡ quiet.is_quiet (shape_in (S.contents store.now)) self.now.quiet.items command.now }
+    {
+        is_unseen(store, command) && self.are_quiet(&row_events(command))
+    }
+}
+
+/// Whether a command writes no field that a screen's text shows. False if its object is missing.
+fn is_unseen<S: Store>(store: &S, command: &Command<'_>) -> bool
+    ensures { result ≡ quiet.is_unseen_in (shape_in (S.contents store.now)) command.now }
+{
+    let Some(id) = command.object() else {
+        return true;
+    };
+    match store.get(id) {
+        Some(object) => writes_unseen(command, object.kind()),
+        None => false,
+    }
+}
