@@ -1,5 +1,10 @@
+pub mod ComparedObjects
 pub mod LongerText
 pub mod MacrosUnaffected
+pub mod MarksKept
 pub mod NullIsNoObject
 pub mod OneSet
+pub mod ReplacedObjects
+pub mod SameLookShows
+pub mod SlotsByIds
 pub mod StateBeforeAndAfter

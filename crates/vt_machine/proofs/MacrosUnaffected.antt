@@ -28,7 +28,7 @@ use Rattle.vt_machine.specs.OperatorEntries.{put_at, with_number, with_text}
 use Rattle.vt_macros.specs.Indexes.{IsIndexOf}
 use Rattle.vt_macros.specs.Machines.{fault}
 use Rattle.vt_effects.specs.Soundness.{shape_in}
-use Rattle.vt_macros.specs.NestedRuns.{CanRun}
+use Rattle.vt_macros.specs.NestedRuns.{IsOfVerified, CanRun}
 use Rattle.vt_effects.specs.Soundness.{IsSound, value_fits, is_in_order}
 use Rattle.vt_effects.proofs.lemmas.inclusions.NewInclusions.{ids_by}
 use Rattle.vt_effects.proofs.lemmas.stores.OneChangedObject.{get_there, get_other, kinds_stay}
@@ -157,6 +157,7 @@ module _ (m : ObjectMap) (id : ℕ) (old new : Seen) (at : finite.get m id ≡ S
     totals = subst MacroCostsAreTotals (sym still_shaped) can.totals;
     within = subst (IsWithinBudget terminal.steps) (sym still_shaped) can.within;
     faultless = λ id. subst (λ (s : Shape). AllByRecursion (λ command. fault s command ≡ None) (commands s id)) (sym still_shaped) (can.faultless id);
+    shaped = subst IsOfVerified (sym still_shaped) can.shaped;
   }
 
 -- ---- a change of an object that may be missing

@@ -36,7 +36,7 @@ use Rattle.vt_machine.specs.SetStates.{SetState, HasRun, IsDone, is_key, holds_k
 use Rattle.vt_machine.specs.OperatorActions.{HasActed, key_message}
 use Rattle.vt_macros.specs.Machines.{fault, events_of, joined_all, total_budget, run}
 use Rattle.vt_effects.specs.Soundness.{shape_in}
-use Rattle.vt_macros.specs.NestedRuns.{CanRun, HaveRun}
+use Rattle.vt_macros.specs.NestedRuns.{IsOfVerified, CanRun, HaveRun}
 use Rattle.vt_macros.specs.Runs.{IsReady}
 use Rattle.vt_effects.proofs.lemmas.inclusions.NewInclusions.{ids_by}
 use Rattle.vt_effects.proofs.lemmas.stores.CommandExecution.{answered}
@@ -62,19 +62,25 @@ pub stored_shallow : (m : ObjectMap) (pool : Objects) → m ≡ map_of pool → 
 stored_shallow m pool is stored acceptable =
     subst (λ (n : ObjectMap). IsShallow terminal.inclusions (inclusions_of n)) (sym is) (pools_are_ready pool stored acceptable).sound.shallow
 
+pub stored_indexed : (m : ObjectMap) (pool : Objects) (index : Index) → m ≡ map_of pool → AreStored pool → IsAcceptable terminal pool → IsIndexOf (shape_of pool) index
+    → IsIndexOf (shape_in m) index
+stored_indexed m pool index is stored acceptable indexed =
+    subst (λ (s : Shape). IsIndexOf s index) (sym (IsReady.shape (subst (IsReady pool) (sym is) (pools_are_ready pool stored acceptable)))) indexed
+
 pub stored_runs : (m : ObjectMap) (pool : Objects) (index : Index) (levels : Levels) → m ≡ map_of pool → AreStored pool → IsAcceptable terminal pool → MacroCostsAreTotals (shape_of pool)
-    → IsIndexOf (shape_of pool) index → AreLevels m levels → CanRun index m levels
+    → IsIndexOf (shape_in m) index → AreLevels m levels → CanRun index m levels
 stored_runs m pool index levels is stored acceptable totals indexed levelled =
     let ready : IsReady pool m = subst (IsReady pool) (sym is) (pools_are_ready pool stored acceptable) in
     let same : shape_of pool ≡ shape_in m = sym ready.shape in
     record {
-      indexed = subst (λ (s : Shape). IsIndexOf s index) same indexed;
+      indexed = indexed;
       levelled = levelled;
       sound = ready.sound;
       working_set = ready.working_set;
       totals = subst MacroCostsAreTotals same totals;
       within = subst (IsWithinBudget terminal.steps) same acceptable.within_budget;
       faultless = λ id. subst (λ (s : Shape). AllByRecursion (λ command. fault s command ≡ None) (commands s id)) same (faultless pool id acceptable);
+      shaped = subst IsOfVerified same (record { pool = pool; verified = record { stored = stored; acceptable = acceptable; totals = totals }; same = refl });
     }
 
 -- ---- runs

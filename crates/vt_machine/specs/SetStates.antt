@@ -1,7 +1,7 @@
 -- A working set with its objects, its held key and its selected input, and the effects of calls on it (docs/PROFILE.md,
 -- "Runs", "Steps").
 use denote.RattleType.{RattleType}
-use Rattle.std.specs.Prelude.{◌≡◌, ◌≤◌, ◌+◌, ◌-◌, ℕ, Bool, true, false, ◌==◌, if◌then◌else◌, List, [], ◌∷◌, Option, Some, None, Result, Ok, Err, refl}
+use Rattle.std.specs.Prelude.{◌≡◌, ◌≤◌, ◌+◌, ◌-◌, ℕ, Bool, true, false, ◌==◌, if◌then◌else◌, List, [], ◌∷◌, Option, Some, None, Result, Ok, Err, refl, length}
 use Rattle.std.specs.Coded.{Coded, code_by, coded×, coded_option, coded_ℕ}
 use Rattle.std.specs.FinMap as map
 use Rattle.vt_kinds.specs.contracts.macro_bytes.MacroBytes as macro_bytes
@@ -19,6 +19,8 @@ use Rattle.vt_machine.specs.contracts.live.HeldKey as held_key
 use Rattle.vt_machine.specs.declared.live.HeldKey.{HeldKey}
 use Rattle.vt_machine.specs.declared.live.Outcome.{Outcome}
 use Rattle.vt_machine.specs.declared.live.Outcome.TheVariants.{Done, Refused}
+use Rattle.vt_chains.specs.Depths.{ids_of}
+use Rattle.vt_shown.specs.Marks.{AreShown}
 use Rattle.vt_effects.specs.Effects.{effect, kind_in}
 use Rattle.vt_macros.specs.Machines.{Ended, mask_of, run, joined_all, total_budget, events_of}
 use Rattle.vt_effects.specs.Soundness.{shape_in}
@@ -132,3 +134,10 @@ kept_input old new (Some input) = if is_kept old new input then Some input else 
 -- the working set with its objects updated
 abbrev pub renewed : SetState → ObjectMap → SetState
 renewed state new = record { objects = new; key = kept_key state.objects new state.key; input = kept_input state.objects new state.input }
+
+-- ---- the marks of shown objects
+
+-- There is a mark for each object. The marks are those of the objects that the active mask shows, if they are said to be.
+pub record HasMarks (store : ObjectMap) (are_shown : Bool) (marks : List Bool) : Type 0 where
+  pub each : length marks ≡ length (ids_of store)
+  pub shown : are_shown ≡ true → AreShown store (active_in store) marks

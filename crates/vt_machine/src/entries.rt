@@ -41,6 +41,7 @@ impl<S: Store> Live<S> {
     {
         let is_new = !is_number(self.store(), place, number);
         put_number(&mut self.store, place, number);
+        self.are_marked = false;
         let steps = self.raise_all(&entry_events(id, is_new));
         let message = number_message(id, number);
         Acted { message, steps }
@@ -86,6 +87,7 @@ impl<S: Store> Live<S> {
     {
         let is_new = !is_text(self.store(), place, text);
         put_text(&mut self.store, place, text);
+        self.are_marked = false;
         let steps = self.raise_all(&entry_events(id, is_new));
         let message = text_message(id, text);
         Acted { message, steps }

@@ -1,6 +1,6 @@
 //! A running working set with its object pool and event machine.
 
-ghost use Rattle.std.specs.Prelude.{◌≡◌, ◌≤◌, ℕ, Some, None, IfOk, true, false, length};
+ghost use Rattle.std.specs.Prelude.{◌≡◌, ◌≤◌, ℕ, [], ◌∷◌, Some, None, IfOk, true, false, length};
 ghost use Rattle.std.specs.Option.{option_map};
 ghost use Rattle.std.specs.FinMap as finite;
 ghost use Rattle.vt_kinds.specs.declared.kind.Kind.TheVariants as kinds;
@@ -12,7 +12,9 @@ ghost use Rattle.vt_verify.specs.Triggers.{listing};
 ghost use Rattle.vt_effects.specs.Effects.{kind_in};
 ghost use Rattle.vt_macros.specs.Machines.{event_commands};
 ghost use Rattle.vt_effects.specs.Soundness.{shape_in};
+ghost use Rattle.vt_commands.specs.Events as events;
 ghost use Rattle.vt_macros.specs.NestedRuns.{CanRun};
+ghost use Rattle.vt_macros.specs.QuietMacros.{KeepsLook, RunsKeepLook};
 ghost use Rattle.vt_machine.specs.OperatorActions.{HasActed};
 ghost use Rattle.vt_shown.specs.ShownElements.{IsShown, soft_key_mask_of};
 ghost use Rattle.vt_effects.specs.Soundness.{IsSound};
@@ -22,10 +24,10 @@ use crate::working_set::working_set;
 use std::alloc::{AllocError, Global};
 use std::marker::Model;
 use vt_chains::Levels;
-use vt_effects::{execute, kind_in};
+use vt_effects::{execute, keeps_look, kind_in};
 use vt_macros::{Index, active_mask, events_of, raise, raise_all};
-use vt_objects::{Command, Object, ObjectId, Raised, SortedStore, Store};
-use vt_shown::{is_shown, soft_key_mask};
+use vt_objects::{Command, Event, Object, ObjectId, Raised, SortedStore, Store};
+use vt_shown::{is_marked, mark_shown, soft_key_mask};
 use vt_verify::{Accepted, AcceptedParts};
 
 /// The key that the operator holds.
@@ -48,15 +50,18 @@ pub enum Outcome {
 
 /// The present object pool of a working set, with the held key and the selected input. Its macros run to their end: each
 /// event takes at most the steps in the pool's report, a call at most the sum for its events, and `apply` one more for
-/// its command. After construction no call allocates, except `renew` and `renew_from`, which construct another
-/// (ISO 11783-6; docs/PROFILE.md, "Runs", "Steps").
+/// its command. After construction no call allocates, except `renew` and `renew_from`, which construct another, and
+/// `replacement`, which copies an update (ISO 11783-6; docs/PROFILE.md, "Runs", "Steps").
 pub struct Live<S: Store> {
     pub(crate) store: S,
     levels: Levels,
     index: Index,
     working_set: ObjectId,
-    /// Scratch memory for the search for shown objects: a mark for each object.
+    /// A mark for each object.
     marks: Vec<bool>,
+    /// Whether the marks are those of the objects that the active mask shows. They stay so until a call changes what the text
+    /// of a screen shows.
+    pub(crate) are_marked: bool,
     pub(crate) key: Option<HeldKey>,
     pub(crate) input: Option<ObjectId>,
 }
@@ -70,6 +75,7 @@ impl<S: Store> Drop for Live<S> {
             index: _index,
             working_set: _working_set,
             marks: _marks,
+            are_marked: _are_marked,
             key: _key,
             input: _input,
         } = self;
@@ -77,11 +83,10 @@ impl<S: Store> Drop for Live<S> {
 }
 
 impl<S: Store> Model for Live<S> {
-    ghost use Rattle.std.specs.Prelude.{◌≡◌, Some, true, length};
-    ghost use Rattle.vt_chains.specs.Depths.{ids_of};
+    ghost use Rattle.std.specs.Prelude.{◌≡◌, Some, true};
     ghost use Rattle.vt_kinds.specs.declared.kind.Kind.TheVariants as kinds;
     ghost use Rattle.vt_effects.specs.Effects.{kind_in};
-    ghost use Rattle.vt_machine.specs.SetStates.{SetState, state_code, holds_key};
+    ghost use Rattle.vt_machine.specs.SetStates.{HasMarks, SetState, state_code, holds_key};
     ghost use Rattle.vt_macros.specs.NestedRuns.{CanRun};
 
     ghost Value = { SetState };
@@ -91,7 +96,7 @@ impl<S: Store> Model for Live<S> {
     ghost view = { λ a. record { objects = S.contents a.store; key = a.key; input = a.input } };
 
     ghost invariant = { λ a. CanRun a.index (S.contents a.store) a.levels × (kind_in (S.contents a.store) a.working_set ≡ Some kinds.WorkingSet)
-        × (length a.marks.items ≡ length (ids_of (S.contents a.store)))
+        × HasMarks (S.contents a.store) a.are_marked a.marks.items
         × (holds_key (S.contents a.store) a.key ≡ true) };
 }
 
@@ -103,7 +108,8 @@ impl<S: Store> Live<S> {
     {
         let store = S::from_objects(alloc, accepted.objects())?;
         let levels = Levels::of_store(alloc, &store)?;
-        let index = Index::new(alloc, accepted)?;
+        let mut index = Index::new(alloc, accepted)?;
+        index.mark_quiet(&store, accepted.by_rank());
         let working_set = working_set_of(accepted);
         Live::of_parts(alloc, store, levels, index, working_set)
     }
@@ -127,6 +133,7 @@ impl<S: Store> Live<S> {
             index,
             working_set,
             marks,
+            are_marked: false,
             key: None,
             input: None,
         })
@@ -154,7 +161,7 @@ impl<S: Store> Live<S> {
         self
     }
 
-    fn allocator(&self) -> Global {
+    pub(crate) fn allocator(&self) -> Global {
         *self.marks.allocator()
     }
 
@@ -207,6 +214,7 @@ impl<S: Store> Live<S> {
         ensures run { HasRun self.old.objects (event_commands (shape_in self.old.objects) (listing id event)) (budget (shape_in self.old.objects) id event) result self.new.objects }
         ensures kept { self.new ≡ with_objects self.old self.new.objects }
     {
+        self.are_marked &= self.index.is_quiet_at(id, event);
         raise(&self.index, &mut self.store, &mut self.levels, id, event)
     }
 
@@ -215,6 +223,7 @@ impl<S: Store> Live<S> {
         requires { length raised.now ≤ 3 }
         ensures { HasActed self.old raised.now result self.new }
     {
+        self.are_marked &= self.index.are_quiet(raised);
         raise_all(&self.index, &mut self.store, &mut self.levels, raised)
     }
 
@@ -224,14 +233,12 @@ impl<S: Store> Live<S> {
         ensures not_shown { result ≡ false → IsShown self.old.objects (active_in self.old.objects) id → ⊥ }
         ensures same { self.new ≡ self.old }
     {
-        let mask = self.active_mask();
-        is_shown(
-            &self.store,
-            self.levels.as_slice(),
-            &mut self.marks,
-            mask,
-            id,
-        )
+        if !self.are_marked {
+            let mask = self.active_mask();
+            mark_shown(&self.store, self.levels.as_slice(), &mut self.marks, mask);
+            self.are_marked = true;
+        }
+        is_marked(&self.store, &self.marks, id)
     }
 
     /// Does a command, and runs the macros of the events that it raises. Delete Object Pool changes nothing here: the
@@ -240,6 +247,7 @@ impl<S: Store> Live<S> {
         ensures applied { Applied self.old.objects command.now result self.new.objects }
         ensures kept { self.new ≡ with_objects self.old self.new.objects }
     {
+        self.are_marked &= self.keeps_look(command);
         let raised = events_of(&self.store, command);
         match execute(&mut self.store, &mut self.levels, command) {
             Ok(()) => {
@@ -249,6 +257,26 @@ impl<S: Store> Live<S> {
             Err(bits) => Outcome::Refused { bits },
         }
     }
+
+    /// Whether a command leaves what the text of a screen shows, with the macros of its events. If true, the screen is the
+    /// same after `apply`. docs/PROFILE.md, "The drawing and the screen text".
+    pub fn keeps_look(&self, command: &Command<'_>) -> bool
+        ensures { result ≡ true → KeepsLook self.now.objects command.now }
+    {
+        if !keeps_look(&self.store, command) {
+            return false;
+        }
+        let raised = events_of(&self.store, command);
+        self.index.are_quiet(&raised)
+    }
+
+    /// Whether the macros of an event leave what the text of a screen shows. docs/PROFILE.md, "The drawing and the screen
+    /// text".
+    pub fn keeps_look_at(&self, id: ObjectId, event: Event) -> bool
+        ensures { result ≡ true → RunsKeepLook self.now.objects (events.raise id event ∷ []) }
+    {
+        self.index.are_quiet(&[Raised { id, event }])
+    }
 }
 
 impl Live<SortedStore> {
@@ -257,6 +285,7 @@ impl Live<SortedStore> {
         ensures { IfOk result (λ live. live ≡ record { objects = map_of accepted; key = None; input = None }) }
     {
         let commands = Index::of_commands(alloc, &accepted)?;
+        let order = Vec::from_slice(alloc, accepted.by_rank())?;
         let working_set = working_set_of(&accepted);
         let AcceptedParts {
             objects,
@@ -264,7 +293,8 @@ impl Live<SortedStore> {
             listings,
         } = accepted.into_parts();
         let levels = Levels::of_depths(alloc, depths)?;
-        let index = commands.with_listings(listings);
+        let mut index = commands.with_listings(listings);
+        index.mark_quiet(&objects, &order);
         Live::of_parts(alloc, objects, levels, index, working_set)
     }
 
@@ -296,7 +326,7 @@ fn kept_key<S: Store>(old: &S, new: &S, key: Option<HeldKey>) -> Option<HeldKey>
     }
 }
 
-fn kept_input<S: Store>(old: &S, new: &S, input: Option<ObjectId>) -> Option<ObjectId>
+pub(crate) fn kept_input<S: Store>(old: &S, new: &S, input: Option<ObjectId>) -> Option<ObjectId>
     ensures { result ≡ kept_input (S.contents old.now) (S.contents new.now) input }
 {
     match input {

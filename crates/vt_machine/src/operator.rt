@@ -23,20 +23,20 @@ pub enum OperatorRefusal {
     /// The input is not enabled.
     #[error("the input is not enabled")]
     Disabled,
-    /// The number is not accepted.
-    #[error("the number is not accepted")]
+    /// The number is outside the range of the object.
+    #[error("the number is outside the range of the object")]
     Range,
     /// The text is longer than the text of the object or of its variable.
     #[error("the text is longer than that of the object, or of its variable")]
     TooLong,
-    /// The object is of another kind.
-    #[error("the object is of another kind")]
+    /// The object is of a kind that the action does not take.
+    #[error("the object is of a kind that the action does not take")]
     WrongKind,
     /// The key is not the held key.
     #[error("the key is not the one that is held")]
     NotPressed,
     /// A key is held already.
-    #[error("a key is held already")]
+    #[error("a key is held already, and has to be released first")]
     Held,
 }
 

@@ -7,6 +7,7 @@ mod lives;
 mod operators;
 mod records;
 mod references;
+mod replacements;
 mod showing;
 mod sizes;
 mod states;

@@ -23,9 +23,9 @@ use Rattle.vt_chains.specs.Depths.{IsIdAt, IsBelow, ids_of, inclusions_of}
 use Rattle.vt_chains.specs.Inclusions.{is_inclusion, includes, included_by}
 use Rattle.vt_chains.proofs.InclusionsInStore.{stands}
 use Rattle.vt_chains.proofs.Elements.{Contains-nil, Contains-head, Contains-tail, cons_case}
-use Rattle.vt_chains.proofs.IdIndices.{once, same_id, stands_of, within, get_placed, object_of}
+use Rattle.vt_chains.proofs.IdIndices.{missing_nowhere, once, same_id, stands_of, within, get_placed, object_of}
 use Rattle.vt_chains.specs.Certificates.{IsCertificate}
-use Rattle.vt_shown.specs.Marks.{IsMarked, Marks, AreMarked}
+use Rattle.vt_shown.specs.Marks.{IsMarked, Marks, AreMarked, AreShown}
 use Rattle.vt_shown.specs.ShownElements.{behind, stands_for, is_element, ids_in, item_of, drawn_in, soft_keys, IsNamed, IsShown}
 use Rattle.vt_shown.specs.ShownElements.IsShown.{InMask, AmongKeys, Within}
 use Rattle.vt_chains.proofs.Slots.{in_first}
@@ -349,18 +349,22 @@ shown_element m mask id (InMask _ named) = named.element
 shown_element m mask id (AmongKeys _ named) = named.element
 shown_element m mask other (Within id _ shown named) = named.element
 
--- the mark of an object is set exactly if the object is shown
-pub shown_by_mark : (m : ObjectMap) (levels : List ℕ) (mask id place : ℕ) (marks : List Bool) → AreMarked m levels mask 0 marks → IsPlace (finite.entries m) id place
-    → slice_index_or marks place false ≡ true → IsShown m mask id
-shown_by_mark m levels mask id place marks are at set = are.shown id (record { place = place; there = stands_of (finite.entries m) place id at.object at.there; set = set })
+pub shown_marked : (m : ObjectMap) (levels : List ℕ) (mask : ℕ) (marks : List Bool) → AreMarked m levels mask 0 marks → AreShown m mask marks
+shown_marked m levels mask marks are = record { each = are.each; shown = are.shown; marked = all_marked m levels mask marks are }
 
-pub hidden_by_mark : (m : ObjectMap) (levels : List ℕ) (mask id place : ℕ) (marks : List Bool) → AreMarked m levels mask 0 marks → IsPlace (finite.entries m) id place
-    → slice_index_or marks place false ≡ false → IsShown m mask id → ⊥
-hidden_by_mark m levels mask id place marks are at clear shown =
-    let is = all_marked m levels mask marks are id shown in
+-- the mark at the index of an object is its own
+pub set_mark : (m : ObjectMap) (id place : ℕ) (marks : List Bool) → IsPlace (finite.entries m) id place → slice_index_or marks place false ≡ true → IsMarked m marks id
+set_mark m id place marks at set = record { place = place; there = stands_of (finite.entries m) place id at.object at.there; set = set }
+
+pub clear_mark : (m : ObjectMap) (id place : ℕ) (marks : List Bool) → IsPlace (finite.entries m) id place → slice_index_or marks place false ≡ false
+    → IsMarked m marks id → ⊥
+clear_mark m id place marks at clear is =
     let same = once m is.place place id is.there (stands_of (finite.entries m) place id at.object at.there) in
     let never = sym is.set ∙ ap (λ (p : ℕ). slice_index_or marks p false) same ∙ clear in
     absurd cc
+
+pub missing_mark : (m : ObjectMap) (id : ℕ) (marks : List Bool) → finite.get m id ≡ None → IsMarked m marks id → ⊥
+missing_mark m id marks none is = missing_nowhere m is.place id is.there none
 
 -- ---- the indices of objects
 

@@ -30,3 +30,9 @@ pub record AreMarked (store : ObjectMap) (levels : List ℕ) (mask level : ℕ) 
   pub keys : (id : ℕ) → IsNamed store (soft_keys store mask) id → IsMarked store marks id
   pub within : (place id : ℕ) → IsIdAt (ids_of store) place id → slice_index_or marks place false ≡ true → level ≤ slice_index levels place
       → (other : ℕ) → IsNamed store (drawn_in store (finite.get store id)) other → IsMarked store marks other
+
+-- The marked objects are those that a mask shows.
+pub record AreShown (store : ObjectMap) (mask : ℕ) (marks : List Bool) : Type 0 where
+  pub each : length marks ≡ length (ids_of store)
+  pub shown : (id : ℕ) → IsMarked store marks id → IsShown store mask id
+  pub marked : (id : ℕ) → IsShown store mask id → IsMarked store marks id

@@ -1,4 +1,4 @@
-//! Tests whether a mask shows an object.
+//! Marks the objects that a mask shows.
 
 ghost use Rattle.std.specs.Prelude.{◌≡◌, ◌≤◌, ◌<◌, ◌+◌, ◌∷◌, ℕ, [], false, true, length, slice_get, slice_index, slice_index_or, EachIndex, IfNone, IfSome, IsTrue, None, Some};
 ghost use Rattle.std.specs.FinMap as finite;
@@ -6,38 +6,35 @@ ghost use Rattle.vt_kinds.specs.Records.{Seen, seen};
 ghost use Rattle.vt_stores.specs.Stores.{IsPlace};
 ghost use Rattle.vt_chains.specs.Depths.{ids_of, inclusions_of, IsIdAt};
 ghost use Rattle.vt_chains.specs.Certificates.{IsCertificate};
-ghost use Rattle.vt_shown.specs.Marks.{Marks, AreDone, AreMarked};
+ghost use Rattle.vt_shown.specs.Marks.{Marks, AreDone, AreMarked, AreShown, IsMarked};
 ghost use Rattle.vt_shown.specs.ShownElements as showing;
-ghost use Rattle.vt_shown.specs.ShownElements.{IsShown};
 
 use crate::soft_keys::soft_key_mask;
 use vt_kinds::{Child, Entries, InputList, Object, ObjectId};
 use vt_stores::Store;
 
-/// Whether a mask shows an object, in its drawing, however long, or on its soft keys. Pointers, hidden containers and
-/// missing objects are not shown. `marks` is scratch memory with one mark for each object, of any value. docs/PROFILE.md,
-/// "The drawing".
-pub fn is_shown<S: Store>(
-    store: &S,
-    levels: &[u8],
-    marks: &mut [bool],
-    mask: ObjectId,
-    id: ObjectId,
-) -> bool
+/// Marks the objects that a mask shows, in its drawing, however long, or on its soft keys, and clears all other marks.
+/// `marks` has one mark for each object, at its index. Pointers, hidden containers and missing objects are not shown.
+/// docs/PROFILE.md, "The drawing".
+pub fn mark_shown<S: Store>(store: &S, levels: &[u8], marks: &mut [bool], mask: ObjectId)
     requires levels { IsCertificate (ids_of (S.contents store.now)) (inclusions_of (S.contents store.now)) levels.now }
     requires marks { length marks.old ≡ length (ids_of (S.contents store.now)) }
-    ensures shown { result ≡ true → IsShown (S.contents store.now) mask id }
-    ensures not_shown { result ≡ false → IsShown (S.contents store.now) mask id → ⊥ }
+    ensures { AreShown (S.contents store.now) mask marks.new }
+{
+    let mut named = [false; 65_536];
+    mark_mask(store, levels, marks, &mut named, mask);
+    mark_within(store, levels, marks, &mut named, mask);
+}
+
+/// Whether the object of an ID is marked. False if it is missing.
+pub fn is_marked<S: Store>(store: &S, marks: &[bool], id: ObjectId) -> bool
+    requires { length marks.now ≡ length (ids_of (S.contents store.now)) }
+    ensures marked { result ≡ true → IsMarked (S.contents store.now) marks.now id }
+    ensures not_marked { result ≡ false → IsMarked (S.contents store.now) marks.now id → ⊥ }
 {
     let Some(place) = store.place(id) else {
         return false;
     };
-    if !has_element(store, id) {
-        return false;
-    }
-    let mut named = [false; 65_536];
-    mark_mask(store, levels, marks, &mut named, mask);
-    mark_within(store, levels, marks, &mut named, mask);
     marks[place]
 }
 
@@ -290,16 +287,6 @@ pub fn standing<S: Store>(store: &S, id: ObjectId) -> Option<(ObjectId, &Object<
             store.get(value).map(|object| (value, object))
         }
         Some(object) => Some((id, object)),
-    }
-}
-
-/// Whether an element is there under an ID.
-fn has_element<S: Store>(store: &S, id: ObjectId) -> bool
-    ensures { result ≡ showing.is_element (finite.get (S.contents store.now) id) }
-{
-    match store.get(id) {
-        None => false,
-        Some(object) => is_element(object),
     }
 }
 

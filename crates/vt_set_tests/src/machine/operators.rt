@@ -307,17 +307,26 @@ fn updates(rt: HostRuntime) -> Result<(), Fail> {
 const SENTENCES: &[(OperatorRefusal, &str)] = &[
     (OperatorRefusal::NotShown, "the object is not shown"),
     (OperatorRefusal::Disabled, "the input is not enabled"),
-    (OperatorRefusal::Range, "the number is not accepted"),
+    (
+        OperatorRefusal::Range,
+        "the number is outside the range of the object",
+    ),
     (
         OperatorRefusal::TooLong,
         "the text is longer than that of the object, or of its variable",
     ),
-    (OperatorRefusal::WrongKind, "the object is of another kind"),
+    (
+        OperatorRefusal::WrongKind,
+        "the object is of a kind that the action does not take",
+    ),
     (
         OperatorRefusal::NotPressed,
         "the key is not the one that is held",
     ),
-    (OperatorRefusal::Held, "a key is held already"),
+    (
+        OperatorRefusal::Held,
+        "a key is held already, and has to be released first",
+    ),
 ];
 
 #[test]

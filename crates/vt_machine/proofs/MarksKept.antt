@@ -1,0 +1,86 @@
+-- The marks of shown objects stay those of the objects shown while a store looks the same.
+use Rattle.std.proofs.Common.{◌≡◌, ◌+◌, ◌-◌, ℕ, Bool, true, false, ◌&&◌, List, [], ◌∷◌, length, Option, Some, Result, Ok, Err, refl, sym, ap, subst, ◌∙◌}
+use Rattle.std.specs.Option.{option_map}
+use Rattle.std.specs.FinMap as finite
+use Rattle.vt_kinds.specs.declared.kind.Kind.TheVariants as kinds
+use Rattle.vt_kinds.specs.Records.{Seen}
+use Rattle.vt_commands.specs.declared.command.Command.{Command}
+use Rattle.vt_commands.specs.declared.raising.Raised.{Raised}
+use Rattle.vt_stores.specs.Stores.{ObjectMap}
+use Rattle.vt_chains.specs.Depths.{ids_of, IsIdAt}
+use Rattle.vt_chains.specs.declared.levels.Levels.{Levels}
+use Rattle.vt_shown.specs.Marks.{AreShown, IsMarked}
+use Rattle.vt_verify.specs.Rules.{working_sets}
+use Rattle.vt_effects.specs.Changes.{HasResult, left}
+use Rattle.vt_effects.specs.Effects.{kind_in, effect, after}
+use Rattle.vt_effects.specs.Looks.{look, HaveSameLook}
+use Rattle.vt_effects.specs.Soundness.{shape_in}
+use Rattle.vt_effects.proofs.lemmas.inclusions.NewInclusions.{ids_by}
+use Rattle.vt_macros.specs.Machines.{End, mask_of, store_of, run}
+use Rattle.vt_macros.specs.QuietMacros.{KeepsLook}
+use Rattle.vt_machine.specs.SetStates.{HasMarks, HasRun, IsDone, active_in, working_set_in}
+use Rattle.vt_machine.proofs.OneSet.{set_is}
+use Rattle.vt_machine.proofs.SameLookShows.{look_back, same_active, shown_then}
+use Rattle.vt_machine.proofs.StateBeforeAndAfter.{kind_stays, marks_stay}
+
+-- the same object is marked in stores with the same IDs
+mark_then : (old new : ObjectMap) (marks : List Bool) (id : ℕ) → shape_in new ≡ shape_in old → IsMarked old marks id → IsMarked new marks id
+mark_then old new marks id shape is = record {
+  place = is.place;
+  there = subst (λ (ids : List ℕ). IsIdAt ids is.place id) (sym (ids_by new old shape)) is.there;
+  set = is.set;
+}
+
+active_stays : (old new : ObjectMap) (set : ℕ) → shape_in new ≡ shape_in old → HaveSameLook old new → working_sets (shape_in old) ≡ 1 → kind_in old set ≡ Some kinds.WorkingSet
+    → active_in new ≡ active_in old
+active_stays old new set shape same one is =
+    let here = set_is old set one is in
+    let there = set_is new set (ap working_sets shape ∙ one) (kind_stays new old set shape ∙ is) in
+    ap (λ (id : ℕ). mask_of (finite.get new id)) (sym there ∙ here) ∙ same_active old new same (working_set_in old)
+
+shown_stay : (old new : ObjectMap) (marks : List Bool) (mask : ℕ) → shape_in new ≡ shape_in old → HaveSameLook old new → AreShown old mask marks → AreShown new mask marks
+shown_stay old new marks mask shape same are = record {
+  each = marks_stay old new marks shape are.each;
+  shown = λ id is. shown_then old new same mask id (are.shown id (mark_then new old marks id (sym shape) is));
+  marked = λ id is. mark_then old new marks id shape (are.marked id (shown_then new old (look_back old new same) mask id is));
+}
+
+first : (a b : Bool) → (a && b) ≡ true → a ≡ true
+first true b e = refl
+first false b e = absurd cc
+
+second : (a b : Bool) → (a && b) ≡ true → b ≡ true
+second true b e = e
+second false b e = absurd cc
+
+-- the marks stay, if the store looks the same, or else they are no longer said to be those of the objects shown
+pub marks_kept : (old new : ObjectMap) (set : ℕ) (were quiet : Bool) (marks : List Bool) → shape_in new ≡ shape_in old → working_sets (shape_in old) ≡ 1
+    → kind_in old set ≡ Some kinds.WorkingSet → (quiet ≡ true → HaveSameLook old new) → HasMarks old were marks → HasMarks new (were && quiet) marks
+marks_kept old new set were quiet marks shape one is keeps has = record {
+  each = marks_stay old new marks shape has.each;
+  shown = λ both.
+      let same = keeps (second were quiet both) in
+      subst (λ (mask : ℕ). AreShown new mask marks) (sym (active_stays old new set shape same one is))
+      (shown_stay old new marks (active_in old) shape same (has.shown (first were quiet both)));
+}
+
+pub marks_cleared : (old new : ObjectMap) (were : Bool) (marks : List Bool) → shape_in new ≡ shape_in old → HasMarks old were marks → HasMarks new false marks
+marks_cleared old new were marks shape has = record { each = marks_stay old new marks shape has.each; shown = λ never. absurd cc }
+
+-- ---- the store after a call
+
+-- a run of events that keep the look ends in a store that looks the same
+pub ran_same : (old new : ObjectMap) (commands : List Command) (most steps : ℕ) → HaveSameLook old (store_of (run most old commands)) → HasRun old commands most steps new
+    → HaveSameLook old new
+ran_same old new commands most steps same ran id = ap (λ (e : End). option_map look (finite.get (store_of e) id)) (sym ran.ended) ∙ same id
+
+pub done_same : (old new : ObjectMap) (command : Command) (steps : ℕ) → KeepsLook old command → IsDone old command steps new → HaveSameLook old new
+done_same old new command steps keeps done id =
+    ap (λ (e : End). option_map look (finite.get (store_of e) id)) (sym done.has_run.ended) ∙ keeps done.middle done.done id
+
+unchanged : (m : ObjectMap) (r : Result ObjectMap ℕ) (bits : ℕ) → HasResult (Err bits) r → left m r ≡ m
+unchanged m (Ok n) bits is = absurd is
+unchanged m (Err other) bits is = refl
+
+pub refused_same : (old new : ObjectMap) (command : Command) (bits : ℕ) → new ≡ after old command → HasResult (Err bits) (effect old command) → HaveSameLook old new
+refused_same old new command bits is refused id = ap (λ (m : ObjectMap). option_map look (finite.get m id)) (is ∙ unchanged old (effect old command) bits refused)
