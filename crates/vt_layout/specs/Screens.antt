@@ -8,6 +8,7 @@ use Rattle.hex.specs.Hex.{encode_upper}
 use Rattle.vt_stores.specs.Stores.{ObjectMap}
 use Rattle.vt_verify.specs.Rules.{working_sets}
 use Rattle.vt_machine.specs.SetStates.{IsActive}
+use Rattle.vt_effects.specs.Looks.{HaveSameLook}
 use Rattle.vt_effects.specs.Soundness.{shape_in}
 use Rattle.vt_effects.specs.Soundness.{IsSound}
 use Rattle.vt_layout.specs.Drawings.{Placed, IsDrawing}
@@ -48,3 +49,7 @@ pub record ScreensAreOne : Type 0 where
       → (text : List ℕ) × IsScreen address store text
   pub one : (address : ℕ) (store : ObjectMap) (one other : List ℕ) → working_sets (shape_in store) ≡ 1
       → IsScreen address store one → IsScreen address store other → one ≡ other
+
+-- Stores that look the same have the same screens: the text of a screen shows no field that a look leaves out.
+abbrev pub ScreensShowLooks : Type 0
+ScreensShowLooks = (address : ℕ) (old new : ObjectMap) (text : List ℕ) → HaveSameLook old new → IsScreen address old text → IsScreen address new text

@@ -2,7 +2,7 @@
 
 ghost use Rattle.vt_layout.specs.Drawings.{DrawingsAreOne, ShownAreDrawn, DrawingsNeverStick, PathsAreChained};
 ghost use Rattle.vt_layout.specs.LookUps.{DrawingsFindAll};
-ghost use Rattle.vt_layout.specs.Screens.{ScreensAreOne};
+ghost use Rattle.vt_layout.specs.Screens.{ScreensAreOne, ScreensShowLooks};
 
 /// The drawing of a mask is unique: the elements at all paths, in their order. It exists if the store is in order and has
 /// no object with the ID NULL. docs/PROFILE.md, "The drawing".
@@ -41,4 +41,10 @@ pub fn paths_are_chained()
 /// docs/PROFILE.md, "The drawing and the screen text".
 pub fn screens_are_one()
     ensures { ScreensAreOne }
+{}
+
+/// Stores that look the same have the same screens: no text shows a colour, a font, or another field that the look of an
+/// object leaves out. docs/PROFILE.md, "The drawing and the screen text".
+pub fn screens_show_looks()
+    ensures { ScreensShowLooks }
 {}

@@ -1,6 +1,6 @@
 //! Writes the line of each kind of element.
 
-ghost use Rattle.std.specs.Prelude.{◌≡◌, ◌++◌, [], if◌then◌else◌, Some, OnOk, string_bytes, codes};
+ghost use Rattle.std.specs.Prelude.{◌≡◌, ◌++◌, [], if◌then◌else◌, Some, OnOk, codes};
 ghost use Rattle.std.specs.Fmt.{decimal};
 ghost use Rattle.vt_kinds.specs.declared.object.Object.TheVariants as objects;
 ghost use Rattle.vt_kinds.specs.Records.{seen};
@@ -16,24 +16,24 @@ use crate::values::text_shown;
 use std::alloc::AllocError;
 use vt_objects::{
     ArchedBar, Button, InputBoolean, InputList, InputNumber, InputString, Key, Line, LinearBar,
-    Meter, Object, OutputNumber, OutputString, Store,
+    Meter, Object, OutputNumber, OutputString, Store, push_number,
 };
 use vt_shown::number_shown;
 
 /// Writes the line of an element.
 pub(crate) fn write_line<S: Store>(
-    text: &mut String,
+    text: &mut Vec<u8>,
     store: &S,
     element: Element,
     object: &Object<Vec<u8>>,
 ) -> Result<(), AllocError>
-    ensures { OnOk result (string_bytes text.new ≡ string_bytes text.old ++ line_of (S.contents store.now) element (Some (seen object.now))) }
+    ensures { OnOk result (text.new.items ≡ text.old.items ++ line_of (S.contents store.now) element (Some (seen object.now))) }
 {
     describe(text, store, element, object)?;
     if is_disabled(object) {
-        text.push_str(" off")?;
+        text.extend_from_slice(b" off")?;
     }
-    text.push_str("\n")
+    text.extend_from_slice(b"\n")
 }
 
 fn is_disabled(object: &Object<Vec<u8>>) -> bool
@@ -50,16 +50,16 @@ fn is_disabled(object: &Object<Vec<u8>>) -> bool
 
 /// Writes the line of an element, without `off` and the newline.
 fn describe<S: Store>(
-    text: &mut String,
+    text: &mut Vec<u8>,
     store: &S,
     element: Element,
     object: &Object<Vec<u8>>,
 ) -> Result<(), AllocError>
-    ensures { OnOk result (string_bytes text.new ≡ string_bytes text.old ++ described (S.contents store.now) element (Some (seen object.now))) }
+    ensures { OnOk result (text.new.items ≡ text.old.items ++ described (S.contents store.now) element (Some (seen object.now))) }
 {
     match object {
-        Object::WorkingSet(_) => write_standing(text, "workset", element),
-        Object::Container(o) => describe_box(text, "container", element, o.width, o.height),
+        Object::WorkingSet(_) => write_standing(text, b"workset", element),
+        Object::Container(o) => describe_box(text, b"container", element, o.width, o.height),
         Object::Key(o) => describe_key(text, element, o),
         Object::Button(o) => describe_button(text, element, o),
         Object::InputBoolean(o) => describe_boolean(text, store, element, o),
@@ -69,9 +69,9 @@ fn describe<S: Store>(
         Object::OutputString(o) => describe_text(text, store, element, o),
         Object::OutputNumber(o) => describe_output_number(text, store, element, o),
         Object::Line(o) => describe_direction(text, element, o),
-        Object::Rectangle(o) => describe_box(text, "rectangle", element, o.width, o.height),
-        Object::Ellipse(o) => describe_box(text, "ellipse", element, o.width, o.height),
-        Object::Polygon(o) => describe_box(text, "polygon", element, o.width, o.height),
+        Object::Rectangle(o) => describe_box(text, b"rectangle", element, o.width, o.height),
+        Object::Ellipse(o) => describe_box(text, b"ellipse", element, o.width, o.height),
+        Object::Polygon(o) => describe_box(text, b"polygon", element, o.width, o.height),
         Object::Meter(o) => describe_meter(text, store, element, o),
         Object::LinearBar(o) => describe_linear_bar(text, store, element, o),
         Object::ArchedBar(o) => describe_arched_bar(text, store, element, o),
@@ -82,156 +82,155 @@ fn describe<S: Store>(
 
 /// Writes the line of an element with a size: name, ID, position and size.
 fn describe_box(
-    text: &mut String,
-    name: &str,
+    text: &mut Vec<u8>,
+    name: &[u8],
     element: Element,
     width: u16,
     height: u16,
 ) -> Result<(), AllocError>
-    ensures { OnOk result (string_bytes text.new ≡ string_bytes text.old ++ (standing name.now element ++ size_text width height)) }
+    ensures { OnOk result (text.new.items ≡ text.old.items ++ (standing name.now element ++ size_text width height)) }
 {
     write_standing(text, name, element)?;
     write_size(text, width, height)
 }
 
 /// Writes the line of a key. A key's position is the index in its soft key mask.
-fn describe_key(text: &mut String, element: Element, o: &Key) -> Result<(), AllocError>
-    ensures { OnOk result (string_bytes text.new ≡ string_bytes text.old ++ (codes "key " ++ (decimal element.id ++ (number_text element.place ++ coded o.now.key_code)))) }
+fn describe_key(text: &mut Vec<u8>, element: Element, o: &Key) -> Result<(), AllocError>
+    ensures { OnOk result (text.new.items ≡ text.old.items ++ (codes "key " ++ (decimal element.id ++ (number_text element.place ++ coded o.now.key_code)))) }
 {
-    let id = element.id.raw();
-    let place = element.place;
-    write!(text, "key {id} {place}")?;
+    push_number(text, b"key ", element.id.raw())?;
+    push_number(text, b" ", element.place)?;
     write_code(text, o.key_code)
 }
 
 /// Writes the line of a button, with its key code.
-fn describe_button(text: &mut String, element: Element, o: &Button) -> Result<(), AllocError>
-    ensures { OnOk result (string_bytes text.new ≡ string_bytes text.old ++ (standing (codes "button") element ++ (size_text o.now.width o.now.height ++ coded o.now.key_code))) }
+fn describe_button(text: &mut Vec<u8>, element: Element, o: &Button) -> Result<(), AllocError>
+    ensures { OnOk result (text.new.items ≡ text.old.items ++ (standing (codes "button") element ++ (size_text o.now.width o.now.height ++ coded o.now.key_code))) }
 {
-    describe_box(text, "button", element, o.width, o.height)?;
+    describe_box(text, b"button", element, o.width, o.height)?;
     write_code(text, o.key_code)
 }
 
 /// Writes the line of a Line object, with its direction.
-fn describe_direction(text: &mut String, element: Element, o: &Line) -> Result<(), AllocError>
-    ensures { OnOk result (string_bytes text.new ≡ string_bytes text.old ++ (standing (codes "line") element ++ (size_text o.now.width o.now.height ++ number_text o.now.direction))) }
+fn describe_direction(text: &mut Vec<u8>, element: Element, o: &Line) -> Result<(), AllocError>
+    ensures { OnOk result (text.new.items ≡ text.old.items ++ (standing (codes "line") element ++ (size_text o.now.width o.now.height ++ number_text o.now.direction))) }
 {
-    describe_box(text, "line", element, o.width, o.height)?;
+    describe_box(text, b"line", element, o.width, o.height)?;
     write_number(text, u32::from(o.direction))
 }
 
 /// Writes the line of a picture, with its displayed width.
-fn describe_picture(text: &mut String, element: Element, width: u16) -> Result<(), AllocError>
-    ensures { OnOk result (string_bytes text.new ≡ string_bytes text.old ++ (standing (codes "picture") element ++ number_text width)) }
+fn describe_picture(text: &mut Vec<u8>, element: Element, width: u16) -> Result<(), AllocError>
+    ensures { OnOk result (text.new.items ≡ text.old.items ++ (standing (codes "picture") element ++ number_text width)) }
 {
-    write_standing(text, "picture", element)?;
+    write_standing(text, b"picture", element)?;
     write_number(text, u32::from(width))
 }
 
 /// Writes the line of an Input Boolean.
 fn describe_boolean<S: Store>(
-    text: &mut String,
+    text: &mut Vec<u8>,
     store: &S,
     element: Element,
     o: &InputBoolean,
 ) -> Result<(), AllocError>
-    ensures { OnOk result (string_bytes text.new ≡ string_bytes text.old ++ described (S.contents store.now) element (Some (objects.InputBoolean o.now))) }
+    ensures { OnOk result (text.new.items ≡ text.old.items ++ described (S.contents store.now) element (Some (objects.InputBoolean o.now))) }
 {
-    write_standing(text, "boolean", element)?;
+    write_standing(text, b"boolean", element)?;
     let value = number_shown(store, o.variable, u32::from(o.value));
     write_decision(text, value)
 }
 
 /// Writes the line of an Input String.
 fn describe_input<S: Store>(
-    text: &mut String,
+    text: &mut Vec<u8>,
     store: &S,
     element: Element,
     o: &InputString<Vec<u8>>,
 ) -> Result<(), AllocError>
-    ensures { OnOk result (string_bytes text.new ≡ string_bytes text.old ++ described (S.contents store.now) element (Some (seen (objects.InputString o.now)))) }
+    ensures { OnOk result (text.new.items ≡ text.old.items ++ described (S.contents store.now) element (Some (seen (objects.InputString o.now)))) }
 {
-    write_standing(text, "input", element)?;
+    write_standing(text, b"input", element)?;
     write_quoted(text, text_shown(store, o.variable, o.text.as_slice()))
 }
 
 /// Writes the line of an Output String.
 fn describe_text<S: Store>(
-    text: &mut String,
+    text: &mut Vec<u8>,
     store: &S,
     element: Element,
     o: &OutputString<Vec<u8>>,
 ) -> Result<(), AllocError>
-    ensures { OnOk result (string_bytes text.new ≡ string_bytes text.old ++ described (S.contents store.now) element (Some (seen (objects.OutputString o.now)))) }
+    ensures { OnOk result (text.new.items ≡ text.old.items ++ described (S.contents store.now) element (Some (seen (objects.OutputString o.now)))) }
 {
-    write_standing(text, "text", element)?;
+    write_standing(text, b"text", element)?;
     write_quoted(text, text_shown(store, o.variable, o.text.as_slice()))
 }
 
 /// Writes the line of an Input Number.
 fn describe_input_number<S: Store>(
-    text: &mut String,
+    text: &mut Vec<u8>,
     store: &S,
     element: Element,
     o: &InputNumber,
 ) -> Result<(), AllocError>
-    ensures { OnOk result (string_bytes text.new ≡ string_bytes text.old ++ described (S.contents store.now) element (Some (objects.InputNumber o.now))) }
+    ensures { OnOk result (text.new.items ≡ text.old.items ++ described (S.contents store.now) element (Some (objects.InputNumber o.now))) }
 {
-    write_standing(text, "number", element)?;
+    write_standing(text, b"number", element)?;
     let value = number_shown(store, o.variable, o.value);
     write_shown(text, value, o.offset, o.scale, o.decimals)
 }
 
 /// Writes the line of an Output Number.
 fn describe_output_number<S: Store>(
-    text: &mut String,
+    text: &mut Vec<u8>,
     store: &S,
     element: Element,
     o: &OutputNumber,
 ) -> Result<(), AllocError>
-    ensures { OnOk result (string_bytes text.new ≡ string_bytes text.old ++ described (S.contents store.now) element (Some (objects.OutputNumber o.now))) }
+    ensures { OnOk result (text.new.items ≡ text.old.items ++ described (S.contents store.now) element (Some (objects.OutputNumber o.now))) }
 {
-    write_standing(text, "value", element)?;
+    write_standing(text, b"value", element)?;
     let value = number_shown(store, o.variable, o.value);
     write_shown(text, value, o.offset, o.scale, o.decimals)
 }
 
 /// Writes the line of an Input List, with the index of its current item.
 fn describe_list<S: Store>(
-    text: &mut String,
+    text: &mut Vec<u8>,
     store: &S,
     element: Element,
     o: &InputList,
 ) -> Result<(), AllocError>
-    ensures { OnOk result (string_bytes text.new ≡ string_bytes text.old ++ described (S.contents store.now) element (Some (objects.InputList o.now))) }
+    ensures { OnOk result (text.new.items ≡ text.old.items ++ described (S.contents store.now) element (Some (objects.InputList o.now))) }
 {
-    write_standing(text, "list", element)?;
+    write_standing(text, b"list", element)?;
     write_value(text, number_shown(store, o.variable, u32::from(o.value)))
 }
 
 /// Writes the line of a meter, with its value.
 fn describe_meter<S: Store>(
-    text: &mut String,
+    text: &mut Vec<u8>,
     store: &S,
     element: Element,
     o: &Meter,
 ) -> Result<(), AllocError>
-    ensures { OnOk result (string_bytes text.new ≡ string_bytes text.old ++ described (S.contents store.now) element (Some (objects.Meter o.now))) }
+    ensures { OnOk result (text.new.items ≡ text.old.items ++ described (S.contents store.now) element (Some (objects.Meter o.now))) }
 {
-    write_standing(text, "meter", element)?;
+    write_standing(text, b"meter", element)?;
     write_value(text, number_shown(store, o.variable, u32::from(o.value)))
 }
 
 /// Writes the line of a linear bar graph, with its value and its target.
 fn describe_linear_bar<S: Store>(
-    text: &mut String,
+    text: &mut Vec<u8>,
     store: &S,
     element: Element,
     o: &LinearBar,
 ) -> Result<(), AllocError>
-    ensures { OnOk result (string_bytes text.new ≡ string_bytes text.old ++ described (S.contents store.now) element (Some (objects.LinearBar o.now))) }
+    ensures { OnOk result (text.new.items ≡ text.old.items ++ described (S.contents store.now) element (Some (objects.LinearBar o.now))) }
 {
-    describe_box(text, "bar", element, o.width, o.height)?;
+    describe_box(text, b"bar", element, o.width, o.height)?;
     write_value(text, number_shown(store, o.variable, u32::from(o.value)))?;
     let target = number_shown(store, o.target_variable, u32::from(o.target));
     write_value(text, target)
@@ -239,14 +238,14 @@ fn describe_linear_bar<S: Store>(
 
 /// Writes the line of an arched bar graph, with its value and its target.
 fn describe_arched_bar<S: Store>(
-    text: &mut String,
+    text: &mut Vec<u8>,
     store: &S,
     element: Element,
     o: &ArchedBar,
 ) -> Result<(), AllocError>
-    ensures { OnOk result (string_bytes text.new ≡ string_bytes text.old ++ described (S.contents store.now) element (Some (objects.ArchedBar o.now))) }
+    ensures { OnOk result (text.new.items ≡ text.old.items ++ described (S.contents store.now) element (Some (objects.ArchedBar o.now))) }
 {
-    describe_box(text, "arch", element, o.width, o.height)?;
+    describe_box(text, b"arch", element, o.width, o.height)?;
     write_value(text, number_shown(store, o.variable, u32::from(o.value)))?;
     let target = number_shown(store, o.target_variable, u32::from(o.target));
     write_value(text, target)

@@ -1,6 +1,6 @@
 //! A page: the lines of a screen as they are written.
 
-ghost use Rattle.std.specs.Prelude.{◌≡◌, ◌↔◌, ◌++◌, IsTrue, IfOk, OnOk, Some, suc, string_bytes};
+ghost use Rattle.std.specs.Prelude.{◌≡◌, ◌↔◌, ◌++◌, IsTrue, IfOk, OnOk, Some, suc};
 ghost use Rattle.std.specs.FinMap as finite;
 ghost use Rattle.vt_kinds.specs.Records.{seen};
 ghost use Rattle.vt_layout.specs.Lines.{line_of};
@@ -19,25 +19,25 @@ const MOST_LINES: u16 = 2000;
 /// The lines so far, and the number of elements, counted up to one more than fit.
 #[derive(Drop)]
 pub(crate) struct Page {
-    text: String,
+    text: Vec<u8>,
     count: u16,
 }
 
 impl Model for Page {
-    ghost use Rattle.std.specs.Prelude.{◌≤◌, string_bytes};
+    ghost use Rattle.std.specs.Prelude.{◌≤◌};
     ghost use Rattle.vt_layout.specs.PageTexts.{Sheet};
 
     ghost Value = { Sheet };
 
-    ghost view = { λ p. record { text = string_bytes p.text; count = p.count } };
+    ghost view = { λ p. record { text = p.text.items; count = p.count } };
 
     ghost invariant = { λ p. p.count ≤ 2001 };
 }
 
 impl Page {
     /// A page with a heading and no elements.
-    pub(crate) fn new(heading: String) -> Page
-        ensures { result ≡ record { text = string_bytes heading; count = 0 } }
+    pub(crate) fn new(heading: Vec<u8>) -> Page
+        ensures { result ≡ record { text = heading.items; count = 0 } }
     {
         Page {
             text: heading,
@@ -70,12 +70,12 @@ impl Page {
     }
 
     /// The text, with a last line `more` if there are more elements than lines.
-    pub(crate) fn finish(self) -> Result<String, AllocError>
-        ensures { IfOk result (λ text. string_bytes text ≡ finished self) }
+    pub(crate) fn finish(self) -> Result<Vec<u8>, AllocError>
+        ensures { IfOk result (λ text. text.items ≡ finished self) }
     {
         let Page { mut text, count } = self;
         if count > MOST_LINES {
-            text.push_str("more\n")?;
+            text.extend_from_slice(b"more\n")?;
         }
         Ok(text)
     }

@@ -1,6 +1,6 @@
 //! Draws the screen of a working set as text.
 
-ghost use Rattle.std.specs.Prelude.{◌≡◌, ◌++◌, None, OnOk, OnErr, IfOk, map, string_bytes};
+ghost use Rattle.std.specs.Prelude.{◌≡◌, ◌++◌, None, OnOk, OnErr, IfOk, map};
 ghost use Rattle.std.specs.FinMap as finite;
 ghost use Rattle.vt_kinds.specs.Ids.{null_id};
 ghost use Rattle.vt_layout.specs.Lines.{line};
@@ -11,10 +11,10 @@ use crate::drawing::draw_mask;
 use crate::page::Page;
 use std::alloc::{AllocError, Global};
 use vt_machine::Live;
-use vt_objects::{ObjectId, Store};
+use vt_objects::{ObjectId, Store, push_number};
 
 /// The initial capacity of the screen text, in bytes.
-const ROOM: usize = 4096;
+const CAPACITY: usize = 4096;
 
 /// Appends the screen of the working set at an address: a line with its active mask, then one for each element that the
 /// mask and its soft keys show, at most 2,000 of them, and a last line if there are more. Ends after those lines, however
@@ -30,7 +30,7 @@ pub fn draw<S: Store>(
     ensures unchanged { OnErr result (out.new.items ≡ out.old.items) }
 {
     let text = screen(alloc, address, live.store(), live.active_mask())?;
-    out.extend_from_slice(text.as_bytes())
+    out.extend_from_slice(&text)
 }
 
 /// The screen of a mask.
@@ -39,8 +39,8 @@ fn screen<S: Store>(
     address: u8,
     store: &S,
     mask: ObjectId,
-) -> Result<String, AllocError>
-    ensures text { IfOk result (λ text. string_bytes text ≡ heading address mask ++ shortened (map (line (S.contents store.now)) (drawing (S.contents store.now) mask))) }
+) -> Result<Vec<u8>, AllocError>
+    ensures text { IfOk result (λ text. text.items ≡ heading address mask ++ shortened (map (line (S.contents store.now)) (drawing (S.contents store.now) mask))) }
     ensures named { IfOk result (λ text. finite.get (S.contents store.now) null_id ≡ None) }
 {
     let mut page = Page::new(heading(alloc, address, mask)?);
@@ -49,23 +49,24 @@ fn screen<S: Store>(
 }
 
 /// The first line: the address of the working set and its active mask.
-fn heading(alloc: Global, address: u8, mask: ObjectId) -> Result<String, AllocError>
-    ensures { IfOk result (λ text. string_bytes text ≡ heading address mask) }
+fn heading(alloc: Global, address: u8, mask: ObjectId) -> Result<Vec<u8>, AllocError>
+    ensures { IfOk result (λ text. text.items ≡ heading address mask) }
 {
-    let mut text = String::with_capacity(alloc, ROOM)?;
+    let mut text = Vec::with_capacity(alloc, CAPACITY)?;
     let address = hex::encode_upper(alloc, [address])?;
-    write!(text, "screen {address} mask ")?;
+    text.extend_from_slice(b"screen ")?;
+    text.extend_from_slice(address.as_bytes())?;
+    text.extend_from_slice(b" mask ")?;
     write_mask(&mut text, mask)?;
-    text.push('\n')?;
+    text.extend_from_slice(b"\n")?;
     Ok(text)
 }
 
-fn write_mask(text: &mut String, mask: ObjectId) -> Result<(), AllocError>
-    ensures { OnOk result (string_bytes text.new ≡ string_bytes text.old ++ mask_name mask) }
+fn write_mask(text: &mut Vec<u8>, mask: ObjectId) -> Result<(), AllocError>
+    ensures { OnOk result (text.new.items ≡ text.old.items ++ mask_name mask) }
 {
     if mask.is_null() {
-        return text.push_str("none");
+        return text.extend_from_slice(b"none");
     }
-    let id = mask.raw();
-    write!(text, "{id}")
+    push_number(text, b"", mask.raw())
 }

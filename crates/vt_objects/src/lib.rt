@@ -11,7 +11,7 @@
 //! - `laws` has the theorems.
 //!
 //! The objects are in vt_kinds, the commands in vt_commands and the stores in vt_stores; this crate exports all three
-//! and adds the shown numbers.
+//! and adds the shown numbers, and `push_number`, which appends a number to a text.
 //!
 //! docs/PROFILE.md has the tables: "Records" for the kinds and their fields, "References and inclusions" for the
 //! references, "Attributes" for Change Attribute, "Commands" for the bytes of the commands.
@@ -19,8 +19,10 @@
 
 mod decimal;
 pub mod laws;
+mod text;
 
 pub use decimal::Decimal;
+pub use text::push_number;
 pub use vt_commands::{
     Command, Event, Raised, Target, attribute, row_events, split_command, targets,
 };

@@ -1,4 +1,4 @@
-use Rattle.std.proofs.Common.{◌≡◌, ◌++◌, ◌∙◌, None, map, subst, ap, string_bytes}
+use Rattle.std.proofs.Common.{◌≡◌, ◌++◌, ◌∙◌, None, map, subst, ap}
 use Rattle.std.specs.FinMap as finite
 use Rattle.vt_kinds.specs.Ids.{null_id}
 use Rattle.vt_stores.specs.Stores.{ObjectMap}
@@ -13,7 +13,7 @@ returns-clause-drawn g c =
     let same = c.store.ensures.objects in
     let mask = c.active_mask.result in
     when_ok c.extend_from_slice.result _ _ _ c.extend_from_slice.ensures.items
-    (λ gained. gains c.args.address c.args.live.now.objects mask c.args.out.now.items c.extend_from_slice.new.self.items (string_bytes c.in_ok-text.text) c.store.ensures.sound
+    (λ gained. gains c.args.address c.args.live.now.objects mask c.args.out.now.items c.extend_from_slice.new.self.items c.in_ok-text.text.items c.store.ensures.sound
     (subst (λ (store : ObjectMap). finite.get store null_id ≡ None) same c.in_ok-text.ensures.named) c.active_mask.ensures.mask
     (c.in_ok-text.ensures.text ∙ ap (λ (store : ObjectMap). heading c.args.address mask ++ shortened (map (line store) (drawing store mask))) same)
-    (gained ∙ ap (λ text. c.args.out.now.items ++ text) c.as_bytes.ensures.value))
+    (gained ∙ ap (λ text. c.args.out.now.items ++ text) c.deref.ensures.value))
