@@ -8,10 +8,9 @@ use Rattle.vt_commands.specs.declared.event.Event as objects
 use Rattle.vt_commands.specs.Events.{raise}
 use Rattle.vt_stores.specs.Stores.{ObjectMap}
 use Rattle.vt_effects.specs.Effects.{effect}
-use Rattle.vt_macros.specs.Machines.{events_of, run_of}
+use Rattle.vt_macros.specs.Machines.{events_of, run_of, store_of}
 use Rattle.vt_machine.specs.SetStates.{SetState, working_set_in}
 use Rattle.vt_machine.specs.OperatorActions.{Acts}
-use Rattle.vt_server.specs.message.CommandEffects.{store_of}
 use Rattle.vt_server.specs.operator.ActionEffects.{action_on}
 use Rattle.vt_server.specs.Steps.{JudgedInput, step}
 use Rattle.vt_server.specs.Terminals.{State, pool_of}

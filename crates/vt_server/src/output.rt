@@ -19,8 +19,8 @@ pub enum OperatorFault {
     /// A message to the working set is still being sent: 8.
     #[error("a message to the working set is still being sent")]
     Busy,
-    /// No working set is shown, or there is none with a pool at the address: 9.
-    #[error("no working set is shown, or there is none with a pool at the address")]
+    /// No working set with a pool is shown, or is at the address of `! set`: 9.
+    #[error("no working set with a pool is shown, or is at the address of ! set")]
     NoSet,
 }
 

@@ -1,12 +1,14 @@
 //! The pool and the upload of each address.
 
-ghost use Rattle.std.specs.Prelude.{◌≡◌, ◌≤◌, ◌+◌, ◌++◌, ◌∷◌, ◌≢◌, ℕ, [], None, Some, false, length, drop, IfOk, IfNone, IsSome, OnOk, OnErr};
+ghost use Rattle.std.specs.Prelude.{◌≡◌, ◌≤◌, ◌+◌, ◌++◌, ◌∷◌, ◌≢◌, ℕ, [], None, Some, true, false, length, drop, IfOk, IfSome, IfNone, IsSome, OnOk, OnErr};
 ghost use Rattle.std.specs.Option.{option_map};
 ghost use Rattle.vt_stores.specs.Stores.{map_of};
 ghost use Rattle.vt_server.specs.message.CommandEffects.{content_after, error_after};
 ghost use Rattle.vt_can.specs.lines.Actions.{action_value};
-ghost use Rattle.vt_server.specs.operator.ActionContracts.{IsActedOn, WouldBeRefused};
-ghost use Rattle.vt_server.specs.message.Judgements.{IsJudgement, IsEnded};
+ghost use Rattle.vt_server.specs.operator.ActionContracts.{ActionKeepsLook, IsActedOn, WouldBeRefused};
+ghost use Rattle.vt_machine.specs.Replacements.{AreReplacements};
+ghost use Rattle.vt_server.specs.message.Judgements.{IsJudgement, IsEnded, with_replaced};
+ghost use Rattle.vt_server.specs.shown.Screens.{HasSameLook};
 ghost use Rattle.vt_server.specs.state.AddressViews.{raised_on};
 ghost use Rattle.vt_server.specs.state.AddressStates.{no_content, with_piece};
 ghost use Rattle.vt_node.specs.AddressFunctions.{with_at};
@@ -15,11 +17,11 @@ ghost use Rattle.vt_server.specs.state.PoolTables.{content_of, spare_of};
 use crate::OutOfMemory;
 use crate::message::end_of_pool::{ACCEPTED, Judgement, judge};
 use crate::message::replies::{deletes, error_byte};
-use crate::operator::actions::{act, text_fault};
+use crate::operator::actions::{act, keeps_look, text_fault};
 use std::alloc::Global;
 use std::marker::Model;
 use vt_can::Action;
-use vt_machine::{Acted, Live, OperatorRefusal};
+use vt_machine::{Acted, Live, OperatorRefusal, Replacement};
 use vt_objects::{Command, SortedStore};
 use vt_pool::Reading;
 
@@ -77,6 +79,19 @@ impl PoolTable {
         self.transfers[usize::from(address)] = None;
     }
 
+    /// Replaces objects in the pool of an address and ends its upload.
+    fn replace(&mut self, address: u8, replacement: Replacement)
+        requires { IfSome (content_of self.old address).pool (λ state. AreReplacements state.objects replacement) }
+        ensures { content_of self.new
+            ≡ with_at address (record { pool = option_map (λ state. with_replaced state replacement) (content_of self.old address).pool; transfer = [] }) (content_of self.old) }
+    {
+        self.transfers[usize::from(address)] = None;
+        match &mut self.pools[usize::from(address)] {
+            Some(live) => live.replace(replacement),
+            None => {}
+        }
+    }
+
     /// Removes the pool and the upload of an address.
     pub(crate) fn remove(&mut self, address: u8)
         ensures content { content_of self.new ≡ with_at address no_content (content_of self.old) }
@@ -99,6 +114,31 @@ impl PoolTable {
         }
         let pool = self.pools[usize::from(address)].as_mut()?;
         Some(error_byte(pool.apply(command)))
+    }
+
+    /// Whether a command leaves what the text of a screen shows of the set at an address. If true, the screen is the same after
+    /// `apply`.
+    pub(crate) fn keeps_look(&self, address: u8, command: &Command<'_>) -> bool
+        ensures { result ≡ true → HasSameLook (content_of self.now address).pool (content_after command.now (content_of self.now address)).pool }
+    {
+        if deletes(command) {
+            return false;
+        }
+        match &self.pools[usize::from(address)] {
+            Some(live) => live.keeps_look(command),
+            None => false,
+        }
+    }
+
+    /// Whether an action leaves what the text of a screen shows of the set at an address. If true, the screen is the same after
+    /// `act`.
+    pub(crate) fn action_keeps_look(&self, address: u8, action: &Action<'_>) -> bool
+        ensures { result ≡ true → ActionKeepsLook (content_of self.now address).pool (action_value action.now) }
+    {
+        match &self.pools[usize::from(address)] {
+            Some(live) => keeps_look(live, action),
+            None => false,
+        }
     }
 
     /// Reserves capacity for `count` more bytes in the upload of an address.
@@ -158,6 +198,10 @@ impl PoolTable {
             Judgement::Accepted(boxed) => {
                 let pool = Box::into_inner(boxed);
                 self.put(address, pool);
+                ACCEPTED
+            }
+            Judgement::Replaced(replacement) => {
+                self.replace(address, replacement);
                 ACCEPTED
             }
             Judgement::Refused(reply) => {

@@ -11,16 +11,11 @@ use Rattle.vt_machine.specs.declared.live.Outcome.TheVariants.{Done, Refused}
 use Rattle.vt_effects.specs.Effects.{effect}
 use Rattle.vt_machine.specs.SetStates.{SetState, with_objects}
 use Rattle.vt_server.specs.state.AddressStates.{SetPool, no_content}
-use Rattle.vt_macros.specs.Machines.{End, Ended, Sticks, run_of, events_of}
+use Rattle.vt_macros.specs.Machines.{store_of, run_of, events_of}
 
 -- a pool without a held key and without a selected input
 abbrev pub fresh_set : ObjectMap → SetState
 fresh_set objects = record { objects = objects; key = None; input = None }
-
--- the objects after a run; runs on the objects of an accepted pool never stick
-abbrev pub store_of : End → ObjectMap
-store_of (Ended store left) = store
-store_of (Sticks why store) = store
 
 -- The objects after a command: if it is done, after the macros of its events; if it is refused, unchanged.
 abbrev pub after_done : ObjectMap → List Raised → Result ObjectMap ℕ → ObjectMap

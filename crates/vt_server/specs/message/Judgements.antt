@@ -1,14 +1,29 @@
 -- The code's judgement of an upload carries out a right verdict (docs/PROFILE.md, "End of Object Pool (12)").
-use Rattle.std.specs.Prelude.{◌≡◌, ℕ, List}
+use Rattle.std.specs.Prelude.{◌≡◌, ℕ, List, Option, Some, None}
+use Rattle.vt_stores.specs.Stores.{Objects, ObjectMap, map_of}
+use Rattle.vt_verify.specs.Updates.{updated}
+use Rattle.vt_machine.specs.Replacements.{AreReplacements}
+use Rattle.vt_machine.specs.SetStates.{SetState, renewed}
 use Rattle.vt_server.specs.state.AddressStates.{SetPool}
 use Rattle.vt_server.specs.message.Verdicts.{Verdict, Accepts, Faulty, Refuses, IsVerdict, after_verdict, with_objects_of, end_reply}
 use Rattle.vt_node.specs.AddressFunctions.{with_at}
 use Rattle.vt_server.specs.declared.message.end_of_pool.Judgement.{Judgement}
 use Rattle.vt_server.specs.declared.message.end_of_pool.Judgement.TheVariants as judgements
 
--- A judgement carries out a verdict: it has the new pool of the set, or the reply that refuses the upload.
+-- The objects replace others of a set's pool with the same macros and references, and these are its objects then.
+abbrev pub IsReplaced : Option SetState → Objects → ObjectMap → Type 0
+IsReplaced None replacement objects = ⊥
+IsReplaced (Some state) replacement objects = AreReplacements state.objects replacement × (objects ≡ map_of (updated state.objects replacement))
+
+-- a set's pool with these objects in place of others
+abbrev pub with_replaced : SetState → Objects → SetState
+with_replaced state replacement = renewed state (map_of (updated state.objects replacement))
+
+-- A judgement carries out a verdict: it has the new pool of the set, the objects that change in it, or the reply that
+-- refuses the upload.
 abbrev pub CarriesOut : SetPool → Verdict → Judgement → Type 0
 CarriesOut content (Accepts objects) (judgements.Accepted pool) = pool.value ≡ with_objects_of content.pool objects
+CarriesOut content (Accepts objects) (judgements.Replaced replacement) = IsReplaced content.pool replacement objects
 CarriesOut content (Faulty fault) (judgements.Refused reply) = reply ≡ end_reply (Faulty fault)
 CarriesOut content (Refuses refusal) (judgements.Refused reply) = reply ≡ end_reply (Refuses refusal)
 CarriesOut content verdict judgement = ⊥

@@ -10,11 +10,10 @@ use Rattle.vt_machine.specs.declared.operator.OperatorRefusal.{OperatorRefusal}
 use Rattle.vt_machine.specs.OperatorEntries.{enter_number, enter_text}
 use Rattle.vt_machine.specs.SetStates.{SetState, with_objects}
 use Rattle.vt_machine.specs.SetStates.{active_in}
-use Rattle.vt_macros.specs.Machines.{run_of}
+use Rattle.vt_macros.specs.Machines.{run_of, store_of}
 use Rattle.vt_machine.specs.OperatorActions as operating
 use Rattle.vt_machine.specs.OperatorActions.{press, release, select}
 use Rattle.vt_commands.specs.declared.raising.Raised.{Raised}
-use Rattle.vt_server.specs.message.CommandEffects.{store_of}
 use Rattle.vt_node.specs.Messages.{message_to}
 use Rattle.vt_server.specs.declared.output.OperatorFault.{OperatorFault}
 use Rattle.vt_server.specs.declared.output.OperatorFault.TheVariants as faults

@@ -1,5 +1,9 @@
 -- The screen of the terminal (docs/PROFILE.md, "Form of the text").
 use Rattle.std.specs.Prelude.{◌≡◌, ℕ, Bool, true, false, List, ◌++◌, Option, Some, None, is_some, codes}
+use Rattle.std.specs.Option.{option_map}
+use Rattle.std.specs.FinMap as finite
+use Rattle.vt_kinds.specs.Records.{Seen}
+use Rattle.vt_effects.specs.Looks.{look}
 use Rattle.vt_machine.specs.SetStates.{SetState}
 use Rattle.vt_layout.specs.Screens.{IsScreen}
 use Rattle.vt_server.specs.States.{state_of}
@@ -37,16 +41,25 @@ redraws t = t.redraws
 abbrev pub KeepsScreen : State → State → Type 0
 KeepsScreen old new = (text : List ℕ) → IsScreenOf old text → IsScreenOf new text
 
--- The same set is shown with the same pool.
+-- the look of the object of an ID in a pool
+abbrev pub look_in : Option SetState → ℕ → Option (Option Seen)
+look_in None id = None
+look_in (Some state) id = Some (option_map look (finite.get state.objects id))
+
+-- Two pools look the same, or both are missing.
+abbrev pub HasSameLook : Option SetState → Option SetState → Type 0
+HasSameLook old new = (id : ℕ) → look_in new id ≡ look_in old id
+
+-- The same set is shown, and its pool looks the same.
 pub record ShowsSame (old new : State) : Type 0 where
   pub shown : new.shown ≡ old.shown
-  pub pool : pool_at new new.shown ≡ pool_at old old.shown
+  pub pool : HasSameLook (pool_at old old.shown) (pool_at new new.shown)
 
--- The same set is shown with the same pool, unless its pool was removed.
+-- The same set is shown, and its pool looks the same, unless it was removed.
 pub record ShowsWhatIsLeft (old new : State) : Type 0 where
   pub shown : new.shown ≡ old.shown
-  pub pool : is_some (pool_at new new.shown) ≡ true → pool_at new new.shown ≡ pool_at old old.shown
+  pub pool : is_some (pool_at new new.shown) ≡ true → HasSameLook (pool_at old old.shown) (pool_at new new.shown)
 
--- If a call leaves `redraws` false, it was false before the call, and the same is shown.
+-- If a call leaves `redraws` false, it was false before the call, and the screen shows the same.
 abbrev pub TellsChanges : Terminal → Terminal → Type 0
 TellsChanges old new = redraws new ≡ false → (redraws old ≡ false) × ShowsSame (state_of old) (state_of new)

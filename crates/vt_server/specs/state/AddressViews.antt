@@ -11,10 +11,10 @@ use Rattle.vt_verify.specs.Triggers.{listing}
 use Rattle.vt_verify.specs.Budgets.{budget}
 use Rattle.vt_machine.specs.SetStates.{SetState, with_objects}
 use Rattle.vt_machine.specs.SetStates.{working_set_in}
-use Rattle.vt_macros.specs.Machines.{event_commands, run}
+use Rattle.vt_macros.specs.Machines.{event_commands, run, store_of}
 use Rattle.vt_effects.specs.Soundness.{shape_in}
 use Rattle.vt_machine.specs.OperatorActions as operating
-use Rattle.vt_server.specs.message.CommandEffects.{fresh_set, store_of}
+use Rattle.vt_server.specs.message.CommandEffects.{fresh_set}
 use Rattle.vt_server.specs.message.MessageEffects.{Handled, handled}
 use Rattle.vt_node.specs.Messages.{message_to}
 use Rattle.vt_server.specs.operator.ActionEffects.{action_on, fault_of, is_busy, message_frames, sending_after, ran}

@@ -12,7 +12,7 @@ use crate::OutOfMemory;
 use byteorder::{ByteOrder, LittleEndian};
 use std::alloc::{AllocError, Global};
 use vt_can::assigned::END_OF_POOL;
-use vt_machine::Live;
+use vt_machine::{Live, Replacement};
 use vt_objects::{ObjectId, SortedStore};
 use vt_pool::{Pool, PoolFault, Reading};
 use vt_verify::{Refusal, verify, verify_update};
@@ -22,6 +22,8 @@ use vt_verify::{Refusal, verify, verify_update};
 pub(crate) enum Judgement {
     /// The new pool of the set.
     Accepted(Box<Live<SortedStore>>),
+    /// The objects that replace some of the set's pool.
+    Replaced(Replacement),
     /// The reply that refuses the upload.
     Refused([u8; 8]),
 }
@@ -75,6 +77,9 @@ fn judge_update(
 ) -> Result<Judgement, OutOfMemory>
     ensures { (bytes : List ℕ) → IsPool bytes read.now → IfOk result (IsJudgement (record { pool = Some live.now; transfer = bytes })) }
 {
+    if let Some(replacement) = live.replacement(read)? {
+        return Ok(Judgement::Replaced(replacement));
+    }
     match verify_update(alloc, live.store(), read) {
         Ok(accepted) => {
             let live = live.renew_from(accepted)?;

@@ -1,6 +1,6 @@
 //! Messages from the master of a set, and its uploads (docs/PROFILE.md, "Whole messages", "Object Pool Transfer (11)").
 
-ghost use Rattle.std.specs.Prelude.{◌≡◌, ℕ, List, true, is_some, IfOk, OnOk, length, slice_index, Some};
+ghost use Rattle.std.specs.Prelude.{◌≡◌, ℕ, List, true, is_some, IfOk, OnOk, length, slice_index, Some, not, ◌&&◌, ◌==◌};
 ghost use Rattle.vt_can.specs.transport.Messages.{size_and_first_byte, Message};
 ghost use Rattle.vt_names.specs.Registry.{set_at};
 ghost use Rattle.vt_server.specs.frame.FrameContracts.{FitsMessage, FitsOneFrame, IsEnd, HandlesMessage, IsReplyTo, CapacityStays};
@@ -126,8 +126,16 @@ impl Terminal {
             return Some(reply);
         }
         let command = Command::read(bytes)?;
+        let is_kept = self.contents.keeps_look(source, &command);
         let error = self.contents.apply(source, &command)?;
-        self.redraws |= error == 0 && self.shown == Some(source);
+        self.redraws |= is_redrawn(is_kept, error, self.shown == Some(source));
         Some(reply_to(&command, error))
     }
+}
+
+/// Whether a command may change the screen: it is done on the shown set, and may change the set's look.
+fn is_redrawn(is_kept: bool, error: u8, is_shown: bool) -> bool
+    ensures { result ≡ (not is_kept && (error == 0) && is_shown) }
+{
+    !is_kept && error == 0 && is_shown
 }

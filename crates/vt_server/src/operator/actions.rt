@@ -1,13 +1,13 @@
 //! The operator's actions on the shown working set (docs/PROFILE.md, "The operator").
 
-ghost use Rattle.std.specs.Prelude.{◌≡◌, ◌≤◌, Some, length, IfNone};
+ghost use Rattle.std.specs.Prelude.{◌≡◌, ◌≤◌, Some, true, length, IfNone};
 ghost use Rattle.vt_can.specs.lines.Actions.{action_value};
 ghost use Rattle.vt_server.specs.operator.ActionEffects as operators;
-ghost use Rattle.vt_server.specs.operator.ActionContracts.{Performs, WouldBeRefused};
+ghost use Rattle.vt_server.specs.operator.ActionContracts.{ActionKeepsLook, Performs, WouldBeRefused};
 
 use vt_can::Action;
 use vt_machine::{Acted, Live, OperatorRefusal};
-use vt_objects::{Object, ObjectId, SortedStore};
+use vt_objects::{Event, Object, ObjectId, SortedStore};
 
 /// Does an action on a working set. Does nothing for `Action::Set`, which is the terminal's own action.
 pub(crate) fn act(
@@ -23,6 +23,18 @@ pub(crate) fn act(
         Action::Number(id, number) => Some(live.enter_number(ObjectId::from_raw(*id), *number)),
         Action::Text(id, text) => Some(live.enter_text(ObjectId::from_raw(*id), text)),
         Action::Set(_) => None,
+    }
+}
+
+/// Whether an action leaves what the text of a screen shows of a working set. True only for a key whose event triggers quiet
+/// macros alone.
+pub(crate) fn keeps_look(live: &Live<SortedStore>, action: &Action<'_>) -> bool
+    ensures { result ≡ true → ActionKeepsLook (Some live.now) (action_value action.now) }
+{
+    match action {
+        Action::Press(id) => live.keeps_look_at(ObjectId::from_raw(*id), Event::KeyPress),
+        Action::Release(id) => live.keeps_look_at(ObjectId::from_raw(*id), Event::KeyRelease),
+        _ => false,
     }
 }
 

@@ -86,11 +86,12 @@ impl Terminal {
         let Some(address) = self.shown_address() else {
             return Some(Output::Refused(OperatorFault::NoSet));
         };
+        let is_kept = self.contents.action_keeps_look(address, action);
         match self.contents.act(address, action) {
             None => None,
             Some(Err(refusal)) => Some(Output::Refused(OperatorFault::from(refusal))),
             Some(Ok(acted)) => {
-                self.redraws = true;
+                self.redraws |= !is_kept;
                 if acted.message.is_empty() {
                     return None;
                 }

@@ -10,7 +10,7 @@ const DRAWN: &[u8] = b"\x00\x00\x00\x00\x01\xE8\x03\x00\x00\x00\
     \x2D\x01\x08\x0A\x00\x05\x00\x00\xFF\xFF\xFF\xFF\x00\xFF\xFF\x00\x08        \x01\x00";
 
 // The set at 80 is shown. Another set, with Working Set 0 and Data Mask 2000, uploads a pool at 81, and is shown then.
-const WHILE_SHOWN: [Step; 31] = [
+const WHILE_SHOWN: [Step; 36] = [
     Step::Redraws("18FFFF55#00", false),
     Step::Redraws("18EA2655#00EE00", false),
     // A set at 81 registers and uploads its pool.
@@ -29,6 +29,11 @@ const WHILE_SHOWN: [Step; 31] = [
     Step::Redraws("14E72680#A0640000FFFFFFFF", true),
     Step::Redraws("18FFFF80#00", false),
     Step::Redraws("14E72680#A0640001FFFFFFFF", true),
+    // A container that is shown already, a colour, and the size of an input are in no text; the size of a container is.
+    Step::Redraws("14E72680#A0640001FFFFFFFF", false),
+    Step::Redraws("14E72680#A7E80307FFFFFFFF", false),
+    Step::Redraws("14E72680#A62D0133001400FF", false),
+    Step::Redraws("14E72680#A6640033001400FF", true),
     // A command in packets, complete with the last one.
     Step::Redraws("1CEC2680#10090002FF00E700", false),
     Step::Redraws("1CEB2680#01B4E8036400FFFF", false),
@@ -42,9 +47,10 @@ const WHILE_SHOWN: [Step; 31] = [
     Step::Redraws("! set 55", false),
     Step::Redraws("! set 80", false),
     Step::Redraws("! set 81", true),
-    // The same commands, while the other set is shown.
+    // Commands while the other set is shown: to the first set, and a colour and a soft key mask of the other.
     Step::Redraws("14E72680#A0640000FFFFFFFF", false),
-    Step::Redraws("14E72681#A7D00701FFFFFFFF", true),
+    Step::Redraws("14E72681#A7D00701FFFFFFFF", false),
+    Step::Redraws("14E72681#AE01D007FFFFFFFF", true),
     // A refused update, and an empty update.
     Step::Redraws("14E72681#11010022", false),
     Step::Redraws("14E72681#12", false),

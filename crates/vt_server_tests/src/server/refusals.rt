@@ -152,7 +152,7 @@ const FAULTS: [(OperatorFault, &str); 9] = [
     ),
     (
         OperatorFault::Refused(OperatorRefusal::Range),
-        "the number is not accepted",
+        "the number is outside the range of the object",
     ),
     (
         OperatorFault::Refused(OperatorRefusal::TooLong),
@@ -160,7 +160,7 @@ const FAULTS: [(OperatorFault, &str); 9] = [
     ),
     (
         OperatorFault::Refused(OperatorRefusal::WrongKind),
-        "the object is of another kind",
+        "the object is of a kind that the action does not take",
     ),
     (
         OperatorFault::Refused(OperatorRefusal::NotPressed),
@@ -168,7 +168,7 @@ const FAULTS: [(OperatorFault, &str); 9] = [
     ),
     (
         OperatorFault::Refused(OperatorRefusal::Held),
-        "a key is held already",
+        "a key is held already, and has to be released first",
     ),
     (
         OperatorFault::Busy,
@@ -176,7 +176,7 @@ const FAULTS: [(OperatorFault, &str); 9] = [
     ),
     (
         OperatorFault::NoSet,
-        "no working set is shown, or there is none with a pool at the address",
+        "no working set with a pool is shown, or is at the address of ! set",
     ),
 ];
 

@@ -31,6 +31,16 @@ const REPLACED: [Step; 5] = [
     Step::Line("14E72680#A0640001FFFFFFFF", &["14E68026#A064000100FFFFFF"]),
 ];
 
+// A record with another reference replaces the object of its ID too: the mask shows the container no more, and then again.
+const WITH_ANOTHER_REFERENCE: [Step; 6] = [
+    Step::Pieces("80", "E8030100FFFF0000"),
+    Step::Line(ENDS, &[ACCEPTED]),
+    WITHOUT_CONTAINER,
+    Step::Pieces("80", "E8030100FFFF010064000A000500"),
+    Step::Line(ENDS, &[ACCEPTED]),
+    WITH_CONTAINER,
+];
+
 // After a refused update the pool is unchanged and the upload is empty. An empty update is accepted and changes nothing.
 const REFUSED: [Step; 14] = [
     Step::Line("14E72680#A0640000FFFFFFFF", &["14E68026#A064000000FFFFFF"]),
@@ -85,7 +95,7 @@ const OF_AN_UPLOAD: [Step; 8] = [
     WITHOUT_CONTAINER,
 ];
 
-const SCRIPTS: [Script; 6] = [
+const SCRIPTS: [Script; 7] = [
     Script {
         pool: Some(POOL),
         parts: &[&JOINED],
@@ -93,6 +103,10 @@ const SCRIPTS: [Script; 6] = [
     Script {
         pool: Some(POOL),
         parts: &[&REPLACED],
+    },
+    Script {
+        pool: Some(POOL),
+        parts: &[&WITH_ANOTHER_REFERENCE],
     },
     Script {
         pool: Some(POOL),

@@ -2,7 +2,7 @@
 
 use super::*;
 
-const LINES: [&[u8]; 26] = [
+const LINES: [&[u8]; 28] = [
     // A set of two members registers.
     b"(1.000000) can0 18EEFF80#0100000000800020",
     b"(1.000000) can0 18FE0D80#02FFFFFFFFFFFFFF",
@@ -30,14 +30,16 @@ const LINES: [&[u8]; 26] = [
     b"! text 301 ABCDEFGH",
     b"! text 301 ABCDEFGH",
     b"! select 301",
-    // The set updates its pool.
+    // The set updates its pool: by an object in place of another, and by one more.
     b"(1.000000) can0 14E72680#1164000332001400",
     b"(1.000000) can0 14E72680#11000000",
+    b"(1.000000) can0 14E72680#12FFFFFFFFFFFFFF",
+    b"(1.000000) can0 14E72680#11C8001507000000",
     b"(1.000000) can0 14E72680#12FFFFFFFFFFFFFF",
 ];
 
 // The outputs for all lines.
-const SENT: [&str; 10] = [
+const SENT: [&str; 11] = [
     "14E68026#1200FFFFFFFF00FF",
     "14E6FF26#FE80E803FFFF00FF",
     "14E68026#A064000000FFFFFF",
@@ -47,6 +49,7 @@ const SENT: [&str; 10] = [
     "1CC88226#150201000000E700",
     "1CEC8026#100C0002FF00E600",
     "8",
+    "14E68026#1200FFFFFFFF00FF",
     "14E68026#1200FFFFFFFF00FF",
 ];
 

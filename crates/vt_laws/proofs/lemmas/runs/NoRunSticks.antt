@@ -26,14 +26,14 @@ use Rattle.vt_effects.specs.Changes.{left}
 use Rattle.vt_effects.specs.Effects.{effect, after}
 use Rattle.vt_machine.specs.OperatorEntries.{EntriesKeepOrder, EntriesKeepShapes, number_entered, number_place, put_at, with_number, with_text, text_entered, text_place}
 use Rattle.vt_machine.specs.SetStates.{SetState, active_in, with_objects, working_set_in}
-use Rattle.vt_macros.specs.Machines.{End, total_budget, events_of, event_commands, run, run_of}
+use Rattle.vt_macros.specs.Machines.{End, total_budget, events_of, event_commands, run, run_of, store_of}
 use Rattle.vt_effects.specs.Soundness.{shape_in}
 use Rattle.vt_machine.specs.OperatorActions as operating
 use Rattle.vt_macros.specs.Runs.{Ends, EventsEndInTurn, IsReady, NullIsNoObject, RunsEnd, PoolsAreReady}
 use Rattle.vt_effects.specs.Soundness.{CommandsKeepOrder, CommandsKeepShapes, IsSound}
 use Rattle.vt_layout.specs.Drawings.{DrawingsNeverStick, PathsAreChained}
 use Rattle.vt_layout.specs.LookUps.{DrawingsFindAll}
-use Rattle.vt_server.specs.message.CommandEffects.{store_of, after_done, content_after, deletes, state_after}
+use Rattle.vt_server.specs.message.CommandEffects.{after_done, content_after, deletes, state_after}
 use Rattle.vt_server.specs.Findings.{IsJudged, ends_transfer}
 use Rattle.vt_server.specs.message.MessageEffects.{handled, ends_pool, transferred, end_handled, asked, commanded, TRANSFER, END_OF_POOL}
 use Rattle.vt_laws.specs.Headline.{IsPoolInForce, EndsInTime, accepted_at, accepted_by, accepted_with}

@@ -22,8 +22,8 @@ use Rattle.vt_machine.specs.OperatorEntries.{enter_number, number_message, enter
 use Rattle.vt_machine.specs.SetStates.{SetState, active_in}
 use Rattle.vt_machine.specs.OperatorActions as operating
 use Rattle.vt_machine.specs.OperatorActions.{ActionResult, Refused, Acts, HasActed, key_message, press_with, release_of, or_none, select_if, is_enabled}
+use Rattle.vt_macros.specs.Machines.{store_of}
 use Rattle.vt_server.specs.operator.ActionContracts.{Comes, IsShort}
-use Rattle.vt_server.specs.message.CommandEffects.{store_of}
 use Rattle.vt_node.specs.Messages.{message_to}
 use Rattle.vt_server.specs.operator.ActionEffects.{action_on, filled, is_long, message_frames, sending_after, ran}
 use Rattle.vt_server.specs.state.AddressViews as parts

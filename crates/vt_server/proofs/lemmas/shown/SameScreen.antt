@@ -1,5 +1,5 @@
--- The screen is the same if the same set is shown with the same pool. Refused commands, uploads and actions keep both. Time and
--- claims remove pools, but change none.
+-- The screen is the same if the same set is shown with a pool that looks the same. Refused commands, uploads and actions keep both,
+-- and so do commands and actions that keep the look. Time and claims remove pools, but change none.
 use Rattle.std.proofs.Common.{◌≡◌, ◌≢◌, ℕ, Bool, true, false, cond, List, [], ◌∷◌, map, Option, Some, None, is_some, true≢false, refl, sym, ap, subst, ◌∙◌, nat_eq}
 use Rattle.std.specs.List.{filter}
 use Rattle.std.specs.Option.{option_eq, option_map}
@@ -7,7 +7,11 @@ use Rattle.std.specs.Prelude.{Result, Ok, Err}
 use Rattle.vt_can.specs.declared.frames.frame.Frame.{Frame}
 use Rattle.vt_can.specs.frames.Frame.{source_of}
 use Rattle.vt_can.specs.lines.Actions.{ActionValue}
+use Rattle.std.proofs.lemmas.Option.{same_Some}
+use Rattle.std.specs.FinMap as finite
+use Rattle.vt_kinds.specs.Records.{Seen}
 use Rattle.vt_effects.specs.Effects.{effect}
+use Rattle.vt_effects.specs.Looks.{look, HaveSameLook}
 use Rattle.vt_machine.specs.SetStates.{SetState, with_objects}
 use Rattle.vt_macros.specs.Machines.{events_of}
 use Rattle.vt_machine.specs.declared.operator.OperatorRefusal.{OperatorRefusal}
@@ -22,7 +26,8 @@ use Rattle.vt_server.specs.frame.TimeoutActs.{at_time, lapsed, silences, set_is_
 use Rattle.vt_server.specs.operator.ActionEffects.{action_on}
 use Rattle.vt_server.specs.state.AddressViews.{Act, AddressView, Hears, Rebinds, TpExpires, EtpExpires, SendingExpires, FallsSilent, outcome, unchanged, without_set, stays_under, after_change, after_claim_heard}
 use Rattle.vt_server.specs.state.AddressStates.{SetPool, AddressState, heard_at, no_content}
-use Rattle.vt_server.specs.shown.Screens.{IsScreenAt, IsScreenOfShown, KeepsScreen, ShowsSame, ShowsWhatIsLeft, TellsChanges}
+use Rattle.vt_layout.proofs.ScreensOfLooks.{screens_show_looks}
+use Rattle.vt_server.specs.shown.Screens.{HasSameLook, look_in, IsScreenAt, IsScreenOfShown, KeepsScreen, ShowsSame, ShowsWhatIsLeft, TellsChanges}
 use Rattle.vt_server.specs.States.{state_of}
 use Rattle.vt_server.specs.Steps.{before, changes, heard_at_source, acts, acted}
 use Rattle.vt_server.specs.Terminals.{State, pool_of, pool_at, part, put, after_act, after_acts}
@@ -44,60 +49,100 @@ use Rattle.vt_server.proofs.lemmas.shown.ShownSetHasPool.{HasPoolAt, ShownHasPoo
 use Rattle.vt_server.proofs.lemmas.acts.ComposedActs.{act-is}
 use Rattle.vt_node.proofs.ByAddress.{at-own, at-other}
 use Rattle.vt_names.proofs.IndexAfterClaim.{option_same}
-use Rattle.vt_names.proofs.AddressesAfterClaim.{by_eq}
+use Rattle.vt_names.proofs.AddressesAfterClaim.{by_eq, none-some}
 use Rattle.vt_kinds.specs.Ids.{null_id}
+
+-- ---- pools that look the same
+
+some-none : {A : Type 0} (x : A) → Some x ≡ None → ⊥
+some-none x is = none-some (sym is)
+
+pub look-is : (old new : Option SetState) → new ≡ old → HasSameLook old new
+look-is old new is id = ap (λ (pool : Option SetState). look_in pool id) is
+
+look-then : (old mid new : Option SetState) → HasSameLook old mid → HasSameLook mid new → HasSameLook old new
+look-then old mid new first second id = second id ∙ first id
+
+look-some : (old new : Option SetState) → HasSameLook old new → is_some new ≡ true → is_some old ≡ true
+look-some None None same some = some
+look-some (Some old) new same some = refl
+look-some None (Some new) same some = absurd (some-none _ (same 0))
+
+pub looks-some : (old new : SetState) → HaveSameLook old.objects new.objects → HasSameLook (Some old) (Some new)
+looks-some old new same id = ap (λ (o : Option Seen). Some o) (same id)
 
 -- ---- the text
 
-text-same : (s t : State) (shown : Option ℕ) (text : List ℕ) → pool_at t shown ≡ pool_at s shown → IsScreenOfShown (pool_of s) shown text → IsScreenOfShown (pool_of t) shown text
+screen-same : (a : ℕ) (old new : Option SetState) (text : List ℕ) → HasSameLook old new → IsScreenAt a old text → IsScreenAt a new text
+screen-same a None None text same is = is
+screen-same a (Some old) (Some new) text same is =
+    screens_show_looks a old.objects new.objects text
+    (λ id. same_Some (option_map look (finite.get new.objects id)) (option_map look (finite.get old.objects id)) (same id)) is
+screen-same a None (Some new) text same is = absurd (some-none _ (same 0))
+screen-same a (Some old) None text same is = absurd (none-some (same 0))
+
+text-same : (s t : State) (shown : Option ℕ) (text : List ℕ) → HasSameLook (pool_at s shown) (pool_at t shown) → IsScreenOfShown (pool_of s) shown text
+    → IsScreenOfShown (pool_of t) shown text
 text-same s t None text same is = is
-text-same s t (Some a) text same is = subst (λ (pool : Option SetState). IsScreenAt a pool text) (sym same) is
+text-same s t (Some a) text same is = screen-same a (pool_of s a) (pool_of t a) text same is
 
 pub same-text : (s t : State) → ShowsSame s t → KeepsScreen s t
 same-text s t same text is =
     subst (λ (shown : Option ℕ). IsScreenOfShown (pool_of t) shown text) (sym same.shown)
-    (text-same s t s.shown text (ap (pool_at t) (sym same.shown) ∙ same.pool) is)
+    (text-same s t s.shown text (subst (λ (shown : Option ℕ). HasSameLook (pool_at s s.shown) (pool_at t shown)) same.shown same.pool) is)
 
 pub shows-then : (s t u : State) → ShowsSame s t → ShowsSame t u → ShowsSame s u
-shows-then s t u first second = record { shown = second.shown ∙ first.shown; pool = second.pool ∙ first.pool }
+shows-then s t u first second = record {
+  shown = second.shown ∙ first.shown;
+  pool = look-then (pool_at s s.shown) (pool_at t t.shown) (pool_at u u.shown) first.pool second.pool;
+}
 
--- The shown pool is unchanged.
-same-at : (s t : State) → t.shown ≡ s.shown → ((b : ℕ) → s.shown ≡ Some b → pool_of t b ≡ pool_of s b) → ShowsSame s t
-same-at s t shown each = record { shown = shown; pool = ap (pool_at t) shown ∙ at s.shown refl }
+-- The shown pool looks the same.
+same-at : (s t : State) → t.shown ≡ s.shown → ((b : ℕ) → s.shown ≡ Some b → HasSameLook (pool_of s b) (pool_of t b)) → ShowsSame s t
+same-at s t shown each = record {
+  shown = shown;
+  pool = subst (λ (o : Option ℕ). HasSameLook (pool_at s s.shown) (pool_at t o)) (sym shown) (at s.shown refl);
+}
   where
-    at : (o : Option ℕ) → s.shown ≡ o → pool_at t o ≡ pool_at s o
-    at None is = refl
+    at : (o : Option ℕ) → s.shown ≡ o → HasSameLook (pool_at s o) (pool_at t o)
+    at None is = λ id. refl
     at (Some a) is = each a is
 
--- All pools are unchanged.
-same-by : (s t : State) → t.shown ≡ s.shown → ((b : ℕ) → pool_of t b ≡ pool_of s b) → ShowsSame s t
+-- All pools look the same.
+same-by : (s t : State) → t.shown ≡ s.shown → ((b : ℕ) → HasSameLook (pool_of s b) (pool_of t b)) → ShowsSame s t
 same-by s t shown each = same-at s t shown (λ b is. each b)
-
-pools-kept : (old new : ℕ → SetPool) (a : ℕ) (x : SetPool) → new ≡ with_at a x old → x.pool ≡ (old a).pool → (b : ℕ) → (new b).pool ≡ (old b).pool
-pools-kept old new a x is same b =
-    ap (λ (k : ℕ → SetPool). (k b).pool) is
-    ∙ by_eq b a
-    (λ here. ap (λ q. (with_at a x old q).pool) here ∙ ap (λ (k : SetPool). k.pool) (at-own a old x) ∙ same ∙ ap (λ q. (old q).pool) (sym here))
-    (λ ne. ap (λ (k : SetPool). k.pool) (at-other a b old x ne))
 
 pools-other : (old new : ℕ → SetPool) (a : ℕ) (x : SetPool) → new ≡ with_at a x old → (b : ℕ) → b ≢ a → (new b).pool ≡ (old b).pool
 pools-other old new a x is b ne = ap (λ (k : ℕ → SetPool). (k b).pool) is ∙ ap (λ (k : SetPool). k.pool) (at-other a b old x ne)
+
+pools-look : (old new : ℕ → SetPool) (a : ℕ) (x : SetPool) → new ≡ with_at a x old → HasSameLook (old a).pool x.pool → (b : ℕ) → HasSameLook (old b).pool (new b).pool
+pools-look old new a x is same b =
+    by_eq b a
+    (λ here. subst (λ q. HasSameLook (old q).pool (new q).pool) (sym here)
+    (subst (λ (pool : Option SetState). HasSameLook (old a).pool pool)
+    (sym (ap (λ (k : ℕ → SetPool). (k a).pool) is ∙ ap (λ (k : SetPool). k.pool) (at-own a old x))) same))
+    (λ ne. look-is (old b).pool (new b).pool (pools-other old new a x is b ne))
 
 other-shown : (shown : Option ℕ) (a b : ℕ) → option_eq nat_eq shown (Some a) ≡ false → shown ≡ Some b → b ≢ a
 other-shown shown a b other is here =
     true≢false (sym (option_same (Some a)) ∙ ap (λ o. option_eq nat_eq o (Some a)) (sym (is ∙ ap Some here)) ∙ other)
 
 module _ (t : Terminal) (contents : declared.PoolTable) (a : ℕ) (x : SetPool) (is : content_of contents ≡ with_at a x (content_of t.contents)) where
+  -- One pool is replaced by one that looks the same.
+  pub same-look : HasSameLook (content_of t.contents a).pool x.pool → ShowsSame (state_of t) (state_of (record t { contents = contents }))
+  same-look same =
+      same-by (state_of t) (state_of (record t { contents = contents })) refl (pools-look (content_of t.contents) (content_of contents) a x is same)
+
   -- One content changes, but not its pool.
   pub same-pool : x.pool ≡ (content_of t.contents a).pool → ShowsSame (state_of t) (state_of (record t { contents = contents }))
-  same-pool same =
-      same-by (state_of t) (state_of (record t { contents = contents })) refl (pools-kept (content_of t.contents) (content_of contents) a x is same)
+  same-pool same = same-look (look-is (content_of t.contents a).pool x.pool same)
 
   -- The content of an address other than the shown one changes.
   pub same-elsewhere : option_eq nat_eq t.shown (Some a) ≡ false → ShowsSame (state_of t) (state_of (record t { contents = contents }))
   same-elsewhere other =
       same-at (state_of t) (state_of (record t { contents = contents })) refl
-      (λ b at. pools-other (content_of t.contents) (content_of contents) a x is b (other-shown t.shown a b other at))
+      (λ b at. look-is (content_of t.contents b).pool (content_of contents b).pool
+      (pools-other (content_of t.contents) (content_of contents) a x is b (other-shown t.shown a b other at)))
 
 -- ---- commands, ends of uploads and actions that change nothing
 
@@ -134,18 +179,21 @@ refused-pool (Some p) action refusal (Some q) is = ap Some (refused-is p q (acti
 -- ---- pools unchanged or removed
 
 abbrev pub Stays : Option SetState → Option SetState → Type 0
-Stays old new = is_some new ≡ true → new ≡ old
+Stays old new = is_some new ≡ true → HasSameLook old new
 
 gone : (old : Option SetState) → Stays old None
 gone old some = absurd (true≢false (sym some))
 
+as-it-is : (old new : Option SetState) → new ≡ old → Stays old new
+as-it-is old new is some = look-is old new is
+
 stays-then : (old mid new : Option SetState) → Stays old mid → Stays mid new → Stays old new
 stays-then old mid new first second some =
     let later = second some in
-    later ∙ first (subst (λ (pool : Option SetState). is_some pool ≡ true) later some)
+    look-then old mid new (first (look-some mid new later some)) later
 
 stays-at : (s t : State) (shown : Option ℕ) → ((b : ℕ) → Stays (pool_of s b) (pool_of t b)) → Stays (pool_at s shown) (pool_at t shown)
-stays-at s t None each = λ some. refl
+stays-at s t None each = λ some id. refl
 stays-at s t (Some a) each = each a
 
 left-by : (s t : State) → t.shown ≡ s.shown → ((b : ℕ) → Stays (pool_of s b) (pool_of t b)) → ShowsWhatIsLeft s t
@@ -167,8 +215,8 @@ left-then s t u first second = record {
 left-all : (s t : State) → ShowsWhatIsLeft s t → ShownHasPool t → ShowsSame s t
 left-all s t left has = record { shown = left.shown; pool = cases t.shown refl has }
   where
-    cases : (o : Option ℕ) → t.shown ≡ o → HasPoolAt (pool_of t) o → pool_at t t.shown ≡ pool_at s s.shown
-    cases None is there = ap (pool_at t) is ∙ ap (pool_at s) (sym is ∙ left.shown)
+    cases : (o : Option ℕ) → t.shown ≡ o → HasPoolAt (pool_of t) o → HasSameLook (pool_at s s.shown) (pool_at t t.shown)
+    cases None is there = look-is (pool_at s s.shown) (pool_at t t.shown) (ap (pool_at t) is ∙ ap (pool_at s) (sym is ∙ left.shown))
     cases (Some a) is there = left.pool (ap (λ o. is_some (pool_at t o)) is ∙ there)
 
 -- ---- acts that leave pools unchanged or remove them
@@ -177,16 +225,16 @@ abbrev pub ActStays : Act → Type 0
 ActStays act = (now a : ℕ) (p : AddressView) → Stays p.place.content.pool (outcome now a p act).place.content.pool
 
 change-stays : (p : AddressView) (o : Option Set) → Stays p.place.content.pool (after_change p o).place.content.pool
-change-stays p None = λ some. refl
+change-stays p None = λ some id. refl
 change-stays p (Some set) = cases (stays_under set.name p.holder)
   where
     cases : (b : Bool) → Stays p.place.content.pool (cond b (unchanged p) (without_set p)).place.content.pool
-    cases true = λ some. refl
+    cases true = λ some id. refl
     cases false = gone p.place.content.pool
 
 claim-stays : (p : AddressView) (o : Option Set) → Stays p.place.content.pool (after_claim_heard p o).place.content.pool
-claim-stays p None = λ some. refl
-claim-stays p (Some set) = λ some. refl
+claim-stays p None = λ some id. refl
+claim-stays p (Some set) = λ some id. refl
 
 rebinds-stays : ActStays Rebinds
 rebinds-stays now a p = change-stays p p.set
@@ -201,10 +249,10 @@ act-stays s a b h stays =
     (by_eq b a
     (λ is. subst (λ q. Stays (pool_of s q) (pool_of (put a (outcome s.now a (part a s) h) s) q)) (sym is)
     (subst (λ (x : AddressState). Stays (pool_of s a) x.content.pool) (sym (at-own a s.places place)) (stays s.now a (part a s))))
-    (λ ne. λ some. ap (λ (x : AddressState). x.content.pool) (at-other a b s.places place ne)))
+    (λ ne. as-it-is (pool_of s b) (pool_of (put a (outcome s.now a (part a s) h) s) b) (ap (λ (x : AddressState). x.content.pool) (at-other a b s.places place ne))))
 
 acts-stay : (s : State) (b : ℕ) (hs : List (ℕ × Act)) → AllAt (λ a h. ActStays h) hs → Stays (pool_of s b) (pool_of (after_acts s hs) b)
-acts-stay s b [] all = λ some. refl
+acts-stay s b [] all = λ some id. refl
 acts-stay s b (h ∷ hs) all =
     let t = after_act s h.0 h.1 in
     stays-then (pool_of s b) (pool_of t b) (pool_of (after_acts t hs) b) (act-stays s h.0 b h.1 all.0) (acts-stay t b hs all.1)
@@ -224,9 +272,9 @@ lapsed-stays s b =
     stays-then (pool_of s b) (pool_of v b) (pool_of w b)
     (stays-then (pool_of s b) (pool_of u b) (pool_of v b)
     (stays-then (pool_of s b) (pool_of t b) (pool_of u b)
-    (acts-stay s b (tp_due s) (at-below (λ a h. ActStays h) _ TpExpires 256 (λ a lt. λ now q p. λ some. refl)))
-    (acts-stay t b (etp_due t) (at-below (λ a h. ActStays h) _ EtpExpires 256 (λ a lt. λ now q p. λ some. refl))))
-    (acts-stay u b (sending_due u) (at-below (λ a h. ActStays h) _ SendingExpires 256 (λ a lt. λ now q p. λ some. refl))))
+    (acts-stay s b (tp_due s) (at-below (λ a h. ActStays h) _ TpExpires 256 (λ a lt now q p some id. refl)))
+    (acts-stay t b (etp_due t) (at-below (λ a h. ActStays h) _ EtpExpires 256 (λ a lt now q p some id. refl))))
+    (acts-stay u b (sending_due u) (at-below (λ a h. ActStays h) _ SendingExpires 256 (λ a lt now q p some id. refl))))
     (acts-stay v b (silences v) (silent-all (filter (set_is_silent v) v.sets)))
 
 shown-lapsed : (s : State) → (lapsed s).shown ≡ s.shown
@@ -259,9 +307,9 @@ claimed-left s t u v f n name recorded took updates =
 
 -- The work done in advance for a frame changes no pool.
 pub prepared-shows : (s : State) (t : Terminal) (now : ℕ) (n : FrameMeaning) (f : Frame) (ready : PreparedFrame) → FitsBeforeTimeouts s t now n f ready → ShowsSame s (state_of t)
-prepared-shows s t now n f readies.Loses it = subst (ShowsSame s) (sym it.0) (record { shown = refl; pool = refl })
-prepared-shows s t now n f (readies.Claimed former) it = subst (ShowsSame s) (sym it.5) (record { shown = refl; pool = refl })
-prepared-shows s t now n f (readies.Prepared upload) it = subst (ShowsSame s) (sym it.0) (record { shown = refl; pool = refl })
+prepared-shows s t now n f readies.Loses it = subst (ShowsSame s) (sym it.0) (record { shown = refl; pool = λ id. refl })
+prepared-shows s t now n f (readies.Claimed former) it = subst (ShowsSame s) (sym it.5) (record { shown = refl; pool = λ id. refl })
+prepared-shows s t now n f (readies.Prepared upload) it = subst (ShowsSame s) (sym it.0) (record { shown = refl; pool = λ id. refl })
 
 -- The whole step of a frame: work in advance, timeouts and closings, and its effect.
 pub line-kept : (s t u v : State) (now : ℕ) → ShowsSame s t → u ≡ lapsed (at_time t now) → ShowsWhatIsLeft u v

@@ -1,4 +1,4 @@
-use Rattle.std.proofs.Common.{◌≡◌, [], ◌∷◌, Option, Some, true, false, length, ap, subst, refl, ◌∙◌}
+use Rattle.std.proofs.Common.{◌≡◌, [], ◌∷◌, Option, Some, true, false, length, ap, subst, refl, ◌∙◌, Bool, not}
 use Rattle.std.specs.Prelude.{◌==◌, Result}
 use Rattle.vt_can.specs.lines.Actions.{action_value}
 use Rattle.vt_machine.specs.declared.operator.Acted.{Acted}
@@ -16,7 +16,8 @@ use Rattle.vt_server.specs.declared.output.Output.TheVariants as declared
 use Rattle.vt_can.specs.declared.frames.frame.Frame.{Frame}
 use Rattle.vt_server.proofs.lemmas.operator.ActionStep.{shown-at, short-selects, takes-none, takes-act-refused, takes-act-done}
 use Rattle.vt_server.proofs.lemmas.operator.ActionMessages.{one-frame, no-frame}
-use Rattle.vt_server.proofs.lemmas.shown.SameScreen.{refused-pool, same-pool}
+use Rattle.vt_server.proofs.lemmas.shown.SameScreen.{refused-pool, same-look, same-pool}
+use Rattle.vt_effects.proofs.lemmas.objects.EntryChanges.{either_false}
 use Rattle.vt_server.proofs.terminal.Terminal.act.Goals as goal
 
 pub returns-in_default-clause-takes : goal.returns-in_default-clause-takes
@@ -66,4 +67,32 @@ returns-in-Some-Err-clause-tells c none =
       same-pool t c.act.new.self a (record before { pool = acted.pool }) acted.content
           (refused-pool before.pool action c.in-Some-Err.refusal acted.pool
           (subst (λ (r : Option (Result Acted OperatorRefusal)). PerformsAt before.pool action r acted.pool) (c.in-Some-Err.is ∙ ap Some c.in-Some-Err.field-0-is) acted.performs)),
+    )
+
+is_true : (b : Bool) → not b ≡ false → b ≡ true
+is_true true e = refl
+is_true false e = absurd cc
+
+pub returns-then-is_empty-clause-tells : goal.returns-then-is_empty-clause-tells
+returns-then-is_empty-clause-tells c none =
+    let t = c.args.self.now in
+    let a = c.in-Some.address in
+    let before : SetPool = content_of t.contents a in
+    let acted = c.act.ensures in
+    let redrew = either_false t.redraws (not c.action_keeps_look-is_kept.result) none in (
+      redrew.0,
+      same-look t c.act.new.self a (record before { pool = acted.pool }) acted.content
+          (c.action_keeps_look-is_kept.ensures (is_true c.action_keeps_look-is_kept.result redrew.1) c.act.result acted.pool acted.performs),
+    )
+
+pub returns-else-is_empty-clause-tells : goal.returns-else-is_empty-clause-tells
+returns-else-is_empty-clause-tells c none =
+    let t = c.args.self.now in
+    let a = c.in-Some.address in
+    let before : SetPool = content_of t.contents a in
+    let acted = c.act.ensures in
+    let redrew = either_false t.redraws (not c.action_keeps_look-is_kept.result) none in (
+      redrew.0,
+      same-look t c.act.new.self a (record before { pool = acted.pool }) acted.content
+          (c.action_keeps_look-is_kept.ensures (is_true c.action_keeps_look-is_kept.result redrew.1) c.act.result acted.pool acted.performs),
     )

@@ -1,4 +1,4 @@
-use Rattle.std.proofs.Common.{◌≡◌, ℕ, List, Option, Some, None, sym, ap, subst, ◌∙◌}
+use Rattle.std.proofs.Common.{◌≡◌, ℕ, List, Option, Some, None, sym, ap, subst, ◌∙◌, ◌≢◌, ◌⊎◌, inl, inr, zero, suc, ◌==◌, ◌&&◌, not, Bool, true, false, refl}
 use Rattle.std.proofs.lemmas.Option.{same_Some}
 use Rattle.vt_server.specs.message.CommandEffects.{content_after}
 use Rattle.vt_server.specs.frame.FrameContracts.{IsReplyTo}
@@ -7,10 +7,9 @@ use Rattle.vt_server.specs.States.{state_of, places_by}
 use Rattle.vt_server.specs.state.PoolTables.{content_of}
 use Rattle.vt_node.specs.Watches.{heard_of}
 use Rattle.vt_server.proofs.lemmas.message.EffectsAndReplies.{is-ignored, is-commanded}
-use Rattle.vt_server.proofs.lemmas.shown.SameScreen.{command-same, same-elsewhere, same-pool}
+use Rattle.vt_server.proofs.lemmas.shown.SameScreen.{command-same, same-elsewhere, same-look, same-pool}
 use Rattle.vt_server.proofs.lemmas.state.WritesByAddress.{content-placed}
 use Rattle.vt_server.proofs.terminal.Terminal.reply.Goals as goal
-use Rattle.vt_server.proofs.terminal.Terminal.reply.Goals.{then-error-eq0, else-error-eq0}
 use Rattle.vt_effects.proofs.lemmas.objects.EntryChanges.{either_false}
 use Rattle.vt_names.proofs.AddressesAfterClaim.{none-some}
 
@@ -55,19 +54,27 @@ returns-in_err-error-clause-tells c none =
           (command-same command before (λ h. none-some (c.in_err-error.ensures.error ∙ h))),
     )
 
+-- a command that is not drawn keeps the look, or is not done, or is one of another set
+unless-drawn : (kept : Bool) (error : ℕ) (shown : Bool) → (not kept && (error == 0) && shown) ≡ false → (kept ≡ true) ⊎ ((error ≢ 0) ⊎ (shown ≡ false))
+unless-drawn true error shown none = inl refl
+unless-drawn false zero shown none = inr (inr none)
+unless-drawn false (suc error) shown none = inr (inl (λ is. let never : true ≡ false = cc in absurd cc))
+
 pub returns-clause-tells : goal.returns-clause-tells
 returns-clause-tells c none =
     let t = c.args.self.now in
     let a = c.args.source in
     let command = c.in_ok-command.command in
     let before : SetPool = content_of t.contents a in
-    let told = either_false t.redraws c.if-error-eq0.self none in (
-      told.0,
-      elim c.if-error-eq0.branch [
-        | then-error-eq0 w ↦
-            same-elsewhere t c.apply.new.self a (content_after command before) c.in_ok-error.ensures.content (sym w.eq.ensures ∙ sym w.self-is ∙ told.1)
-        | else-error-eq0 w ↦
-            same-pool t c.apply.new.self a (content_after command before) c.in_ok-error.ensures.content
-            (command-same command before (λ h. w.if-error-eq0.false (same_Some c.in_ok-error.error 0 (c.in_ok-error.ensures.error ∙ h))))
+    let redrew = either_false t.redraws c.is_redrawn.result none in (
+      redrew.0,
+      elim (unless-drawn c.keeps_look-is_kept.result c.in_ok-error.error c.eq.result (sym c.is_redrawn.ensures ∙ redrew.1)) [
+        | inl kept ↦ same-look t c.apply.new.self a (content_after command before) c.in_ok-error.ensures.content (c.keeps_look-is_kept.ensures kept)
+        | inr other ↦ elim other [
+          | inl refused ↦
+              same-pool t c.apply.new.self a (content_after command before) c.in_ok-error.ensures.content
+              (command-same command before (λ h. refused (same_Some c.in_ok-error.error 0 (c.in_ok-error.ensures.error ∙ h))))
+          | inr elsewhere ↦ same-elsewhere t c.apply.new.self a (content_after command before) c.in_ok-error.ensures.content (sym c.eq.ensures ∙ elsewhere)
+        ]
       ],
     )
