@@ -26,6 +26,8 @@ pub enum Hint {
     Candump,
     /// `candump` put blanks before the name of an interface, to align it.
     Padded,
+    /// No blank follows the exclamation mark of an operator line.
+    Unspaced,
 }
 
 impl fmt::Display for Hint {
@@ -45,6 +47,12 @@ impl fmt::Display for Hint {
                 write!(
                     f,
                     "candump puts blanks before interface names of unequal lengths; README.md has a command that takes them out"
+                )
+            }
+            Hint::Unspaced => {
+                write!(
+                    f,
+                    "an operator line has a blank after its exclamation mark, as ! press 400"
                 )
             }
         }
@@ -132,6 +140,7 @@ fn hint_of(fault: LineFault, line: &[u8]) -> Option<Hint> {
         return Some(Hint::Binary);
     }
     match fault {
+        LineFault::Time if line.starts_with(b"!") => Some(Hint::Unspaced),
         LineFault::Time | LineFault::Shape if line.contains(&b'[') && line.contains(&b']') => {
             Some(Hint::Candump)
         }

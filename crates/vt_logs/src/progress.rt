@@ -17,6 +17,7 @@ use crate::notes::Notes;
 use crate::output::{put, put_fault, put_outputs};
 use crate::streams::Sink;
 use arrayvec::ArrayVec;
+use memchr::memchr;
 use std::alloc::Global;
 use std::mem;
 use vt_can::{Line, LineFault, parse_line};
@@ -304,6 +305,6 @@ impl Progress {
 fn cut_line(text: &[u8]) -> Option<(&[u8], &[u8])>
     ensures { MatchOption result (HasNoNewline text.now) (λ p. HasNoNewline p.0.now × (text.now ≡ p.0.now ++ 10 ∷ p.1.now)) }
 {
-    let place = text.iter().position(|byte| *byte == b'\n')?;
+    let place = memchr(b'\n', text)?;
     Some((&text[..place], &text[place + 1..]))
 }
