@@ -1,5 +1,5 @@
-//! Runs `vt_replay` on each example and prints its output, its messages and its status. The gate compares this with the file
-//! `stdout`.
+//! Runs `vt_replay` on each example and on the file `stdin`, and prints its output, its messages and its status. The gate compares
+//! this with the file `stdout`.
 #![tactic(auto)]
 
 use std::io::{self, BufWriter, Write};
@@ -7,7 +7,7 @@ use vt_logs::{Sink, Stream};
 use vt_program::{Files, run};
 
 /// The words of each run, the program's name first.
-const RUNS: [&[&str]; 23] = [
+const RUNS: [&[&str]; 27] = [
     &["vt_replay", "seeder.log"],
     &[
         "vt_replay",
@@ -45,6 +45,17 @@ const RUNS: [&[&str]; 23] = [
     &["vt_replay", "refusal-11-macro-circle.iop", "--report"],
     &["vt_replay", "refusal-12-over-budget.iop", "--report"],
     &["vt_replay", "refusal-03-missing.iop"],
+    &["vt_replay", "-"],
+    &["vt_replay"],
+    &["vt_replay", "hide.log", "--speed", "2"],
+    &[
+        "vt_replay",
+        "hide.log",
+        "--pool",
+        "pool.iop",
+        "--owner",
+        "26",
+    ],
 ];
 
 fn main(rt: HostRuntime) -> io::Result<()> {

@@ -220,7 +220,7 @@ EndsBy (Words error) status.Usage = IsHelp (kind_of error) → ⊥
 EndsBy (Words error) status.Fault = ⊥
 EndsBy (Address option value) end = end ≡ status.Usage
 EndsBy (Name value) end = end ≡ status.Usage
-EndsBy OwnerIsOwn end = end ≡ status.Usage
+EndsBy (OwnerIsOwn value) end = end ≡ status.Usage
 EndsBy Alone end = end ≡ status.Usage
 EndsBy Memory end = end ≡ status.Fault
 

@@ -162,7 +162,7 @@ abbrev pub IsMistake : Given → UsageError → Type 0
 IsMistake given (Address option value) =
     IsBadAddress (codes "own") given.own (Address option value) ⊎ IsBadAddress (codes "owner") given.owner (Address option value)
 IsMistake given (Name value) = IsBadName given.name (Name value)
-IsMistake given OwnerIsOwn = HasOwnOwner given
+IsMistake given (OwnerIsOwn value) = (given.owner ≡ Some value.now) × HasOwnOwner given
 IsMistake given Alone = is_some given.pool ≢ is_some given.owner
 IsMistake given (Words error) = ⊥
 IsMistake given Memory = ⊥
@@ -176,7 +176,7 @@ abbrev pub IsRefusalOf : List Text → UsageError → Type 0
 IsRefusalOf words (Words error) = IsAmong (kind_of error) (faults_in words)
 IsRefusalOf words (Address option value) = IsMistakeIn words (Address option value)
 IsRefusalOf words (Name value) = IsMistakeIn words (Name value)
-IsRefusalOf words OwnerIsOwn = IsMistakeIn words OwnerIsOwn
+IsRefusalOf words (OwnerIsOwn value) = IsMistakeIn words (OwnerIsOwn value)
 IsRefusalOf words Alone = IsMistakeIn words Alone
 IsRefusalOf words Memory = Unit {0}
 
@@ -186,7 +186,7 @@ IsRefusalFor error Memory = kind_of error ≡ OutOfMemory
 IsRefusalFor error (Words other) = (other ≡ error) × (kind_of error ≢ OutOfMemory)
 IsRefusalFor error (Address option value) = ⊥
 IsRefusalFor error (Name value) = ⊥
-IsRefusalFor error OwnerIsOwn = ⊥
+IsRefusalFor error (OwnerIsOwn value) = ⊥
 IsRefusalFor error Alone = ⊥
 
 -- The text of a refusal. The text of an error of clap is not stated.
@@ -194,7 +194,8 @@ abbrev pub usage_text : UsageError → Option Text
 usage_text (Words error) = None
 usage_text (Address option value) = Some (codes "error: --" ++ option.now ++ codes " " ++ value.now ++ codes ": two hex digits up to FD are wanted\n")
 usage_text (Name value) = Some (codes "error: --name " ++ value.now ++ codes ": 16 hex digits are wanted\n")
-usage_text OwnerIsOwn = Some (codes "error: --owner is the terminal's own address (--own, 26 unless given)\n")
+usage_text (OwnerIsOwn value) =
+    Some (codes "error: --owner " ++ value.now ++ codes ": another address than the terminal's own is wanted (--own, 26 unless given)\n")
 usage_text Alone = Some (codes "error: --pool and --owner are given together or not at all\n")
 usage_text Memory = Some (codes "vt_replay: out of memory\n")
 

@@ -9,6 +9,7 @@ mod files;
 pub mod laws;
 mod messages;
 mod options;
+mod pool_sentences;
 mod program;
 mod sentences;
 

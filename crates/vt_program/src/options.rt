@@ -60,8 +60,8 @@ pub enum UsageError<'a> {
     },
     /// The value of `--name` is not a NAME, which is 16 hex digits.
     Name(&'a str),
-    /// The owner's address is the terminal's own.
-    OwnerIsOwn,
+    /// The value of `--owner` is the terminal's own address.
+    OwnerIsOwn(&'a str),
     /// A pool is given without its owner, or an owner without a pool.
     Alone,
     /// An allocation was refused.
@@ -83,10 +83,10 @@ impl fmt::Display for UsageError<'_> {
             UsageError::Name(value) => {
                 writeln!(f, "error: --name {value}: 16 hex digits are wanted")
             }
-            UsageError::OwnerIsOwn => {
+            UsageError::OwnerIsOwn(value) => {
                 writeln!(
                     f,
-                    "error: --owner is the terminal's own address (--own, 26 unless given)"
+                    "error: --owner {value}: another address than the terminal's own is wanted (--own, 26 unless given)"
                 )
             }
             UsageError::Alone => {
@@ -237,7 +237,10 @@ fn options_of<'a>(matches: &ArgMatches<'a>) -> Result<Options<'a>, UsageError<'a
     let name = name_given(matches)?;
     let owner = address_given(matches, "owner")?;
     let preload = match (matches.get_str("pool"), owner) {
-        (Some(_), Some(owner)) if owner == own => return Err(UsageError::OwnerIsOwn),
+        (Some(_), Some(owner)) if owner == own => {
+            let value = matches.get_str("owner").unwrap_or("");
+            return Err(UsageError::OwnerIsOwn(value));
+        }
         (Some(pool), Some(owner)) => Some(Preload { pool, owner }),
         (None, None) => None,
         _ => return Err(UsageError::Alone),

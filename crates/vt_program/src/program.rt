@@ -12,7 +12,8 @@ ghost use Rattle.vt_server.specs.States.{state_of};
 
 use crate::messages::{print_notes, print_replay_fault};
 use crate::options::{Options, Preload, UsageError};
-use crate::sentences::{FaultSentence, Named, RefusalSentence, ReplaySentence};
+use crate::pool_sentences::{FaultSentence, Named, RefusalSentence};
+use crate::sentences::ReplaySentence;
 use std::alloc::{AllocError, Global};
 use std::convert::AsStr;
 use std::fmt;

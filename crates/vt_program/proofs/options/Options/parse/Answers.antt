@@ -34,7 +34,7 @@ refused_by_clap words e (Words other) for (inl memory) = absurd (for.1 memory)
 refused_by_clap words e (Words other) for (inr among) = rw for.0 among
 refused_by_clap words e (Address option value) for kind = absurd for
 refused_by_clap words e (Name value) for kind = absurd for
-refused_by_clap words e OwnerIsOwn for kind = absurd for
+refused_by_clap words e (OwnerIsOwn value) for kind = absurd for
 refused_by_clap words e Alone for kind = absurd for
 refused_by_clap words e Memory for kind = tt
 
@@ -51,7 +51,8 @@ words_are_refused words given (Err (Words error)) same none mistake = absurd mis
 words_are_refused words given (Err (Address option value)) same none mistake =
     (none, subst (λ (g : Given). IsMistake g (Address option value)) same mistake)
 words_are_refused words given (Err (Name value)) same none mistake = (none, subst (λ (g : Given). IsMistake g (Name value)) same mistake)
-words_are_refused words given (Err OwnerIsOwn) same none mistake = (none, subst (λ (g : Given). IsMistake g OwnerIsOwn) same mistake)
+words_are_refused words given (Err (OwnerIsOwn value)) same none mistake =
+    (none, subst (λ (g : Given). IsMistake g (OwnerIsOwn value)) same mistake)
 words_are_refused words given (Err Alone) same none mistake = (none, subst (λ (g : Given). IsMistake g Alone) same mistake)
 words_are_refused words given (Err Memory) same none mistake = absurd mistake
 
