@@ -1,7 +1,7 @@
 # The program's words. Paths are those of the folder in which make runs.
 ARGS ?= examples/seeder.log
 
-.PHONY: run sample help test examples wrong-bodies build bench bench-hostile refuse-memory
+.PHONY: run sample help test examples wrong-bodies build bench bench-hostile bench-counts refuse-memory
 
 # Runs the program by the toolchain's quick build, which proves nothing.
 run:
@@ -43,6 +43,11 @@ bench: build
 # an address, macros of pointer changes, long screens, and sessions of all sources. OTHER may name a program to compare with.
 bench-hostile: build
 	@python3 scripts/bench_hostile.py crates/vt_replay/out/vt_replay $(OTHER)
+
+# Counts the instructions of the proved program for a line, a command, a drawn line, an update and others, by valgrind. OTHER may
+# name a program to compare with.
+bench-counts: build
+	@python3 scripts/instructions.py crates/vt_replay/out/vt_replay $(OTHER)
 
 # Refuses each request for memory in turn, in the tests of each crate that are made for it and in the proved program.
 refuse-memory:
