@@ -14,7 +14,7 @@ import subprocess
 import sys
 import tempfile
 
-from bench_hostile import Log, container, data_mask, le, number_variable, record, working_set
+from bench_hostile import Log, container, data_mask, le, number_variable, object_pointer, record, working_set
 
 COLOUR = b'\xa7' + le(1000, 2) + b'\x07' + b'\xff' * 4
 
@@ -68,6 +68,14 @@ def updates(count):
     return of_commands([frame for it in updated for frame in (it, b'\x12' + b'\xff' * 7)], pool)
 
 
+def updates_of_references(count):
+    """Updates of an object pointer in a pool of 20,000 objects, each to another object."""
+    pool = mask_of(1) + container(201, []) + b''.join(number_variable(2000 + k, k) for k in range(20_000))
+    pool += object_pointer(300, 200)
+    updated = [b'\x11' + object_pointer(300, 201 - k % 2) for k in range(count)]
+    return of_commands([frame for it in updated for frame in (it, b'\x12' + b'\xff' * 7)], pool)
+
+
 def presses(count):
     """A key that is pressed and released, on a mask of 200 elements."""
     pool = working_set(1000) + data_mask(1000, [(100, 0, 0)], 2000) + container(100, [(200, k, 0) for k in range(200)])
@@ -88,6 +96,7 @@ COSTS = [
     ('a command that changes a screen of 2 lines', screens(1), 4_000),
     ('a command that changes a screen of 101 lines', screens(100), 1_000),
     ('an update of one object of 20,000', updates, 100),
+    ('an update of a reference in 20,000 objects', updates_of_references, 10),
     ('a key pressed and released, of 202 elements', presses, 2_000),
     ('an object of a pool in a report', report, 10_000),
 ]
