@@ -27,10 +27,6 @@ use Rattle.vt_stores.specs.Shapes.{fixed}
 use Rattle.vt_effects.specs.Errors as errors
 use Rattle.vt_effects.specs.Fields.{low_byte, low_word, with_field, with_fields}
 
--- the error byte with one bit set
-abbrev pub bit : ℕ → ℕ
-bit n = 2 ^ n
-
 -- the value if a test is passed, or else the error
 abbrev pub if_passed : {A : Type 0} → Bool → ℕ → A → Result A ℕ
 if_passed test error x = if test then Ok x else Err error

@@ -100,14 +100,14 @@ is_in_text field kind = false
 
 -- ---- commands that write no field in a text
 
-abbrev pub is_unseen : Option Attribute → Kind → Bool
-is_unseen None kind = true
-is_unseen (Some attribute) kind = not (is_in_text attribute.field kind)
+abbrev pub is_unseen_attribute : Option Attribute → Kind → Bool
+is_unseen_attribute None kind = true
+is_unseen_attribute (Some attribute) kind = not (is_in_text attribute.field kind)
 
 -- whether a command writes no field that is in a text, in an object of a kind
 abbrev pub writes_unseen : Command → Kind → Bool
 writes_unseen (ChangeSize id width height) kind = not (shows_width kind) && not (shows_height kind)
-writes_unseen (ChangeAttribute id number value) kind = is_unseen (attribute_at kind number) kind
+writes_unseen (ChangeAttribute id number value) kind = is_unseen_attribute (attribute_at kind number) kind
 writes_unseen (ChangeBackgroundColour id colour) kind = true
 writes_unseen (ChangeFontAttributes id colour size type style) kind = true
 writes_unseen (ChangeLineAttributes id colour width art) kind = not (shows_width kind)
@@ -120,12 +120,12 @@ writes_unseen command kind = false
 
 -- ---- commands that write the values that are there
 
-abbrev pub has_state : ℕ → Seen → Bool
-has_state state (objects.InputBoolean o) = o.enabled == state
-has_state state (objects.InputString o) = o.enabled == state
-has_state state (objects.InputNumber o) = o.options_two == with_lowest_bit o.options_two state
-has_state state (objects.InputList o) = o.options == with_lowest_bit o.options state
-has_state state o = false
+abbrev pub has_enabled_state : ℕ → Seen → Bool
+has_enabled_state state (objects.InputBoolean o) = o.enabled == state
+has_enabled_state state (objects.InputString o) = o.enabled == state
+has_enabled_state state (objects.InputNumber o) = o.options_two == with_lowest_bit o.options_two state
+has_enabled_state state (objects.InputList o) = o.options == with_lowest_bit o.options state
+has_enabled_state state o = false
 
 abbrev pub has_value : ℕ → Seen → Bool
 has_value n (objects.InputBoolean o) = o.value == low_byte n
@@ -139,9 +139,9 @@ has_value n (objects.NumberVariable o) = o.value == n
 has_value n (objects.ObjectPointer o) = o.value == low_word n
 has_value n o = false
 
-abbrev pub is_hidden_by : ℕ → Seen → Bool
-is_hidden_by state (objects.Container o) = o.hidden == 1 - state
-is_hidden_by state o = false
+abbrev pub has_shown_state : ℕ → Seen → Bool
+has_shown_state state (objects.Container o) = o.hidden == 1 - state
+has_shown_state state o = false
 
 abbrev pub has_active : ℕ → Seen → Bool
 has_active mask (objects.WorkingSet o) = o.active_mask == mask
@@ -149,8 +149,8 @@ has_active mask o = false
 
 -- whether a command writes into an object what is there already
 abbrev pub writes_same : Command → Seen → Bool
-writes_same (HideShow id state) o = is_state state && is_hidden_by state o
-writes_same (EnableDisable id state) o = is_state state && has_state state o
+writes_same (HideShow id state) o = is_state state && has_shown_state state o
+writes_same (EnableDisable id state) o = is_state state && has_enabled_state state o
 writes_same (ChangeNumericValue id value) o = has_value value o
 writes_same (ChangeActiveMask set mask) o = has_active mask o
 writes_same command o = false

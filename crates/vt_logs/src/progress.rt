@@ -282,7 +282,7 @@ impl Progress {
     fn draw(&mut self, terminal: &Terminal) -> Result<bool, ReplayFault>
         requires kept { redraws terminal.now ≡ false → IsScreenOf (state_of terminal.now) self.old.screen.items }
         ensures drawn { OnOk result (IsScreenOf (state_of terminal.now) self.new.screen.items) }
-        ensures told { IfOk result (λ is_new. new_screen self.old.screen.items self.new.screen.items ≡ (if is_new then self.new.screen.items else [])) }
+        ensures printed { IfOk result (λ is_new. new_screen self.old.screen.items self.new.screen.items ≡ (if is_new then self.new.screen.items else [])) }
         ensures outputs { self.new.outputs ≡ self.old.outputs }
         ensures counts { self.new.counts ≡ self.old.counts }
         ensures pending { self.new.pending ≡ self.old.pending }

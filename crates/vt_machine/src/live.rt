@@ -109,7 +109,7 @@ impl<S: Store> Live<S> {
         let store = S::from_objects(alloc, accepted.objects())?;
         let levels = Levels::of_store(alloc, &store)?;
         let mut index = Index::new(alloc, accepted)?;
-        index.mark_quiet(&store, accepted.by_rank());
+        index.find_quiet(&store, accepted.by_rank());
         let working_set = working_set_of(accepted);
         Live::of_parts(alloc, store, levels, index, working_set)
     }
@@ -294,7 +294,7 @@ impl Live<SortedStore> {
         } = accepted.into_parts();
         let levels = Levels::of_depths(alloc, depths)?;
         let mut index = commands.with_listings(listings);
-        index.mark_quiet(&objects, &order);
+        index.find_quiet(&objects, &order);
         Live::of_parts(alloc, objects, levels, index, working_set)
     }
 

@@ -26,7 +26,7 @@ use Rattle.vt_effects.proofs.lemmas.looks.SameLook.{looks_are_kept}
 use Rattle.vt_effects.proofs.lemmas.stores.SameShape.{shapes_stay}
 use Rattle.vt_macros.specs.declared.index.Index.{Index}
 use Rattle.vt_macros.specs.declared.index.Span.{Span}
-use Rattle.vt_macros.specs.Indexes.{IsIndexOf, all_marked, command_in, marked_at, pieces_in}
+use Rattle.vt_macros.specs.Indexes.{IsIndexOf, are_quiet_events, command_in, is_quiet_event, pieces_in}
 use Rattle.vt_macros.specs.Machines.{Stuck, Spent, End, Sticks, or_sticks, store_of, events_of, raised, event_commands, joined_all, fault, follow_ups, run, total_budget}
 use Rattle.vt_macros.specs.QuietMacros.{is_unseen_of, is_unseen_for, is_unseen_in, is_quiet_at, are_quiet, is_quiet, is_quiet_in, AreQuiet, KeepsLook, QuietRunsKeepLooks}
 use Rattle.vt_macros.proofs.MacroTargetsExist.{all_append, all_flat}
@@ -53,25 +53,25 @@ all_map : {A : Type 0} (P Q : A → Type 0) (xs : List A) → ((x : A) → P x �
 all_map P Q [] of all = tt
 all_map P Q (x ∷ xs) of all = (of x all.0, all_map P Q xs of all.1)
 
--- ---- the commands of marked macros
+-- ---- the commands of quiet macros
 
-module _ (shape : Shape) (marks : List Bool) (quiet : AreQuiet shape marks) where
+module _ (shape : Shape) (known : List Bool) (quiet : AreQuiet shape known) where
   abbrev Quiet : Command → Type 0
-  Quiet command = is_quiet shape marks command ≡ true
+  Quiet command = is_quiet shape known command ≡ true
 
-  joined_quiet : (event : Listing) → is_quiet_at shape marks event ≡ true → AllByRecursion Quiet (event_commands shape event)
+  joined_quiet : (event : Listing) → is_quiet_at shape known event ≡ true → AllByRecursion Quiet (event_commands shape event)
   unfolding event_commands
   joined_quiet event is =
       all_flat Quiet (commands shape) (listed shape event)
-      (all_map (λ id. slice_index_or marks id false ≡ true) (λ id. AllByRecursion Quiet (commands shape id)) (listed shape event) quiet
-      (each (λ id. slice_index_or marks id false) (listed shape event) is))
+      (all_map (λ id. slice_index_or known id false ≡ true) (λ id. AllByRecursion Quiet (commands shape id)) (listed shape event) quiet
+      (each (λ id. slice_index_or known id false) (listed shape event) is))
 
-  pub all_joined_quiet : (raised : List Raised) → are_quiet shape marks raised ≡ true → AllByRecursion Quiet (joined_all shape raised)
+  pub all_joined_quiet : (raised : List Raised) → are_quiet shape known raised ≡ true → AllByRecursion Quiet (joined_all shape raised)
   all_joined_quiet raised are =
       all_flat Quiet (λ r. event_commands shape (listing_of r)) raised
-      (all_map (λ r. is_quiet_at shape marks (listing_of r) ≡ true) (λ r. AllByRecursion Quiet (event_commands shape (listing_of r))) raised
+      (all_map (λ r. is_quiet_at shape known (listing_of r) ≡ true) (λ r. AllByRecursion Quiet (event_commands shape (listing_of r))) raised
       (λ r is. joined_quiet (listing_of r) is)
-      (each (λ r. is_quiet_at shape marks (listing_of r)) raised are))
+      (each (λ r. is_quiet_at shape known (listing_of r)) raised are))
 
 -- ---- a quiet command
 
@@ -120,74 +120,74 @@ run_spent : (store : ObjectMap) (command : Command) (pending : List Command) →
 unfolding run
 run_spent store command pending = or_next (fault (shape_in store) command) store (Sticks Spent store) (λ id. refl)
 
-raised_quiet : (shape : Shape) (marks : List Bool) (store : ObjectMap) (command : Command) → is_quiet shape marks command ≡ true
-    → are_quiet shape marks (raised store command) ≡ true
+raised_quiet : (shape : Shape) (known : List Bool) (store : ObjectMap) (command : Command) → is_quiet shape known command ≡ true
+    → are_quiet shape known (raised store command) ≡ true
 unfolding raised
-raised_quiet shape marks store command is = by (is_ok (effect store command))
+raised_quiet shape known store command is = by (is_ok (effect store command))
   where
-    row : are_quiet shape marks (row_events command) ≡ true
-    row = second (is_unseen_in shape command) (are_quiet shape marks (row_events command)) is
+    row : are_quiet shape known (row_events command) ≡ true
+    row = second (is_unseen_in shape command) (are_quiet shape known (row_events command)) is
 
-    by : (b : Bool) → are_quiet shape marks (cond b (events_of store command) []) ≡ true
+    by : (b : Bool) → are_quiet shape known (cond b (events_of store command) []) ≡ true
     by true =
-        subst (λ (raised : List Raised). are_quiet shape marks raised ≡ true)
-        (sym (row_alone shape store command (first (is_unseen_in shape command) (are_quiet shape marks (row_events command)) is))) row
+        subst (λ (raised : List Raised). are_quiet shape known raised ≡ true)
+        (sym (row_alone shape store command (first (is_unseen_in shape command) (are_quiet shape known (row_events command)) is))) row
     by false = refl
 
-follow_quiet : (shape : Shape) (marks : List Bool) (store : ObjectMap) (command : Command) → AreQuiet shape marks → shape_in store ≡ shape
-    → is_quiet shape marks command ≡ true → AllByRecursion (λ c. is_quiet shape marks c ≡ true) (follow_ups store command)
+follow_quiet : (shape : Shape) (known : List Bool) (store : ObjectMap) (command : Command) → AreQuiet shape known → shape_in store ≡ shape
+    → is_quiet shape known command ≡ true → AllByRecursion (λ c. is_quiet shape known c ≡ true) (follow_ups store command)
 unfolding follow_ups
-follow_quiet shape marks store command quiet same is =
-    subst (λ (s : Shape). AllByRecursion (λ c. is_quiet shape marks c ≡ true) (joined_all s (raised store command))) (sym (shapes_stay store command ∙ same))
-    (all_joined_quiet shape marks quiet (raised store command) (raised_quiet shape marks store command is))
+follow_quiet shape known store command quiet same is =
+    subst (λ (s : Shape). AllByRecursion (λ c. is_quiet shape known c ≡ true) (joined_all s (raised store command))) (sym (shapes_stay store command ∙ same))
+    (all_joined_quiet shape known quiet (raised store command) (raised_quiet shape known store command is))
 
-quiet_run : (shape : Shape) (marks : List Bool) → AreQuiet shape marks → (left : ℕ) (store : ObjectMap) (pending : List Command) → shape_in store ≡ shape
-    → AllByRecursion (λ c. is_quiet shape marks c ≡ true) pending → HaveSameLook store (store_of (run left store pending))
-quiet_run shape marks quiet left store [] same all = same_look store _ (sym (ap store_of (run_none left store)))
-quiet_run shape marks quiet zero store (command ∷ pending) same all = run_spent store command pending
-quiet_run shape marks quiet (suc left) store (command ∷ pending) same all =
+quiet_run : (shape : Shape) (known : List Bool) → AreQuiet shape known → (left : ℕ) (store : ObjectMap) (pending : List Command) → shape_in store ≡ shape
+    → AllByRecursion (λ c. is_quiet shape known c ≡ true) pending → HaveSameLook store (store_of (run left store pending))
+quiet_run shape known quiet left store [] same all = same_look store _ (sym (ap store_of (run_none left store)))
+quiet_run shape known quiet zero store (command ∷ pending) same all = run_spent store command pending
+quiet_run shape known quiet (suc left) store (command ∷ pending) same all =
     let more = follow_ups store command ++ pending in
     let later : HaveSameLook (after store command) (store_of (run left (after store command) more)) =
-    quiet_run shape marks quiet left (after store command) more (shapes_stay store command ∙ same)
-    (all_append (λ c. is_quiet shape marks c ≡ true) (follow_ups store command) pending (follow_quiet shape marks store command quiet same all.0) all.1) in
+    quiet_run shape known quiet left (after store command) more (shapes_stay store command ∙ same)
+    (all_append (λ c. is_quiet shape known c ≡ true) (follow_ups store command) pending (follow_quiet shape known store command quiet same all.0) all.1) in
     let unseen : is_unseen_in (shape_in store) command ≡ true =
-    subst (λ (s : Shape). is_unseen_in s command ≡ true) (sym same) (first (is_unseen_in shape command) (are_quiet shape marks (row_events command)) all.0) in
+    subst (λ (s : Shape). is_unseen_in s command ≡ true) (sym same) (first (is_unseen_in shape command) (are_quiet shape known (row_events command)) all.0) in
     subst (λ (e : End). HaveSameLook store (store_of e)) (sym (run_step left store command pending))
     (or_next (fault (shape_in store) command) store (run left (after store command) more) (λ id. later id ∙ unseen_keeps store command unseen id))
 
 pub quiet_runs_keep_looks : QuietRunsKeepLooks
-quiet_runs_keep_looks store marks raised quiet are left =
-    quiet_run (shape_in store) marks quiet left store (joined_all (shape_in store) raised) refl (all_joined_quiet (shape_in store) marks quiet raised are)
+quiet_runs_keep_looks store known raised quiet are left =
+    quiet_run (shape_in store) known quiet left store (joined_all (shape_in store) raised) refl (all_joined_quiet (shape_in store) known quiet raised are)
 
 -- an event that triggers quiet macros alone
-pub listing_keeps : (store : ObjectMap) (marks : List Bool) (event : Listing) → AreQuiet (shape_in store) marks → is_quiet_at (shape_in store) marks event ≡ true
+pub listing_keeps : (store : ObjectMap) (known : List Bool) (event : Listing) → AreQuiet (shape_in store) known → is_quiet_at (shape_in store) known event ≡ true
     → (left : ℕ) → HaveSameLook store (store_of (run left store (event_commands (shape_in store) event)))
-listing_keeps store marks event quiet is left =
-    quiet_run (shape_in store) marks quiet left store (event_commands (shape_in store) event) refl (joined_quiet (shape_in store) marks quiet event is)
+listing_keeps store known event quiet is left =
+    quiet_run (shape_in store) known quiet left store (event_commands (shape_in store) event) refl (joined_quiet (shape_in store) known quiet event is)
 
 -- a command that keeps the look of its object, and whose events trigger quiet macros alone
-pub command_keeps : (store : ObjectMap) (marks : List Bool) (command : Command) (raised : List Raised) → AreQuiet (shape_in store) marks
-    → keeps_look store command ≡ true → raised ≡ events_of store command → are_quiet (shape_in store) marks raised ≡ true → KeepsLook store command
-command_keeps store marks command raised quiet keeps is are middle done id =
+pub command_keeps : (store : ObjectMap) (known : List Bool) (command : Command) (raised : List Raised) → AreQuiet (shape_in store) known
+    → keeps_look store command ≡ true → raised ≡ events_of store command → are_quiet (shape_in store) known raised ≡ true → KeepsLook store command
+command_keeps store known command raised quiet keeps is are middle done id =
     let leads : after store command ≡ middle = ap (left store) done in
     let same : shape_in middle ≡ shape_in store = ap shape_in (sym leads) ∙ shapes_stay store command in
-    let events : are_quiet (shape_in middle) marks (events_of store command) ≡ true =
-    subst (λ (s : Shape). are_quiet s marks (events_of store command) ≡ true) (sym same)
-    (subst (λ (r : List Raised). are_quiet (shape_in store) marks r ≡ true) is are) in
-    quiet_runs_keep_looks middle marks (events_of store command) (subst (λ (s : Shape). AreQuiet s marks) (sym same) quiet) events
+    let events : are_quiet (shape_in middle) known (events_of store command) ≡ true =
+    subst (λ (s : Shape). are_quiet s known (events_of store command) ≡ true) (sym same)
+    (subst (λ (r : List Raised). are_quiet (shape_in store) known r ≡ true) is are) in
+    quiet_runs_keep_looks middle known (events_of store command) (subst (λ (s : Shape). AreQuiet s known) (sym same) quiet) events
     (total_budget (shape_in middle) (events_of store command)) id
     ∙ subst (λ (m : ObjectMap). option_map look (finite.get m id) ≡ option_map look (finite.get store id)) leads (looks_are_kept store command keeps id)
 
--- ---- the marks of an index
+-- ---- the quiet macros of an index
 
--- no macro is quiet without a mark
-pub none_quiet : (shape : Shape) (marks : List Bool) → ((id : ℕ) → slice_index_or marks id false ≡ false) → AreQuiet shape marks
-none_quiet shape marks none id marked = absurd (no (slice_index_or marks id false) marked (none id))
+-- no macro is known to be quiet
+pub none_quiet : (shape : Shape) (known : List Bool) → ((id : ℕ) → slice_index_or known id false ≡ false) → AreQuiet shape known
+none_quiet shape known none id is = absurd (no (slice_index_or known id false) is (none id))
   where
     no : (b : Bool) → b ≡ true → b ≡ false → ⊥
     no b is never = cc
 
--- more marks leave quiet what is quiet
+-- a quiet command stays quiet with more quiet macros
 module _ (shape : Shape) (old new : List Bool) (more : (id : ℕ) → slice_index_or old id false ≡ true → slice_index_or new id false ≡ true) where
   all_more : {A : Type 0} (test next : A → Bool) (xs : List A) → ((x : A) → test x ≡ true → next x ≡ true) → list_all test xs ≡ true → list_all next xs ≡ true
   all_more test next [] of all = refl
@@ -207,64 +207,64 @@ module _ (shape : Shape) (old new : List Bool) (more : (id : ℕ) → slice_inde
   all_quiet_more : (cs : List Command) → AllByRecursion (λ c. is_quiet shape old c ≡ true) cs → AllByRecursion (λ c. is_quiet shape new c ≡ true) cs
   all_quiet_more cs all = all_map (λ c. is_quiet shape old c ≡ true) (λ c. is_quiet shape new c ≡ true) cs quiet_more all
 
-set_cases : (marks : List Bool) (at id : ℕ) → slice_index_or (set marks at true) id false ≡ true → (slice_index_or marks id false ≡ true) ⊎ (id ≡ at)
+set_cases : (known : List Bool) (at id : ℕ) → slice_index_or (set known at true) id false ≡ true → (slice_index_or known id false ≡ true) ⊎ (id ≡ at)
 set_cases [] at id is = inl is
-set_cases (mark ∷ marks) zero zero is = inr refl
-set_cases (mark ∷ marks) zero (suc id) is = inl is
-set_cases (mark ∷ marks) (suc at) zero is = inl is
-set_cases (mark ∷ marks) (suc at) (suc id) is = by (set_cases marks at id is)
+set_cases (m ∷ known) zero zero is = inr refl
+set_cases (m ∷ known) zero (suc id) is = inl is
+set_cases (m ∷ known) (suc at) zero is = inl is
+set_cases (m ∷ known) (suc at) (suc id) is = by (set_cases known at id is)
   where
-    by : (slice_index_or marks id false ≡ true) ⊎ (id ≡ at) → (slice_index_or marks id false ≡ true) ⊎ (suc id ≡ suc at)
+    by : (slice_index_or known id false ≡ true) ⊎ (id ≡ at) → (slice_index_or known id false ≡ true) ⊎ (suc id ≡ suc at)
     by (inl old) = inl old
     by (inr same) = inr (ap suc same)
 
-set_more : (marks : List Bool) (at id : ℕ) → slice_index_or marks id false ≡ true → slice_index_or (set marks at true) id false ≡ true
+set_more : (known : List Bool) (at id : ℕ) → slice_index_or known id false ≡ true → slice_index_or (set known at true) id false ≡ true
 set_more [] at id is = is
-set_more (mark ∷ marks) zero zero is = refl
-set_more (mark ∷ marks) zero (suc id) is = is
-set_more (mark ∷ marks) (suc at) zero is = is
-set_more (mark ∷ marks) (suc at) (suc id) is = set_more marks at id is
+set_more (m ∷ known) zero zero is = refl
+set_more (m ∷ known) zero (suc id) is = is
+set_more (m ∷ known) (suc at) zero is = is
+set_more (m ∷ known) (suc at) (suc id) is = set_more known at id is
 
-pub set_past : (marks : List Bool) (at : ℕ) → length marks ≤ at → set marks at true ≡ marks
+pub set_past : (known : List Bool) (at : ℕ) → length known ≤ at → set known at true ≡ known
 set_past [] at le = refl
-set_past (mark ∷ marks) zero le = absurd (omega (arith, le))
-set_past (mark ∷ marks) (suc at) le = ap (λ (rest : List Bool). mark ∷ rest) (set_past marks at (omega (arith, le)))
+set_past (m ∷ known) zero le = absurd (omega (arith, le))
+set_past (m ∷ known) (suc at) le = ap (λ (rest : List Bool). m ∷ rest) (set_past known at (omega (arith, le)))
 
-pub marked_quiet : (shape : Shape) (marks : List Bool) (at : ℕ) → AreQuiet shape marks → AllByRecursion (λ c. is_quiet shape marks c ≡ true) (commands shape at)
-    → AreQuiet shape (set marks at true)
-marked_quiet shape marks at quiet all id is =
-    all_quiet_more shape marks (set marks at true) (set_more marks at) (commands shape id) (by (set_cases marks at id is))
+pub added_quiet : (shape : Shape) (known : List Bool) (at : ℕ) → AreQuiet shape known → AllByRecursion (λ c. is_quiet shape known c ≡ true) (commands shape at)
+    → AreQuiet shape (set known at true)
+added_quiet shape known at quiet all id is =
+    all_quiet_more shape known (set known at true) (set_more known at) (commands shape id) (by (set_cases known at id is))
   where
-    by : (slice_index_or marks id false ≡ true) ⊎ (id ≡ at) → AllByRecursion (λ c. is_quiet shape marks c ≡ true) (commands shape id)
+    by : (slice_index_or known id false ≡ true) ⊎ (id ≡ at) → AllByRecursion (λ c. is_quiet shape known c ≡ true) (commands shape id)
     by (inl old) = quiet id old
-    by (inr same) = subst (λ (i : ℕ). AllByRecursion (λ c. is_quiet shape marks c ≡ true) (commands shape i)) (sym same) all
+    by (inr same) = subst (λ (i : ℕ). AllByRecursion (λ c. is_quiet shape known c ≡ true) (commands shape i)) (sym same) all
 
 -- the commands at the pieces of a macro are quiet
-pub pieces_quiet : (shape : Shape) (marks : List Bool) (found : Span → Option Command) (pieces : List Span) (cs : List Command) → map found pieces ≡ map Some cs
-    → list_all (λ piece. is_quiet_in shape marks (found piece)) pieces ≡ true → AllByRecursion (λ c. is_quiet shape marks c ≡ true) cs
-pieces_quiet shape marks found [] [] are all = tt
-pieces_quiet shape marks found [] (c ∷ cs) are all = absurd cc
-pieces_quiet shape marks found (piece ∷ pieces) [] are all = absurd cc
-pieces_quiet shape marks found (piece ∷ pieces) (c ∷ cs) are all =
+pub pieces_quiet : (shape : Shape) (known : List Bool) (found : Span → Option Command) (pieces : List Span) (cs : List Command) → map found pieces ≡ map Some cs
+    → list_all (λ piece. is_quiet_in shape known (found piece)) pieces ≡ true → AllByRecursion (λ c. is_quiet shape known c ≡ true) cs
+pieces_quiet shape known found [] [] are all = tt
+pieces_quiet shape known found [] (c ∷ cs) are all = absurd cc
+pieces_quiet shape known found (piece ∷ pieces) [] are all = absurd cc
+pieces_quiet shape known found (piece ∷ pieces) (c ∷ cs) are all =
     let head : found piece ≡ Some c = cc in
     let tail : map found pieces ≡ map Some cs = cc in
     let split = all in (
-      subst (λ (command : Option Command). is_quiet_in shape marks command ≡ true) head
-          (first (is_quiet_in shape marks (found piece)) (list_all (λ p. is_quiet_in shape marks (found p)) pieces) split),
-      pieces_quiet shape marks found pieces cs tail
-          (second (is_quiet_in shape marks (found piece)) (list_all (λ p. is_quiet_in shape marks (found p)) pieces) split),
+      subst (λ (command : Option Command). is_quiet_in shape known command ≡ true) head
+          (first (is_quiet_in shape known (found piece)) (list_all (λ p. is_quiet_in shape known (found p)) pieces) split),
+      pieces_quiet shape known found pieces cs tail
+          (second (is_quiet_in shape known (found piece)) (list_all (λ p. is_quiet_in shape known (found p)) pieces) split),
     )
 
--- the marks of an index speak of the macros that the objects list
-pub marked_quiet_at : (shape : Shape) (index : Index) (event : Listing) → IsIndexOf shape index → marked_at index event ≡ is_quiet_at shape index.quiet.items event
-marked_quiet_at shape index event indexed = ap (list_all (λ id. slice_index_or index.quiet.items id false)) (indexed.listings_are event)
+-- the quiet macros of an index at the events of the objects
+pub known_quiet_at : (shape : Shape) (index : Index) (event : Listing) → IsIndexOf shape index → is_quiet_event index event ≡ is_quiet_at shape index.quiet.items event
+known_quiet_at shape index event indexed = ap (list_all (λ id. slice_index_or index.quiet.items id false)) (indexed.listings_are event)
 
-pub all_marked_quiet : (shape : Shape) (index : Index) (raised : List Raised) → IsIndexOf shape index → all_marked index raised ≡ are_quiet shape index.quiet.items raised
-all_marked_quiet shape index [] indexed = refl
-all_marked_quiet shape index (r ∷ raised) indexed =
-    ap₂ (λ (a b : Bool). a && b) (marked_quiet_at shape index (listing_of r) indexed) (all_marked_quiet shape index raised indexed)
+pub all_known_quiet : (shape : Shape) (index : Index) (raised : List Raised) → IsIndexOf shape index → are_quiet_events index raised ≡ are_quiet shape index.quiet.items raised
+all_known_quiet shape index [] indexed = refl
+all_known_quiet shape index (r ∷ raised) indexed =
+    ap₂ (λ (a b : Bool). a && b) (known_quiet_at shape index (listing_of r) indexed) (all_known_quiet shape index raised indexed)
 
--- an index with other listings, and without marks
+-- an index with other listings, and without quiet macros
 pub with_listings_is : (shape : Shape) (old new : Index) (listings : Groups) → new ≡ record old { listings = listings; quiet = new.quiet }
     → ((id : ℕ) → slice_index_or new.quiet.items id false ≡ false) → AreListings shape listings
     → ((id : ℕ) → map (command_in old) (pieces_in old id) ≡ map Some (commands shape id)) → IsIndexOf shape new
@@ -274,14 +274,14 @@ with_listings_is shape old new listings is none listed commands =
     record { listings_are = listed; commands_are = commands; quiet_are = none_quiet shape quiet.items none } in
     subst (IsIndexOf shape) (sym is) made
 
--- an index with one more mark
-pub marked_is : (shape : Shape) (old new : Index) (id : ℕ) → IsIndexOf shape old → new ≡ record old { quiet = new.quiet } → new.quiet.items ≡ set old.quiet.items id true
+-- an index with one more quiet macro
+pub added_is : (shape : Shape) (old new : Index) (id : ℕ) → IsIndexOf shape old → new ≡ record old { quiet = new.quiet } → new.quiet.items ≡ set old.quiet.items id true
     → list_all (λ piece. is_quiet_in shape old.quiet.items (command_in old piece)) (pieces_in old id) ≡ true → IsIndexOf shape new
-marked_is shape old new id indexed is marks all =
+added_is shape old new id indexed is known all =
     let quiet = new.quiet in
     let are : AreQuiet shape quiet.items =
-    subst (AreQuiet shape) (sym marks)
-    (marked_quiet shape old.quiet.items id indexed.quiet_are (pieces_quiet shape old.quiet.items (command_in old) (pieces_in old id) (commands shape id) (indexed.commands_are id) all)) in
+    subst (AreQuiet shape) (sym known)
+    (added_quiet shape old.quiet.items id indexed.quiet_are (pieces_quiet shape old.quiet.items (command_in old) (pieces_in old id) (commands shape id) (indexed.commands_are id) all)) in
     let made : IsIndexOf shape (record old { quiet = quiet }) =
     record { listings_are = indexed.listings_are; commands_are = indexed.commands_are; quiet_are = are } in
     subst (IsIndexOf shape) (sym is) made

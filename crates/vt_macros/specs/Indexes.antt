@@ -28,14 +28,14 @@ command_in index span = command_at (in_span index.bytes.items span)
 abbrev pub pieces_in : Index → ℕ → List Span
 pieces_in index id = in_span index.pieces.items (slice_index_or index.macros.items id no_span)
 
--- whether all macros that the index has at an event are marked
-abbrev pub marked_at : Index → Listing → Bool
-marked_at index event = list_all (λ id. slice_index_or index.quiet.items id false) (macros_of_event index.listings event)
+-- whether the index knows all macros that it has at an event to be quiet
+abbrev pub is_quiet_event : Index → Listing → Bool
+is_quiet_event index event = list_all (λ id. slice_index_or index.quiet.items id false) (macros_of_event index.listings event)
 
-abbrev pub all_marked : Index → List Raised → Bool
-all_marked index raised = list_all (λ r. marked_at index (listing_of r)) raised
+abbrev pub are_quiet_events : Index → List Raised → Bool
+are_quiet_events index raised = list_all (λ r. is_quiet_event index (listing_of r)) raised
 
--- The index has the listed macros of each event, the commands of each macro, and marks of quiet macros alone.
+-- The index has the listed macros of each event, the commands of each macro, and knows quiet macros alone to be quiet.
 pub record IsIndexOf (shape : Shape) (index : Index) : Type 0 where
   pub listings_are : AreListings shape index.listings
   pub commands_are : (id : ℕ) → map (command_in index) (pieces_in index id) ≡ map Some (commands shape id)

@@ -29,25 +29,25 @@ is_unseen_for shape command (Some id) = is_unseen_of command (kind_at shape id)
 abbrev pub is_unseen_in : Shape → Command → Bool
 is_unseen_in shape command = is_unseen_for shape command (object_of command)
 
--- whether all macros that run at an event are marked
+-- whether all macros that run at an event are known to be quiet
 abbrev pub is_quiet_at : Shape → List Bool → Listing → Bool
-is_quiet_at shape marks event = list_all (λ id. slice_index_or marks id false) (listed shape event)
+is_quiet_at shape known event = list_all (λ id. slice_index_or known id false) (listed shape event)
 
 abbrev pub are_quiet : Shape → List Bool → List Raised → Bool
-are_quiet shape marks raised = list_all (λ r. is_quiet_at shape marks (listing_of r)) raised
+are_quiet shape known raised = list_all (λ r. is_quiet_at shape known (listing_of r)) raised
 
--- whether a command writes no field in a text, and triggers marked macros alone
+-- whether a command writes no field in a text, and triggers macros alone that are known to be quiet
 abbrev pub is_quiet : Shape → List Bool → Command → Bool
-is_quiet shape marks command = is_unseen_in shape command && are_quiet shape marks (row_events command)
+is_quiet shape known command = is_unseen_in shape command && are_quiet shape known (row_events command)
 
 -- the command of a macro's bytes, if they are one
 abbrev pub is_quiet_in : Shape → List Bool → Option Command → Bool
-is_quiet_in shape marks None = false
-is_quiet_in shape marks (Some command) = is_quiet shape marks command
+is_quiet_in shape known None = false
+is_quiet_in shape known (Some command) = is_quiet shape known command
 
--- Each marked macro has quiet commands alone.
+-- Each macro known to be quiet has quiet commands alone.
 abbrev pub AreQuiet : Shape → List Bool → Type 0
-AreQuiet shape marks = (id : ℕ) → slice_index_or marks id false ≡ true → AllByRecursion (λ command. is_quiet shape marks command ≡ true) (commands shape id)
+AreQuiet shape known = (id : ℕ) → slice_index_or known id false ≡ true → AllByRecursion (λ command. is_quiet shape known command ≡ true) (commands shape id)
 
 -- The runs of events keep the look of a store, however many steps are left.
 abbrev pub RunsKeepLook : ObjectMap → List Raised → Type 0
@@ -59,5 +59,5 @@ KeepsLook store command = (middle : ObjectMap) → effect store command ≡ Ok m
 
 -- Events that trigger quiet macros alone keep the look of a store.
 abbrev pub QuietRunsKeepLooks : Type 0
-QuietRunsKeepLooks = (store : ObjectMap) (marks : List Bool) (raised : List Raised) → AreQuiet (shape_in store) marks
-    → are_quiet (shape_in store) marks raised ≡ true → RunsKeepLook store raised
+QuietRunsKeepLooks = (store : ObjectMap) (known : List Bool) (raised : List Raised) → AreQuiet (shape_in store) known
+    → are_quiet (shape_in store) known raised ≡ true → RunsKeepLook store raised

@@ -69,7 +69,7 @@ impl Index {
         Ok(index)
     }
 
-    /// Returns the index with its listings replaced, and without marks of quiet macros.
+    /// Returns the index with its listings replaced, and without quiet macros.
     pub fn with_listings(mut self, listings: Listings) -> Index
         ensures rest { result ≡ record self { listings = listings; quiet = result.quiet } }
         ensures quiet { (id : ℕ) → slice_index_or result.quiet.items id false ≡ false }

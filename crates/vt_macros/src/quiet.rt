@@ -4,7 +4,7 @@ ghost use Rattle.std.specs.Prelude.{◌≡◌, true, false, set, slice_index_or}
 ghost use Rattle.std.specs.List.{list_all};
 ghost use Rattle.vt_verify.specs.Triggers.{listing};
 ghost use Rattle.vt_effects.specs.Soundness.{shape_in};
-ghost use Rattle.vt_macros.specs.Indexes.{IsIndexOf, all_marked, command_in, marked_at, pieces_in};
+ghost use Rattle.vt_macros.specs.Indexes.{IsIndexOf, are_quiet_events, command_in, is_quiet_event, pieces_in};
 ghost use Rattle.vt_macros.specs.QuietMacros as quiet;
 
 use crate::index::{Index, Span};
@@ -12,49 +12,50 @@ use vt_effects::writes_unseen;
 use vt_objects::{Command, ObjectId, Raised, Store, row_events};
 
 impl Index {
-    /// Marks macros of `order` as quiet, each if all its commands write no field that a screen's text shows, and trigger
-    /// marked macros alone. With each macro after those that it triggers, all quiet macros are marked.
-    pub fn mark_quiet<S: Store>(&mut self, store: &S, order: &[u8])
+    /// Looks for quiet macros in `order`: a macro is quiet if its commands write no field that a screen's text shows, and
+    /// trigger macros alone that are known to be quiet. In the order of ranks, each macro after those that it triggers,
+    /// none is missed; no contract says so.
+    pub fn find_quiet<S: Store>(&mut self, store: &S, order: &[u8])
         requires { IsIndexOf (shape_in (S.contents store.now)) self.old }
         ensures { IsIndexOf (shape_in (S.contents store.now)) self.new }
     {
         for id in order {
             if self.is_quiet_macro(store, *id) {
-                self.mark(*id);
+                self.add_quiet(*id);
             }
         }
     }
 
-    /// Whether events trigger marked macros alone.
+    /// Whether events trigger macros alone that are known to be quiet.
     pub fn are_quiet(&self, raised: &[Raised]) -> bool
-        ensures { result ≡ all_marked self.now raised.now }
+        ensures { result ≡ are_quiet_events self.now raised.now }
     {
         raised
             .iter()
             .all(|event| self.is_quiet_at(event.id, event.event.number()))
     }
 
-    /// Whether an event, by its number, triggers marked macros alone.
+    /// Whether an event, by its number, triggers macros alone that are known to be quiet.
     pub fn is_quiet_at(&self, id: ObjectId, event: u8) -> bool
-        ensures { result ≡ marked_at self.now (listing id event) }
+        ensures { result ≡ is_quiet_event self.now (listing id event) }
     {
         self.macros_at(id, event)
             .iter()
-            .all(|id| self.is_marked(*id))
+            .all(|id| self.is_known_quiet(*id))
     }
 
-    fn is_marked(&self, id: u8) -> bool
+    fn is_known_quiet(&self, id: u8) -> bool
         ensures { result ≡ slice_index_or self.now.quiet.items id false }
     {
         match self.quiet.get(usize::from(id)) {
-            Some(mark) => *mark,
+            Some(is_quiet) => *is_quiet,
             None => false,
         }
     }
 
-    fn mark(&mut self, id: u8)
+    fn add_quiet(&mut self, id: u8)
         ensures rest { self.new ≡ record self.old { quiet = self.new.quiet } }
-        ensures marks { self.new.quiet.items ≡ set self.old.quiet.items id true }
+        ensures known { self.new.quiet.items ≡ set self.old.quiet.items id true }
     {
         let index = usize::from(id);
         if index < self.quiet.len() {
@@ -82,7 +83,7 @@ impl Index {
         }
     }
 
-    /// Whether a command writes no field that a screen's text shows, and triggers marked macros alone.
+    /// Whether a command writes no field that a screen's text shows, and triggers macros alone that are known to be quiet.
     fn is_quiet<S: Store>(&self, store: &S, command: &Command<'_>) -> bool
         requires { IsIndexOf (shape_in (S.contents store.now)) self.now }
         ensures { result ≡ quiet.is_quiet (shape_in (S.contents store.now)) self.now.quiet.items command.now }

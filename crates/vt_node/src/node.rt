@@ -127,7 +127,7 @@ impl Node {
     ) -> Result<Option<(usize, u8)>, OutOfMemory>
         ensures same { self.new ≡ record self.old { tp_spare = self.new.tp_spare } }
         ensures ready { OnOk result (HasCapacityFor tp.protocol (tp_frame self.old.claims.own frame.now) self.new.tp_spare) }
-        ensures told { IfOk result (λ told. told ≡ size_and_first_byte
+        ensures completed { IfOk result (λ completed. completed ≡ size_and_first_byte
             (stepped tp.protocol now (alive now (finite.get self.old.tp (source_of frame.now))) (tp_frame self.old.claims.own frame.now)).message) }
     {
         self.tp.prepare(now, frame)
@@ -142,7 +142,7 @@ impl Node {
     ) -> Result<Option<(usize, u8)>, OutOfMemory>
         ensures same { self.new ≡ record self.old { etp_spare = self.new.etp_spare } }
         ensures ready { OnOk result (HasCapacityFor etp.protocol (etp_frame self.old.claims.own frame.now) self.new.etp_spare) }
-        ensures told { IfOk result (λ told. told ≡ size_and_first_byte
+        ensures completed { IfOk result (λ completed. completed ≡ size_and_first_byte
             (stepped etp.protocol now (alive now (finite.get self.old.etp (source_of frame.now))) (etp_frame self.old.claims.own frame.now)).message) }
     {
         self.etp.prepare(now, frame)

@@ -8,7 +8,7 @@ ghost use Rattle.vt_can.specs.lines.Actions.{action_value};
 ghost use Rattle.vt_server.specs.operator.ActionContracts.{ActionKeepsLook, IsActedOn, WouldBeRefused};
 ghost use Rattle.vt_machine.specs.Replacements.{AreReplacements};
 ghost use Rattle.vt_server.specs.message.Judgements.{IsJudgement, IsEnded, with_replaced};
-ghost use Rattle.vt_server.specs.shown.Screens.{HasSameLook};
+ghost use Rattle.vt_server.specs.shown.Screens.{KeepsPoolLook};
 ghost use Rattle.vt_server.specs.state.AddressViews.{raised_on};
 ghost use Rattle.vt_server.specs.state.AddressStates.{no_content, with_piece};
 ghost use Rattle.vt_node.specs.AddressFunctions.{with_at};
@@ -119,7 +119,7 @@ impl PoolTable {
     /// Whether a command leaves what the text of a screen shows of the set at an address. If true, the screen is the same after
     /// `apply`.
     pub(crate) fn keeps_look(&self, address: u8, command: &Command<'_>) -> bool
-        ensures { result ≡ true → HasSameLook (content_of self.now address).pool (content_after command.now (content_of self.now address)).pool }
+        ensures { result ≡ true → KeepsPoolLook (content_of self.now address).pool (content_after command.now (content_of self.now address)).pool }
     {
         if deletes(command) {
             return false;

@@ -65,7 +65,7 @@ command_items events command =
 
 -- The events at which macros run, and the graph of the macros: the group at an event's index has the macros of the event,
 -- and each macro has the items of its commands.
-pub record AreTriggers (shape : Shape) (events : List Listing) (graph : Graph) : Type 0 where
+pub record IsTriggerGraph (shape : Shape) (events : List Listing) (graph : Graph) : Type 0 where
   pub events_are : events ≡ listed_events shape
   pub groups : lists graph.groups ≡ map (listed shape) events
   pub nodes : (id : ℕ) → id < 256 → items_of graph id ≡ flat_map (command_items events) (commands shape id)

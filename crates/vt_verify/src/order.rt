@@ -5,11 +5,11 @@ ghost use Rattle.vt_kinds.specs.Records.{seen};
 ghost use Rattle.vt_rank.specs.Paths.{AreRanks};
 ghost use Rattle.vt_stores.specs.Shapes.{shape_of, fixed};
 ghost use Rattle.vt_verify.specs.Triggers.{run_by_name};
-ghost use Rattle.vt_verify.specs.TriggerGraphs.{AreTriggers};
+ghost use Rattle.vt_verify.specs.TriggerGraphs.{IsTriggerGraph};
 ghost use Rattle.vt_verify.specs.Orders.{named_macros, IsByRank};
 
 use crate::commands::named_macro;
-use crate::triggers::Triggers;
+use crate::triggers::TriggerGraph;
 use std::alloc::{AllocError, Global};
 use vt_objects::{Object, ObjectId, SortedStore};
 use vt_rank::Ranks;
@@ -18,10 +18,10 @@ use vt_rank::Ranks;
 pub(crate) fn by_rank(
     alloc: Global,
     objects: &SortedStore,
-    triggers: &Triggers,
+    triggers: &TriggerGraph,
     ranks: &Ranks,
 ) -> Result<Vec<u8>, AllocError>
-    requires triggers { AreTriggers (shape_of objects.now) triggers.now.events.keys triggers.now.graph }
+    requires triggers { IsTriggerGraph (shape_of objects.now) triggers.now.events.keys triggers.now.graph }
     requires ranks { AreRanks triggers.now.graph ranks.now }
     ensures { IfOk result (λ order. IsByRank (shape_of objects.now) order.items) }
 {

@@ -9,7 +9,7 @@ ghost use Rattle.vt_rank.specs.Graphs.{lists};
 ghost use Rattle.vt_stores.specs.Shapes.{shape_of, fixed_at};
 ghost use Rattle.vt_verify.specs.Macros.{macro_bytes_in, macro_command, commands_of, commands};
 ghost use Rattle.vt_verify.specs.Triggers.{listing, is_mask, masks, changes_mask};
-ghost use Rattle.vt_verify.specs.TriggerGraphs.{AreTriggers, command_items, group_of_event, groups_of};
+ghost use Rattle.vt_verify.specs.TriggerGraphs.{IsTriggerGraph, command_items, group_of_event, groups_of};
 ghost use Rattle.vt_verify.specs.Rules as rules;
 
 use crate::commands::{macro_command, named_macro};
@@ -22,16 +22,16 @@ use vt_rank::{Graph, Item};
 
 /// The events at which macros run, and the graph of the macros. The group at an event's index has its macros.
 #[derive(Drop)]
-pub(crate) struct Triggers {
+pub(crate) struct TriggerGraph {
     pub(crate) events: IndexSet<Listing>,
     pub(crate) graph: Graph,
 }
 
-impl Triggers {
+impl TriggerGraph {
     /// The triggers of the macros of some objects.
-    pub(crate) fn of_objects(alloc: Global, objects: &SortedStore) -> Result<Triggers, AllocError>
+    pub(crate) fn of_objects(alloc: Global, objects: &SortedStore) -> Result<TriggerGraph, AllocError>
         requires { rules.cut_short (shape_of objects.now) ≡ None }
-        ensures { IfOk result (λ t. AreTriggers (shape_of objects.now) t.events.keys t.graph) }
+        ensures { IfOk result (λ t. IsTriggerGraph (shape_of objects.now) t.events.keys t.graph) }
     {
         let (events, groups) = listed_events(alloc, objects)?;
         let nodes = nodes(alloc, objects, &events)?;
@@ -41,7 +41,7 @@ impl Triggers {
             groups,
             most,
         };
-        Ok(Triggers { events, graph })
+        Ok(TriggerGraph { events, graph })
     }
 }
 

@@ -7,7 +7,7 @@ ghost use Rattle.vt_rank.specs.Paths.{AreRanks, HasNoCircle};
 ghost use Rattle.vt_stores.specs.Shapes.{shape_of};
 ghost use Rattle.vt_verify.specs.Budgets.{MacroCostsAreTotals};
 ghost use Rattle.vt_chains.specs.Depths.{HasDepths};
-ghost use Rattle.vt_verify.specs.TriggerGraphs.{AreTriggers};
+ghost use Rattle.vt_verify.specs.TriggerGraphs.{IsTriggerGraph};
 ghost use Rattle.vt_verify.specs.Updates.{updated};
 ghost use Rattle.vt_verify.specs.Rules.{IsAcceptable, IsVerified, IsRefused, IsWantOfMemory, HoldBefore, ReferencesAreThere, ChainsAreShort, MacrosAreWhole, TargetsAreThere, AttributesAreThere, TriggersAreNoCircle, BudgetsAreWithin};
 ghost use Rattle.vt_chains.specs.Limits.{terminal};
@@ -21,7 +21,7 @@ use crate::reference::Test;
 use crate::references::{all_stand, missing, wrong_kind};
 use crate::refusal::Refusal;
 use crate::targets::failing_target;
-use crate::triggers::Triggers;
+use crate::triggers::TriggerGraph;
 use std::alloc::Global;
 use vt_chains::{Limits, TERMINAL_LIMITS, find_depths};
 use vt_objects::{Kind, ObjectId, SortedStore, Store};
@@ -69,7 +69,7 @@ fn accept(alloc: Global, objects: SortedStore) -> Result<Accepted, Refusal>
     let depths = check_inclusions(alloc, &objects, TERMINAL_LIMITS)?;
     check_macros(&objects)?;
     check_targets(&objects)?;
-    let triggers = Triggers::of_objects(alloc, &objects)?;
+    let triggers = TriggerGraph::of_objects(alloc, &objects)?;
     let ranks = check_circles(&objects, &triggers)?;
     let costs = check_costs(&objects, &triggers, &ranks, TERMINAL_LIMITS)?;
     let order = by_rank(alloc, &objects, &triggers, &ranks)?;
@@ -216,9 +216,9 @@ fn refuse_target(objects: &SortedStore) -> Result<(), Refusal>
     }
 }
 
-fn check_circles(objects: &SortedStore, triggers: &Triggers) -> Result<Ranks, Refusal>
+fn check_circles(objects: &SortedStore, triggers: &TriggerGraph) -> Result<Ranks, Refusal>
     requires before { HoldBefore terminal objects.now TriggersAreNoCircle }
-    requires triggers { AreTriggers (shape_of objects.now) triggers.now.events.keys triggers.now.graph }
+    requires triggers { IsTriggerGraph (shape_of objects.now) triggers.now.events.keys triggers.now.graph }
     ensures ok { OnOk result (HoldBefore terminal objects.now BudgetsAreWithin) }
     ensures ranks { IfOk result (AreRanks triggers.now.graph) }
     ensures refused { IfErr result (IsRefused terminal objects.now) }
@@ -232,13 +232,13 @@ fn check_circles(objects: &SortedStore, triggers: &Triggers) -> Result<Ranks, Re
 
 fn check_costs(
     objects: &SortedStore,
-    triggers: &Triggers,
+    triggers: &TriggerGraph,
     ranks: &Ranks,
     limits: Limits,
 ) -> Result<Costs, Refusal>
     requires stored { AreStored objects.now }
     requires before { HoldBefore limits objects.now BudgetsAreWithin }
-    requires triggers { AreTriggers (shape_of objects.now) triggers.now.events.keys triggers.now.graph }
+    requires triggers { IsTriggerGraph (shape_of objects.now) triggers.now.events.keys triggers.now.graph }
     requires ranks { AreRanks triggers.now.graph ranks.now }
     ensures ok { OnOk result (IsAcceptable limits objects.now) }
     ensures costs { IfOk result (AreCosts triggers.now.graph) }

@@ -14,7 +14,7 @@ use Rattle.vt_machine.specs.OperatorEntries.{enter_text}
 use Rattle.vt_machine.specs.OperatorActions.{ActionResult, ComesTo, WouldRefuse}
 use Rattle.vt_server.specs.state.AddressStates.{SetPool}
 use Rattle.vt_server.specs.Terminals.{State, after_acts, sent_by_acts}
-use Rattle.vt_server.specs.shown.Screens.{HasSameLook}
+use Rattle.vt_server.specs.shown.Screens.{KeepsPoolLook}
 use Rattle.vt_node.specs.AddressFunctions.{with_at}
 use Rattle.vt_shown.specs.ShownElements.{IsShown}
 use Rattle.vt_machine.specs.SetStates.{active_in}
@@ -47,7 +47,7 @@ pub record IsActedOn (old : ℕ → SetPool) (address : ℕ) (action : ActionVal
 
 -- An action on a set keeps the look of its pool, however it ends.
 abbrev pub ActionKeepsLook : Option SetState → ActionValue → Type 0
-ActionKeepsLook old action = (result : Option (Result Acted OperatorRefusal)) (new : Option SetState) → PerformsAt old action result new → HasSameLook old new
+ActionKeepsLook old action = (result : Option (Result Acted OperatorRefusal)) (new : Option SetState) → PerformsAt old action result new → KeepsPoolLook old new
 
 -- the refusal of a text by the pool of a set, if it would be refused
 abbrev pub WouldBeRefused : Option SetState → ℕ → List ℕ → Option OperatorRefusal → Type 0

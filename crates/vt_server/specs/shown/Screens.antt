@@ -47,18 +47,18 @@ look_in None id = None
 look_in (Some state) id = Some (option_map look (finite.get state.objects id))
 
 -- Two pools look the same, or both are missing.
-abbrev pub HasSameLook : Option SetState → Option SetState → Type 0
-HasSameLook old new = (id : ℕ) → look_in new id ≡ look_in old id
+abbrev pub KeepsPoolLook : Option SetState → Option SetState → Type 0
+KeepsPoolLook old new = (id : ℕ) → look_in new id ≡ look_in old id
 
 -- The same set is shown, and its pool looks the same.
 pub record ShowsSame (old new : State) : Type 0 where
   pub shown : new.shown ≡ old.shown
-  pub pool : HasSameLook (pool_at old old.shown) (pool_at new new.shown)
+  pub pool : KeepsPoolLook (pool_at old old.shown) (pool_at new new.shown)
 
 -- The same set is shown, and its pool looks the same, unless it was removed.
 pub record ShowsWhatIsLeft (old new : State) : Type 0 where
   pub shown : new.shown ≡ old.shown
-  pub pool : is_some (pool_at new new.shown) ≡ true → HasSameLook (pool_at old old.shown) (pool_at new new.shown)
+  pub pool : is_some (pool_at new new.shown) ≡ true → KeepsPoolLook (pool_at old old.shown) (pool_at new new.shown)
 
 -- If a call leaves `redraws` false, it was false before the call, and the screen shows the same.
 abbrev pub TellsChanges : Terminal → Terminal → Type 0

@@ -100,13 +100,13 @@ impl Terminal {
                 Ok(PreparedFrame::Prepared(upload))
             }
             FrameMeaning::Tp => {
-                let told = self.node.prepare_tp(now, frame)?;
-                let upload = self.prepare_told(source, told)?;
+                let completed = self.node.prepare_tp(now, frame)?;
+                let upload = self.prepare_completed(source, completed)?;
                 Ok(PreparedFrame::Prepared(upload))
             }
             FrameMeaning::Etp => {
-                let told = self.node.prepare_etp(now, frame)?;
-                let upload = self.prepare_told(source, told)?;
+                let completed = self.node.prepare_etp(now, frame)?;
+                let upload = self.prepare_completed(source, completed)?;
                 Ok(PreparedFrame::Prepared(upload))
             }
             _ => Ok(PreparedFrame::Prepared(PreparedMessage::Nothing)),

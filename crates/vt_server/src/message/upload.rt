@@ -55,18 +55,18 @@ impl Terminal {
     }
 
     /// Does the work in advance for a message in packets, from its announced size and first byte.
-    pub(crate) fn prepare_told(
+    pub(crate) fn prepare_completed(
         &mut self,
         source: u8,
-        told: Option<(usize, u8)>,
+        completed: Option<(usize, u8)>,
     ) -> Result<PreparedMessage, OutOfMemory>
         ensures same { state_of self.new ≡ state_of self.old }
         ensures reserved { CapacityStays self.old self.new }
         ensures redraws { redraws self.new ≡ redraws self.old }
-        ensures ready { (message : Message) → told ≡ size_and_first_byte (Some message)
+        ensures ready { (message : Message) → completed ≡ size_and_first_byte (Some message)
             → IfOk result (FitsMessage (content_of self.new.contents source) (spare_of self.new.contents source) message.bytes) }
     {
-        match told {
+        match completed {
             Some((size, TRANSFER)) => {
                 self.contents.reserve(self.alloc, source, size)?;
                 Ok(PreparedMessage::Capacity)

@@ -64,7 +64,7 @@ fn input_in(line: &[u8]) -> Result<Input<'_>, Fail> {
 }
 
 // Whether the set at 80 is registered, has a pool, and is shown.
-fn told_of_set(terminal: &Terminal) -> [bool; 3] {
+fn state_of_set(terminal: &Terminal) -> [bool; 3] {
     [
         terminal.registered(0x80),
         terminal.set(0x80).is_some(),
@@ -81,10 +81,10 @@ fn step_through(
 ) -> Result<(), Fail> {
     for line in lines {
         let input = input_in(line)?;
-        let told = told_of_set(terminal);
+        let before = state_of_set(terminal);
         let count = outputs.len();
         if terminal.step(&input, outputs).is_err() {
-            assert_eq!(rt; told_of_set(terminal), told, "{line:?}");
+            assert_eq!(rt; state_of_set(terminal), before, "{line:?}");
             assert_eq!(rt; outputs.len(), count, "{line:?}");
             terminal.step(&input, outputs)?;
         }
@@ -146,10 +146,10 @@ fn expect_preloaded(rt: &(impl Abort + AllocGlobal)) -> Result<(), Fail> {
     };
     let mut terminal = Terminal::new(rt.alloc(), OWN, Name::from_raw(NAME));
     if terminal.preload(0x80, &accepted).is_err() {
-        assert_eq!(rt; told_of_set(&terminal), [false; 3]);
+        assert_eq!(rt; state_of_set(&terminal), [false; 3]);
         terminal.preload(0x80, &accepted)?;
     }
-    assert_eq!(rt; told_of_set(&terminal), [true; 3]);
+    assert_eq!(rt; state_of_set(&terminal), [true; 3]);
     Ok(())
 }
 

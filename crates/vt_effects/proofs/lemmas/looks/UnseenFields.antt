@@ -18,7 +18,7 @@ use Rattle.vt_kinds.specs.References.{is_member}
 use Rattle.vt_effects.specs.Fields.{with_field, with_fields}
 use Rattle.vt_effects.specs.Errors as errors
 use Rattle.vt_effects.specs.Changes.{left, if_passed, may_stand, takes, put_attribute, write_fields_if, changed}
-use Rattle.vt_effects.specs.Looks.{look, is_in_text, is_unseen, shows_width, shows_height, writes_unseen}
+use Rattle.vt_effects.specs.Looks.{look, is_in_text, is_unseen_attribute, shows_width, shows_height, writes_unseen}
 
 kind_stays : (field : Field) (n : ℕ) (o : Seen) → kind_of (with_field field n o) ≡ kind_of o
 kind_stays field n (objects.WorkingSet o) = refl
@@ -118,7 +118,7 @@ row : (kinds : Kinds) (test : Bool) (error : ℕ) (values : List (Field × ℕ))
 row kinds test error values o unseen =
     under (is_member kinds (kind_of o)) _ o (if_passed test error (with_fields values o)) (passed test error o (with_fields values o) (fields_unseen values o unseen))
 
-attribute_unseen : (named : Option Kind) (n : ℕ) (o : Seen) (found : Option Attribute) → is_unseen found (kind_of o) ≡ true
+attribute_unseen : (named : Option Kind) (n : ℕ) (o : Seen) (found : Option Attribute) → is_unseen_attribute found (kind_of o) ≡ true
     → look (left o (put_attribute found named n o)) ≡ look o
 attribute_unseen named n o None unseen = refl
 attribute_unseen named n o (Some a) unseen =

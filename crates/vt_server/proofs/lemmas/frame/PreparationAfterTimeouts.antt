@@ -85,32 +85,32 @@ abbrev IsEtp : FrameMeaning → Type 0
 IsEtp notices.Etp = Unit {0}
 IsEtp notice = ⊥
 
-told-ready : (m : Option Message) (content : SetPool) (spare : ℕ) (upload : PreparedMessage)
+completed-ready : (m : Option Message) (content : SetPool) (spare : ℕ) (upload : PreparedMessage)
     → ((message : Message) → size_and_first_byte m ≡ size_and_first_byte (Some message) → FitsMessage content spare message.bytes upload)
     → FitsCompleted content spare (message_to_terminal m) upload
-told-ready None content spare upload ready = tt
-told-ready (Some message) content spare upload ready = cases (eqb message.pgn ECU_TO_VT)
+completed-ready None content spare upload ready = tt
+completed-ready (Some message) content spare upload ready = cases (eqb message.pgn ECU_TO_VT)
   where
     cases : (b : Bool) → FitsCompleted content spare (cond b (Some message.bytes) None) upload
     cases true = ready message refl
     cases false = tt
 
 -- The terminal before, its node with reserved capacity, and the terminal after the work in advance for the upload.
-module _ (t : Terminal) (node : NodeState) (u : Terminal) (now q : ℕ) (n : FrameMeaning) (frame : Frame) (told : Option (ℕ × ℕ)) (upload : PreparedMessage)
+module _ (t : Terminal) (node : NodeState) (u : Terminal) (now q : ℕ) (n : FrameMeaning) (frame : Frame) (completed : Option (ℕ × ℕ)) (upload : PreparedMessage)
     (same : state_of u ≡ state_of (record t { node = node })) (reserved : CapacityStays (record t { node = node }) u) (at : q ≡ source_of frame)
-    (ready : (message : Message) → told ≡ size_and_first_byte (Some message) → FitsMessage (content_of u.contents q) (spare_of u.contents q) message.bytes upload) where
+    (ready : (message : Message) → completed ≡ size_and_first_byte (Some message) → FitsMessage (content_of u.contents q) (spare_of u.contents q) message.bytes upload) where
   abbrev b : ℕ
   b = source_of frame
 
-  message-ready : (m : Option Message) → told ≡ size_and_first_byte m → FitsCompleted (content_of u.contents b) (spare_of u.contents b) (message_to_terminal m) upload
+  message-ready : (m : Option Message) → completed ≡ size_and_first_byte m → FitsCompleted (content_of u.contents b) (spare_of u.contents b) (message_to_terminal m) upload
   message-ready m is =
-      told-ready m (content_of u.contents b) (spare_of u.contents b) upload
+      completed-ready m (content_of u.contents b) (spare_of u.contents b) upload
       (λ message e. subst (λ c. FitsMessage (content_of u.contents c) (spare_of u.contents c) message.bytes upload) at (ready message (is ∙ e)))
 
   pub prepared-tp : n ≡ notices.Tp → node ≡ record t.node { tp_spare = node.tp_spare } → HasCapacityFor tp.protocol (tp_frame t.node.claims.own frame) node.tp_spare
-      → told ≡ size_and_first_byte (stepped tp.protocol now (alive now (finite.get t.node.tp b)) (tp_frame t.node.claims.own frame)).message
+      → completed ≡ size_and_first_byte (stepped tp.protocol now (alive now (finite.get t.node.tp b)) (tp_frame t.node.claims.own frame)).message
       → FitsBeforeTimeouts (state_of t) u now n frame (readies.Prepared upload)
-  prepared-tp is rest spare told-is =
+  prepared-tp is rest spare completed-is =
       subst (λ m. FitsBeforeTimeouts (state_of t) u now m frame (readies.Prepared upload)) (sym is) (
         same ∙ ap (λ (k : NodeState). state_of (record t { node = k })) rest,
         (λ name e. subst IsTp e tt),
@@ -121,13 +121,13 @@ module _ (t : Terminal) (node : NodeState) (u : Terminal) (now q : ℕ) (n : Fra
         },
         subst (λ (k : NodeState). FitsCompleted (content_of u.contents b) (spare_of u.contents b)
             (message_to_terminal (stepped tp.protocol now (alive now (finite.get k.tp b)) (tp_frame k.claims.own frame)).message) upload) (sym (reserved.node ∙ rest))
-            (message-ready (stepped tp.protocol now (alive now (finite.get t.node.tp b)) (tp_frame t.node.claims.own frame)).message told-is),
+            (message-ready (stepped tp.protocol now (alive now (finite.get t.node.tp b)) (tp_frame t.node.claims.own frame)).message completed-is),
       )
 
   pub prepared-etp : n ≡ notices.Etp → node ≡ record t.node { etp_spare = node.etp_spare } → HasCapacityFor etp.protocol (etp_frame t.node.claims.own frame) node.etp_spare
-      → told ≡ size_and_first_byte (stepped etp.protocol now (alive now (finite.get t.node.etp b)) (etp_frame t.node.claims.own frame)).message
+      → completed ≡ size_and_first_byte (stepped etp.protocol now (alive now (finite.get t.node.etp b)) (etp_frame t.node.claims.own frame)).message
       → FitsBeforeTimeouts (state_of t) u now n frame (readies.Prepared upload)
-  prepared-etp is rest spare told-is =
+  prepared-etp is rest spare completed-is =
       subst (λ m. FitsBeforeTimeouts (state_of t) u now m frame (readies.Prepared upload)) (sym is) (
         same ∙ ap (λ (k : NodeState). state_of (record t { node = k })) rest,
         (λ name e. subst IsEtp e tt),
@@ -138,7 +138,7 @@ module _ (t : Terminal) (node : NodeState) (u : Terminal) (now q : ℕ) (n : Fra
         },
         subst (λ (k : NodeState). FitsCompleted (content_of u.contents b) (spare_of u.contents b)
             (message_to_terminal (stepped etp.protocol now (alive now (finite.get k.etp b)) (etp_frame k.claims.own frame)).message) upload) (sym (reserved.node ∙ rest))
-            (message-ready (stepped etp.protocol now (alive now (finite.get t.node.etp b)) (etp_frame t.node.claims.own frame)).message told-is),
+            (message-ready (stepped etp.protocol now (alive now (finite.get t.node.etp b)) (etp_frame t.node.claims.own frame)).message completed-is),
       )
 
 -- ---- the timeouts and closings keep the work right

@@ -21,7 +21,7 @@ use Rattle.vt_machine.specs.SetStates.{SetState, active_in}
 use Rattle.vt_machine.specs.OperatorActions.{ActionResult, Refused, Acts, ComesTo, holding, held, press, press_with, key_message, or_none, release, release_of}
 use Rattle.vt_server.specs.message.CommandEffects.{after_done, content_after, deletes, objects_after, state_after}
 use Rattle.vt_server.specs.operator.ActionContracts.{ActionKeepsLook, Comes, PerformsAt}
-use Rattle.vt_server.specs.shown.Screens.{HasSameLook}
+use Rattle.vt_server.specs.shown.Screens.{KeepsPoolLook}
 use Rattle.vt_server.specs.state.AddressStates.{SetPool, no_content}
 use Rattle.vt_server.proofs.lemmas.shown.SameScreen.{looks-some}
 
@@ -35,10 +35,10 @@ objects-look old command keeps = by (effect old command) refl
     by (Err bits) refused = λ id. refl
 
 pub command-look : (command : Command) (content : SetPool) (state : SetState) → content.pool ≡ Some state → deletes command ≡ false → KeepsLook state.objects command
-    → HasSameLook content.pool (content_after command content).pool
+    → KeepsPoolLook content.pool (content_after command content).pool
 command-look command content state at stays keeps =
-    subst (λ (b : Bool). HasSameLook content.pool (cond b no_content (record content { pool = option_map (state_after command) content.pool })).pool) (sym stays)
-    (subst (λ (pool : Option SetState). HasSameLook pool (option_map (state_after command) pool)) (sym at)
+    subst (λ (b : Bool). KeepsPoolLook content.pool (cond b no_content (record content { pool = option_map (state_after command) content.pool })).pool) (sym stays)
+    (subst (λ (pool : Option SetState). KeepsPoolLook pool (option_map (state_after command) pool)) (sym at)
     (looks-some state (state_after command state) (objects-look state.objects command keeps)))
 
 -- ---- actions

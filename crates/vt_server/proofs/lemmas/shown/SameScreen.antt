@@ -27,7 +27,7 @@ use Rattle.vt_server.specs.operator.ActionEffects.{action_on}
 use Rattle.vt_server.specs.state.AddressViews.{Act, AddressView, Hears, Rebinds, TpExpires, EtpExpires, SendingExpires, FallsSilent, outcome, unchanged, without_set, stays_under, after_change, after_claim_heard}
 use Rattle.vt_server.specs.state.AddressStates.{SetPool, AddressState, heard_at, no_content}
 use Rattle.vt_layout.proofs.ScreensOfLooks.{screens_show_looks}
-use Rattle.vt_server.specs.shown.Screens.{HasSameLook, look_in, IsScreenAt, IsScreenOfShown, KeepsScreen, ShowsSame, ShowsWhatIsLeft, TellsChanges}
+use Rattle.vt_server.specs.shown.Screens.{KeepsPoolLook, look_in, IsScreenAt, IsScreenOfShown, KeepsScreen, ShowsSame, ShowsWhatIsLeft, TellsChanges}
 use Rattle.vt_server.specs.States.{state_of}
 use Rattle.vt_server.specs.Steps.{before, changes, heard_at_source, acts, acted}
 use Rattle.vt_server.specs.Terminals.{State, pool_of, pool_at, part, put, after_act, after_acts}
@@ -57,23 +57,23 @@ use Rattle.vt_kinds.specs.Ids.{null_id}
 some-none : {A : Type 0} (x : A) → Some x ≡ None → ⊥
 some-none x is = none-some (sym is)
 
-pub look-is : (old new : Option SetState) → new ≡ old → HasSameLook old new
+pub look-is : (old new : Option SetState) → new ≡ old → KeepsPoolLook old new
 look-is old new is id = ap (λ (pool : Option SetState). look_in pool id) is
 
-look-then : (old mid new : Option SetState) → HasSameLook old mid → HasSameLook mid new → HasSameLook old new
+look-then : (old mid new : Option SetState) → KeepsPoolLook old mid → KeepsPoolLook mid new → KeepsPoolLook old new
 look-then old mid new first second id = second id ∙ first id
 
-look-some : (old new : Option SetState) → HasSameLook old new → is_some new ≡ true → is_some old ≡ true
+look-some : (old new : Option SetState) → KeepsPoolLook old new → is_some new ≡ true → is_some old ≡ true
 look-some None None same some = some
 look-some (Some old) new same some = refl
 look-some None (Some new) same some = absurd (some-none _ (same 0))
 
-pub looks-some : (old new : SetState) → HaveSameLook old.objects new.objects → HasSameLook (Some old) (Some new)
+pub looks-some : (old new : SetState) → HaveSameLook old.objects new.objects → KeepsPoolLook (Some old) (Some new)
 looks-some old new same id = ap (λ (o : Option Seen). Some o) (same id)
 
 -- ---- the text
 
-screen-same : (a : ℕ) (old new : Option SetState) (text : List ℕ) → HasSameLook old new → IsScreenAt a old text → IsScreenAt a new text
+screen-same : (a : ℕ) (old new : Option SetState) (text : List ℕ) → KeepsPoolLook old new → IsScreenAt a old text → IsScreenAt a new text
 screen-same a None None text same is = is
 screen-same a (Some old) (Some new) text same is =
     screens_show_looks a old.objects new.objects text
@@ -81,7 +81,7 @@ screen-same a (Some old) (Some new) text same is =
 screen-same a None (Some new) text same is = absurd (some-none _ (same 0))
 screen-same a (Some old) None text same is = absurd (none-some (same 0))
 
-text-same : (s t : State) (shown : Option ℕ) (text : List ℕ) → HasSameLook (pool_at s shown) (pool_at t shown) → IsScreenOfShown (pool_of s) shown text
+text-same : (s t : State) (shown : Option ℕ) (text : List ℕ) → KeepsPoolLook (pool_at s shown) (pool_at t shown) → IsScreenOfShown (pool_of s) shown text
     → IsScreenOfShown (pool_of t) shown text
 text-same s t None text same is = is
 text-same s t (Some a) text same is = screen-same a (pool_of s a) (pool_of t a) text same is
@@ -89,7 +89,7 @@ text-same s t (Some a) text same is = screen-same a (pool_of s a) (pool_of t a) 
 pub same-text : (s t : State) → ShowsSame s t → KeepsScreen s t
 same-text s t same text is =
     subst (λ (shown : Option ℕ). IsScreenOfShown (pool_of t) shown text) (sym same.shown)
-    (text-same s t s.shown text (subst (λ (shown : Option ℕ). HasSameLook (pool_at s s.shown) (pool_at t shown)) same.shown same.pool) is)
+    (text-same s t s.shown text (subst (λ (shown : Option ℕ). KeepsPoolLook (pool_at s s.shown) (pool_at t shown)) same.shown same.pool) is)
 
 pub shows-then : (s t u : State) → ShowsSame s t → ShowsSame t u → ShowsSame s u
 shows-then s t u first second = record {
@@ -98,28 +98,28 @@ shows-then s t u first second = record {
 }
 
 -- The shown pool looks the same.
-same-at : (s t : State) → t.shown ≡ s.shown → ((b : ℕ) → s.shown ≡ Some b → HasSameLook (pool_of s b) (pool_of t b)) → ShowsSame s t
+same-at : (s t : State) → t.shown ≡ s.shown → ((b : ℕ) → s.shown ≡ Some b → KeepsPoolLook (pool_of s b) (pool_of t b)) → ShowsSame s t
 same-at s t shown each = record {
   shown = shown;
-  pool = subst (λ (o : Option ℕ). HasSameLook (pool_at s s.shown) (pool_at t o)) (sym shown) (at s.shown refl);
+  pool = subst (λ (o : Option ℕ). KeepsPoolLook (pool_at s s.shown) (pool_at t o)) (sym shown) (at s.shown refl);
 }
   where
-    at : (o : Option ℕ) → s.shown ≡ o → HasSameLook (pool_at s o) (pool_at t o)
+    at : (o : Option ℕ) → s.shown ≡ o → KeepsPoolLook (pool_at s o) (pool_at t o)
     at None is = λ id. refl
     at (Some a) is = each a is
 
 -- All pools look the same.
-same-by : (s t : State) → t.shown ≡ s.shown → ((b : ℕ) → HasSameLook (pool_of s b) (pool_of t b)) → ShowsSame s t
+same-by : (s t : State) → t.shown ≡ s.shown → ((b : ℕ) → KeepsPoolLook (pool_of s b) (pool_of t b)) → ShowsSame s t
 same-by s t shown each = same-at s t shown (λ b is. each b)
 
 pools-other : (old new : ℕ → SetPool) (a : ℕ) (x : SetPool) → new ≡ with_at a x old → (b : ℕ) → b ≢ a → (new b).pool ≡ (old b).pool
 pools-other old new a x is b ne = ap (λ (k : ℕ → SetPool). (k b).pool) is ∙ ap (λ (k : SetPool). k.pool) (at-other a b old x ne)
 
-pools-look : (old new : ℕ → SetPool) (a : ℕ) (x : SetPool) → new ≡ with_at a x old → HasSameLook (old a).pool x.pool → (b : ℕ) → HasSameLook (old b).pool (new b).pool
+pools-look : (old new : ℕ → SetPool) (a : ℕ) (x : SetPool) → new ≡ with_at a x old → KeepsPoolLook (old a).pool x.pool → (b : ℕ) → KeepsPoolLook (old b).pool (new b).pool
 pools-look old new a x is same b =
     by_eq b a
-    (λ here. subst (λ q. HasSameLook (old q).pool (new q).pool) (sym here)
-    (subst (λ (pool : Option SetState). HasSameLook (old a).pool pool)
+    (λ here. subst (λ q. KeepsPoolLook (old q).pool (new q).pool) (sym here)
+    (subst (λ (pool : Option SetState). KeepsPoolLook (old a).pool pool)
     (sym (ap (λ (k : ℕ → SetPool). (k a).pool) is ∙ ap (λ (k : SetPool). k.pool) (at-own a old x))) same))
     (λ ne. look-is (old b).pool (new b).pool (pools-other old new a x is b ne))
 
@@ -129,7 +129,7 @@ other-shown shown a b other is here =
 
 module _ (t : Terminal) (contents : declared.PoolTable) (a : ℕ) (x : SetPool) (is : content_of contents ≡ with_at a x (content_of t.contents)) where
   -- One pool is replaced by one that looks the same.
-  pub same-look : HasSameLook (content_of t.contents a).pool x.pool → ShowsSame (state_of t) (state_of (record t { contents = contents }))
+  pub same-look : KeepsPoolLook (content_of t.contents a).pool x.pool → ShowsSame (state_of t) (state_of (record t { contents = contents }))
   same-look same =
       same-by (state_of t) (state_of (record t { contents = contents })) refl (pools-look (content_of t.contents) (content_of contents) a x is same)
 
@@ -179,7 +179,7 @@ refused-pool (Some p) action refusal (Some q) is = ap Some (refused-is p q (acti
 -- ---- pools unchanged or removed
 
 abbrev pub Stays : Option SetState → Option SetState → Type 0
-Stays old new = is_some new ≡ true → HasSameLook old new
+Stays old new = is_some new ≡ true → KeepsPoolLook old new
 
 gone : (old : Option SetState) → Stays old None
 gone old some = absurd (true≢false (sym some))
@@ -215,7 +215,7 @@ left-then s t u first second = record {
 left-all : (s t : State) → ShowsWhatIsLeft s t → ShownHasPool t → ShowsSame s t
 left-all s t left has = record { shown = left.shown; pool = cases t.shown refl has }
   where
-    cases : (o : Option ℕ) → t.shown ≡ o → HasPoolAt (pool_of t) o → HasSameLook (pool_at s s.shown) (pool_at t t.shown)
+    cases : (o : Option ℕ) → t.shown ≡ o → HasPoolAt (pool_of t) o → KeepsPoolLook (pool_at s s.shown) (pool_at t t.shown)
     cases None is there = look-is (pool_at s s.shown) (pool_at t t.shown) (ap (pool_at t) is ∙ ap (pool_at s) (sym is ∙ left.shown))
     cases (Some a) is there = left.pool (ap (λ o. is_some (pool_at t o)) is ∙ there)
 
@@ -319,6 +319,6 @@ line-kept s t u v now prepared lapses left has =
     same-text s v (shows-then s t v prepared (left-all t v (left-then t u v lapsing left) has))
 
 -- The whole step of an action: its effect and the choice of the shown set.
-pub told-through : (t m x : Terminal) → m ≡ x → TellsChanges t x → m.redraws ≡ false → ShowsSame (state_of t) (state_of m)
-told-through t m x is tells none =
+pub tells-through : (t m x : Terminal) → m ≡ x → TellsChanges t x → m.redraws ≡ false → ShowsSame (state_of t) (state_of m)
+tells-through t m x is tells none =
     subst (λ (y : Terminal). ShowsSame (state_of t) (state_of y)) (sym is) (tells (ap (λ (y : Terminal). y.redraws) (sym is) ∙ none)).1

@@ -18,7 +18,7 @@ use Rattle.vt_stores.specs.Stores.{Objects, IsRising}
 use Rattle.vt_verify.specs.Triggers.{listing, listed}
 use Rattle.vt_verify.specs.Rules.{IsFirstOver}
 use Rattle.vt_verify.specs.Rules.IsFirstOver.{Macro, Object}
-use Rattle.vt_verify.specs.TriggerGraphs.{AreTriggers, is_event_of, if_any, if_listed, event_numbers, listed_events, group_of_event}
+use Rattle.vt_verify.specs.TriggerGraphs.{IsTriggerGraph, is_event_of, if_any, if_listed, event_numbers, listed_events, group_of_event}
 use Rattle.vt_stores.proofs.SortedEntries.{three, both_true}
 use Rattle.vt_verify.proofs.lemmas.graphs.EventGroups.{rising_shape}
 use Rattle.vt_verify.proofs.lemmas.graphs.SameTriggers.{groups_at}
@@ -126,7 +126,7 @@ at_place q i [] k some = absurd cc
 at_place q i (e ∷ events) k some =
     place_case e events i q k (position_from (is_event_of q) (i + 1) events) (is_event_of q e) refl (at_place q (i + 1) events k) some
 
-module _ (shape : Shape) (events : List Listing) (g : Graph) (are : AreTriggers shape events g) where
+module _ (shape : Shape) (events : List Listing) (g : Graph) (are : IsTriggerGraph shape events g) where
   -- ---- groups within the list
 
   no_group : (k : ℕ) → length events ≤ k → group_cost g k ≡ 0
@@ -176,7 +176,7 @@ module _ (shape : Shape) (events : List Listing) (g : Graph) (are : AreTriggers 
 
 -- ---- the first object over the cap, for objects with rising IDs
 
-pub first_over : (objects : Objects) (events : List Listing) (g : Graph) → IsRising objects → AreTriggers (shape_of objects) events g
+pub first_over : (objects : Objects) (events : List Listing) (g : Graph) → IsRising objects → IsTriggerGraph (shape_of objects) events g
     → (steps k : ℕ) (raised : Listing) → slice_get events k ≡ Some raised → graphs.IsFirstOverCap g steps (over.Group k) → IsFirstOver steps (shape_of objects) raised.id
 first_over objects events g rising are steps k raised is first =
     let at = there events k raised is in

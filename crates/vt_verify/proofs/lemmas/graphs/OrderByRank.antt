@@ -7,7 +7,7 @@ use Rattle.vt_rank.specs.declared.graph.Graph.{Graph}
 use Rattle.vt_rank.specs.Paths.{AreRanks}
 use Rattle.vt_verify.specs.declared.listing.Listing.{Listing}
 use Rattle.vt_stores.specs.Shapes.{Shape}
-use Rattle.vt_verify.specs.TriggerGraphs.{AreTriggers}
+use Rattle.vt_verify.specs.TriggerGraphs.{IsTriggerGraph}
 use Rattle.vt_verify.specs.Orders.{named_macros, IsByRank}
 use Rattle.vt_verify.proofs.lemmas.graphs.SameTriggers.{triggered_is}
 
@@ -22,7 +22,7 @@ none_less key order front back m n sorted is h =
     let at_n = ap key (get_or-append-add front (m ∷ back) h.0 n ∙ h.2) in
     omega (arith, le, at_m, at_n)
 
-pub ranked : (shape : Shape) (events : List Listing) (graph : Graph) (ranks order macros : List ℕ) → AreTriggers shape events graph → AreRanks graph ranks
+pub ranked : (shape : Shape) (events : List Listing) (graph : Graph) (ranks order macros : List ℕ) → IsTriggerGraph shape events graph → AreRanks graph ranks
     → macros ≡ named_macros shape → IsPermutation macros order → IsNonDecreasingBy (λ m. slice_index ranks m) order → IsByRank shape order
 ranked shape events graph ranks order macros are rank is moved sorted = record {
   all = subst (λ (l : List ℕ). IsPermutation l order) is moved;

@@ -19,7 +19,7 @@ use Rattle.vt_verify.specs.Triggers.{listing, row_listings, changes_mask, masks,
 use Rattle.vt_verify.specs.Budgets as pools
 use Rattle.vt_verify.specs.Budgets.{total, hidden_cost, command_cost, macro_cost, budget}
 use Rattle.vt_verify.specs.Rules.{IsWithinBudget}
-use Rattle.vt_verify.specs.TriggerGraphs.{AreTriggers, group_of_event, groups_of, command_items}
+use Rattle.vt_verify.specs.TriggerGraphs.{IsTriggerGraph, group_of_event, groups_of, command_items}
 use Rattle.vt_verify.proofs.lemmas.graphs.SameTriggers.{everywhere, group_listed, groups_listed, groups_at, unnamed, no_items}
 
 -- ---- sums
@@ -55,7 +55,7 @@ module _ (cost : ℕ → ℕ) (g : Graph) where
   greatest_case (Some k) ks l is =
       ap (λ l. max (sum_by cost l) (greatest (group_total cost g) ks)) (sym (append-nil (group_of g k)) ∙ is)
 
-module _ (shape : Shape) (events : List Listing) (g : Graph) (are : AreTriggers shape events g) (cost : ℕ → ℕ) where
+module _ (shape : Shape) (events : List Listing) (g : Graph) (are : IsTriggerGraph shape events g) (cost : ℕ → ℕ) where
   greatest_is : (qs : List Listing) → greatest (group_total cost g) (groups_of events qs) ≡ greatest (total cost shape) qs
   greatest_is [] = refl
   greatest_is (q ∷ qs) =
@@ -100,7 +100,7 @@ module _ (shape : Shape) (events : List Listing) (g : Graph) (are : AreTriggers 
     | inr ge ↦ ap (sum_by (item_cost cost g)) (no_items g n ge) ∙ sym (ap (sum_by (command_cost cost shape)) (unnamed shape n ge))
   ]
 
-module _ (shape : Shape) (events : List Listing) (g : Graph) (are : AreTriggers shape events g) where
+module _ (shape : Shape) (events : List Listing) (g : Graph) (are : IsTriggerGraph shape events g) where
   -- ---- the costs of macros
 
   none_yet : (n : ℕ) → graphs.cost_within 0 g n ≡ pools.cost_within 0 shape n

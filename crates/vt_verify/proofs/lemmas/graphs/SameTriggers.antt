@@ -19,7 +19,7 @@ use Rattle.vt_stores.specs.Shapes.{Shape, Fixed, fixed_at}
 use Rattle.vt_verify.specs.Macros.{is_macro, commands_of, commands_in, commands}
 use Rattle.vt_verify.specs.Triggers.{listing, row_listings, changes_mask, hidden, masks, is_event, listed, listed_in, triggered_by, triggered}
 use Rattle.vt_verify.specs.Rules.{IsLeastCircle}
-use Rattle.vt_verify.specs.TriggerGraphs.{AreTriggers, is_event_of, has, if_any, if_listed, event_numbers, listed_events, group_of_event, groups_of, command_items, AreListings}
+use Rattle.vt_verify.specs.TriggerGraphs.{IsTriggerGraph, is_event_of, has, if_any, if_listed, event_numbers, listed_events, group_of_event, groups_of, command_items, AreListings}
 use Rattle.vt_verify.proofs.lemmas.rules.FirstFailure.{each_of_each}
 use Rattle.vt_stores.proofs.SortedEntries.{both_true}
 use Rattle.vt_verify.proofs.lemmas.graphs.EventGroups.{tied_same, from, numbers_are}
@@ -194,7 +194,7 @@ listings_are shape events groups events_are groups_are q =
     ∙ ap (λ (events : List Listing). cond (has events q) (listed shape q) []) events_are
     ∙ unlisted shape q
 
-module _ (shape : Shape) (events : List Listing) (g : Graph) (are : AreTriggers shape events g) where
+module _ (shape : Shape) (events : List Listing) (g : Graph) (are : IsTriggerGraph shape events g) where
   pub groups_at : (k : ℕ) → group_of g k ≡ slice_index_or (map (listed shape) events) k []
   unfolding group_of
   groups_at k = ap (λ (groups : List (List ℕ)). slice_index_or groups k []) are.groups

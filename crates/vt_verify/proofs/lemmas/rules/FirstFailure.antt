@@ -74,30 +74,30 @@ module _ {R : Type 0} (test : R → Bool) where
 
 -- ---- a result made of the failing element
 
-module _ {R S : Type 0} (test : R → Bool) (told : R → S) where
-  fails_case : (first : Option R) (whole : Option R) (out : Option S) (s : S) → ((r : R) → first ≡ Some r → whole ≡ Some r) → out ≡ option_map told first → out ≡ Some s
-      → option_map told whole ≡ Some s
+module _ {R S : Type 0} (test : R → Bool) (answer : R → S) where
+  fails_case : (first : Option R) (whole : Option R) (out : Option S) (s : S) → ((r : R) → first ≡ Some r → whole ≡ Some r) → out ≡ option_map answer first → out ≡ Some s
+      → option_map answer whole ≡ Some s
   fails_case None whole out s later is some = absurd cc
-  fails_case (Some r) whole out s later is some = ap (option_map told) (later r refl) ∙ sym is ∙ some
+  fails_case (Some r) whole out s later is some = ap (option_map answer) (later r refl) ∙ sym is ∙ some
 
-  passes_case : (first : Option R) (whole rest : Option R) (out : Option S) → (first ≡ None → whole ≡ rest) → out ≡ option_map told first → out ≡ None → whole ≡ rest
+  passes_case : (first : Option R) (whole rest : Option R) (out : Option S) → (first ≡ None → whole ≡ rest) → out ≡ option_map answer first → out ≡ None → whole ≡ rest
   passes_case None whole rest out later is none = later refl
   passes_case (Some r) whole rest out later is none = absurd cc
 
   module _ {B : Type 0} (list : ℕ × Seen → List R) where
     pub told_fails : (all : Option S) (items : List (ℕ × Object B)) (i : ℕ) (item : ℕ × Object B) (s : S) (found : Option S) → i < length items → item ≡ get_or items i item
-        → all ≡ option_map told (first_failing test (flat_map list (map seen_entry (drop i items)))) → found ≡ option_map told (first_failing test (list (seen_entry item))) → found ≡ Some s → all ≡ Some s
+        → all ≡ option_map answer (first_failing test (flat_map list (map seen_entry (drop i items)))) → found ≡ option_map answer (first_failing test (list (seen_entry item))) → found ≡ Some s → all ≡ Some s
     told_fails all items i item s found lt is left fails some =
-        left ∙ ap (λ (rs : List R). option_map told (first_failing test rs)) (next test list items i item lt is)
+        left ∙ ap (λ (rs : List R). option_map answer (first_failing test rs)) (next test list items i item lt is)
         ∙ fails_case (first_failing test (list (seen_entry item))) (first_failing test (list (seen_entry item) ++ flat_map list (map seen_entry (drop (i + 1) items)))) found s
         (λ r. fails_in test (list (seen_entry item)) _ r) fails some
 
     pub told_passes : (all : Option S) (items : List (ℕ × Object B)) (i : ℕ) (item : ℕ × Object B) (found : Option S) → i < length items → item ≡ get_or items i item
-        → all ≡ option_map told (first_failing test (flat_map list (map seen_entry (drop i items)))) → found ≡ option_map told (first_failing test (list (seen_entry item))) → found ≡ None
-        → all ≡ option_map told (first_failing test (flat_map list (map seen_entry (drop (i + 1) items))))
+        → all ≡ option_map answer (first_failing test (flat_map list (map seen_entry (drop i items)))) → found ≡ option_map answer (first_failing test (list (seen_entry item))) → found ≡ None
+        → all ≡ option_map answer (first_failing test (flat_map list (map seen_entry (drop (i + 1) items))))
     told_passes all items i item found lt is left fails none =
-        left ∙ ap (λ (rs : List R). option_map told (first_failing test rs)) (next test list items i item lt is)
-        ∙ ap (option_map told)
+        left ∙ ap (λ (rs : List R). option_map answer (first_failing test rs)) (next test list items i item lt is)
+        ∙ ap (option_map answer)
         (passes_case (first_failing test (list (seen_entry item))) _ (first_failing test (flat_map list (map seen_entry (drop (i + 1) items)))) found
         (passes_in test (list (seen_entry item)) _) fails none)
 

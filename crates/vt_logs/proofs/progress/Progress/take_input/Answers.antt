@@ -41,9 +41,9 @@ returns-in_err-put-clause-stopped g c =
     let from : ReplayState = scene c.args.terminal.now c.args.self.now.screen.items in
     let to : ReplayState = scene c.step.new.self c.draw.new.self.screen.items in
     let prints = input_prints from to c.args.input.now c.clear.new.self.items c.step.new.outputs.items c.clear.ensures.items c.in_ok-step.ensures.ok c.in_ok-is_new.ensures.drawn in
-    let told : new_screen from.screen to.screen ≡ to.screen = c.in_ok-is_new.ensures.told ∙ ap (λ (is_new : Bool). if is_new then to.screen else []) c.if-is_new.true in
+    let printed : new_screen from.screen to.screen ≡ to.screen = c.in_ok-is_new.ensures.printed ∙ ap (λ (is_new : Bool). if is_new then to.screen else []) c.if-is_new.true in
     on_any_err c.from_residual-in_err-put.result
-    (shown_begun from to c.args.input.now c.step.new.outputs.items (held c.args.writer.now) (held c.put_outputs.new.writer) (held c.put.new.writer) prints told
+    (shown_begun from to c.args.input.now c.step.new.outputs.items (held c.args.writer.now) (held c.put_outputs.new.writer) (held c.put.new.writer) prints printed
     (rw (c.deref-2.ensures.value, c.draw.ensures.outputs) at c.in_ok-put_outputs.ensures.text) (rw c.deref-then-is_new.ensures.value at c.in_err-put.ensures.front))
 
 pub returns-in_ok-put-clause-takes : goal.returns-in_ok-put-clause-takes
@@ -52,10 +52,10 @@ returns-in_ok-put-clause-takes g c =
     let from : ReplayState = scene c.args.terminal.now c.args.self.now.screen.items in
     let to : ReplayState = scene c.step.new.self c.draw.new.self.screen.items in
     let prints = input_prints from to c.args.input.now c.clear.new.self.items c.step.new.outputs.items c.clear.ensures.items c.in_ok-step.ensures.ok c.in_ok-is_new.ensures.drawn in
-    let told : new_screen from.screen to.screen ≡ to.screen = c.in_ok-is_new.ensures.told ∙ ap (λ (is_new : Bool). if is_new then to.screen else []) c.if-is_new.true in
+    let printed : new_screen from.screen to.screen ≡ to.screen = c.in_ok-is_new.ensures.printed ∙ ap (λ (is_new : Bool). if is_new then to.screen else []) c.if-is_new.true in
     input_taken from to c.args.input.now c.step.new.outputs.items (held c.args.writer.now) (held c.put_outputs.new.writer) (held c.put.new.writer) prints
     (rw (c.deref-2.ensures.value, c.draw.ensures.outputs) at c.in_ok-put_outputs.ensures.text)
-    (subst (Appends (held c.put_outputs.new.writer) (held c.put.new.writer)) (sym told) (rw c.deref-then-is_new.ensures.value at c.in_ok-put.ensures.text))
+    (subst (Appends (held c.put_outputs.new.writer) (held c.put.new.writer)) (sym printed) (rw c.deref-then-is_new.ensures.value at c.in_ok-put.ensures.text))
 
 pub returns-else-is_new-clause-takes : goal.returns-else-is_new-clause-takes
 returns-else-is_new-clause-takes g c =
@@ -63,8 +63,8 @@ returns-else-is_new-clause-takes g c =
     let from : ReplayState = scene c.args.terminal.now c.args.self.now.screen.items in
     let to : ReplayState = scene c.step.new.self c.draw.new.self.screen.items in
     let prints = input_prints from to c.args.input.now c.clear.new.self.items c.step.new.outputs.items c.clear.ensures.items c.in_ok-step.ensures.ok c.in_ok-is_new.ensures.drawn in
-    let told : new_screen from.screen to.screen ≡ [] = c.in_ok-is_new.ensures.told ∙ ap (λ (is_new : Bool). if is_new then to.screen else []) c.if-is_new.false in
+    let printed : new_screen from.screen to.screen ≡ [] = c.in_ok-is_new.ensures.printed ∙ ap (λ (is_new : Bool). if is_new then to.screen else []) c.if-is_new.false in
     let mid = held c.put_outputs.new.writer in
     input_taken from to c.args.input.now c.step.new.outputs.items (held c.args.writer.now) mid mid prints
     (rw (c.deref-2.ensures.value, c.draw.ensures.outputs) at c.in_ok-put_outputs.ensures.text)
-    (subst (Appends mid mid) (sym told) (Appends-nil mid))
+    (subst (Appends mid mid) (sym printed) (Appends-nil mid))

@@ -7,8 +7,8 @@ use Rattle.vt_macros.proofs.QuietRuns.{with_listings_is}
 use Rattle.vt_machine.proofs.StateBeforeAndAfter.{stored_indexed, stored_runs}
 use Rattle.vt_machine.proofs.live.Live+SortedStore.from_accepted.Goals as goal
 
-pub mark_quiet-requires : goal.mark_quiet-requires
-mark_quiet-requires c =
+pub find_quiet-requires : goal.find_quiet-requires
+find_quiet-requires c =
     let pool = c.args.accepted in
     let found = c.into_parts-objects.ensures in
     let parts = c.into_parts-objects.result in
@@ -21,6 +21,6 @@ of_parts-requires-clause-runs c =
     let pool = c.args.accepted in
     let found = c.into_parts-objects.ensures in
     let parts = c.into_parts-objects.result in
-    stored_runs (map_of parts.objects) pool c.mark_quiet.new.self c.in_ok-levels.levels (ap map_of found.objects) found.stored found.acceptable found.totals
-    c.mark_quiet.ensures
+    stored_runs (map_of parts.objects) pool c.find_quiet.new.self c.in_ok-levels.levels (ap map_of found.objects) found.stored found.acceptable found.totals
+    c.find_quiet.ensures
     (c.in_ok-levels.ensures (map_of parts.objects) (subst (λ (objects : Objects). HasDepths terminal objects parts.depths.items) (sym found.objects) found.depths))

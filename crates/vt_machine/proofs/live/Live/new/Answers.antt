@@ -17,17 +17,17 @@ of_store-requires-clause-shallow g c =
     (c.in_ok-store.ensures ∙ stored_is c.objects.result.now c.args.accepted.now c.objects.ensures.all c.objects.ensures.stored)
     c.objects.ensures.stored c.objects.ensures.acceptable
 
-pub mark_quiet-requires : goal.mark_quiet-requires
-mark_quiet-requires g c =
+pub find_quiet-requires : goal.find_quiet-requires
+find_quiet-requires g c =
     stored_indexed (g.S.Store.contents c.in_ok-store.store) c.args.accepted.now c.in_ok-index.index
     (c.in_ok-store.ensures ∙ stored_is c.objects.result.now c.args.accepted.now c.objects.ensures.all c.objects.ensures.stored)
     c.objects.ensures.stored c.objects.ensures.acceptable c.in_ok-index.ensures
 
 pub of_parts-requires-clause-runs : goal.of_parts-requires-clause-runs
 of_parts-requires-clause-runs g c =
-    stored_runs (g.S.Store.contents c.in_ok-store.store) c.args.accepted.now c.mark_quiet.new.self c.in_ok-levels.levels
+    stored_runs (g.S.Store.contents c.in_ok-store.store) c.args.accepted.now c.find_quiet.new.self c.in_ok-levels.levels
     (c.in_ok-store.ensures ∙ stored_is c.objects.result.now c.args.accepted.now c.objects.ensures.all c.objects.ensures.stored)
-    c.objects.ensures.stored c.objects.ensures.acceptable c.objects.ensures.totals c.mark_quiet.ensures c.in_ok-levels.ensures
+    c.objects.ensures.stored c.objects.ensures.acceptable c.objects.ensures.totals c.find_quiet.ensures c.in_ok-levels.ensures
 
 pub of_parts-requires-clause-set : goal.of_parts-requires-clause-set
 of_parts-requires-clause-set g c =

@@ -5,7 +5,7 @@ use Rattle.vt_verify.specs.Triggers.{listing}
 use Rattle.vt_macros.specs.Machines.{event_commands}
 use Rattle.vt_effects.specs.Soundness.{shape_in}
 use Rattle.vt_machine.specs.SetStates.{HasRun}
-use Rattle.vt_macros.proofs.QuietRuns.{listing_keeps, marked_quiet_at}
+use Rattle.vt_macros.proofs.QuietRuns.{listing_keeps, known_quiet_at}
 use Rattle.vt_machine.proofs.MarksKept.{marks_kept, ran_same}
 use Rattle.vt_machine.proofs.StateBeforeAndAfter.{key_stays, has_run, kind_stays}
 use Rattle.vt_machine.proofs.live.Live.raise.Goals as goal
@@ -27,7 +27,7 @@ invariant_of-self g c = (
       (λ yes. ran_same (g.S.Store.contents c.self.inside.store) (g.S.Store.contents c.raise.new.store) (event_commands (shape_in (g.S.Store.contents c.self.inside.store)) (listing c.args.id c.args.event))
       (budget (shape_in (g.S.Store.contents c.self.inside.store)) c.args.id c.args.event) c.raise.result
       (listing_keeps (g.S.Store.contents c.self.inside.store) c.self.inside.index.quiet.items (listing c.args.id c.args.event) c.self.invariant.0.indexed.quiet_are
-      (sym (marked_quiet_at (shape_in (g.S.Store.contents c.self.inside.store)) c.self.inside.index (listing c.args.id c.args.event) c.self.invariant.0.indexed) ∙ sym c.is_quiet_at.ensures ∙ yes)
+      (sym (known_quiet_at (shape_in (g.S.Store.contents c.self.inside.store)) c.self.inside.index (listing c.args.id c.args.event) c.self.invariant.0.indexed) ∙ sym c.is_quiet_at.ensures ∙ yes)
       (budget (shape_in (g.S.Store.contents c.self.inside.store)) c.args.id c.args.event))
       (has_run c.self.inside.index (g.S.Store.contents c.self.inside.store) _ _ c.raise.result (g.S.Store.contents c.raise.new.store) c.raise.new.levels c.raise.ensures))
       c.self.invariant.2,

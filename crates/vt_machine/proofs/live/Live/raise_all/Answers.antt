@@ -1,7 +1,7 @@
 use Rattle.std.proofs.Common.{sym, ap, refl, ◌∙◌}
 use Rattle.vt_effects.specs.Soundness.{shape_in}
 use Rattle.vt_macros.specs.Machines.{joined_all, total_budget}
-use Rattle.vt_macros.proofs.QuietRuns.{all_marked_quiet, quiet_runs_keep_looks}
+use Rattle.vt_macros.proofs.QuietRuns.{all_known_quiet, quiet_runs_keep_looks}
 use Rattle.vt_machine.proofs.MarksKept.{marks_kept, ran_same}
 use Rattle.vt_machine.proofs.StateBeforeAndAfter.{key_stays, events_small, has_acted, has_run, kind_stays}
 use Rattle.vt_machine.proofs.live.Live.raise_all.Goals as goal
@@ -19,7 +19,7 @@ invariant_of-self g c = (
       (λ yes. ran_same (g.S.Store.contents c.self.inside.store) (g.S.Store.contents c.raise_all.new.store) (joined_all (shape_in (g.S.Store.contents c.self.inside.store)) c.args.raised.now)
       (total_budget (shape_in (g.S.Store.contents c.self.inside.store)) c.args.raised.now) c.raise_all.result
       (quiet_runs_keep_looks (g.S.Store.contents c.self.inside.store) c.self.inside.index.quiet.items c.args.raised.now c.self.invariant.0.indexed.quiet_are
-      (sym (all_marked_quiet (shape_in (g.S.Store.contents c.self.inside.store)) c.self.inside.index c.args.raised.now c.self.invariant.0.indexed) ∙ sym c.are_quiet.ensures ∙ yes)
+      (sym (all_known_quiet (shape_in (g.S.Store.contents c.self.inside.store)) c.self.inside.index c.args.raised.now c.self.invariant.0.indexed) ∙ sym c.are_quiet.ensures ∙ yes)
       (total_budget (shape_in (g.S.Store.contents c.self.inside.store)) c.args.raised.now))
       (has_run c.self.inside.index (g.S.Store.contents c.self.inside.store) _ _ c.raise_all.result (g.S.Store.contents c.raise_all.new.store) c.raise_all.new.levels c.raise_all.ensures))
       c.self.invariant.2,

@@ -76,10 +76,10 @@ returns-after-eq-clause-tells c none =
     let a = c.args.source in
     let ended-by = c.end-reply.ensures in
     let left : SetPool = after_verdict (content_of t.contents a) ended-by.verdict in
-    let told = either_false t.redraws c.if-eq.self none in (
-      told.0,
+    let unset = either_false t.redraws c.if-eq.self none in (
+      unset.0,
       elim c.if-eq.branch [
-        | then-eq w ↦ same-elsewhere t c.end-reply.new.self a left ended-by.content (sym w.eq-then-eq.ensures ∙ sym w.self-is ∙ told.1)
+        | then-eq w ↦ same-elsewhere t c.end-reply.new.self a left ended-by.content (sym w.eq-then-eq.ensures ∙ sym w.self-is ∙ unset.1)
         | else-eq w ↦
             same-pool t c.end-reply.new.self a left ended-by.content
             (end-same (content_of t.contents a) ended-by.verdict

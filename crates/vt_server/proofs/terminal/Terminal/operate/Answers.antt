@@ -7,7 +7,7 @@ use Rattle.vt_server.specs.shown.Screens.{ShowsSame}
 use Rattle.vt_server.specs.States.{state_of}
 use Rattle.vt_server.specs.declared.terminal.Terminal.{Terminal}
 use Rattle.vt_server.proofs.lemmas.operator.ActionStep.{takes-after, takes-lost, takes-input, takes-same}
-use Rattle.vt_server.proofs.lemmas.shown.SameScreen.{same-text, shows-then, told-through}
+use Rattle.vt_server.proofs.lemmas.shown.SameScreen.{same-text, shows-then, tells-through}
 use Rattle.vt_server.proofs.terminal.Terminal.operate.Goals as goal
 use Rattle.vt_server.proofs.terminal.Terminal.operate.Goals.{in-Set, in-Text+in-Ok, in_default}
 
@@ -45,8 +45,8 @@ returns-clause-same c none =
     let updates = c.update_shown.ensures.tells none in
     let acted : ShowsSame (state_of t) (state_of m) =
     elim c.match-action.branch [
-      | in-Set w ↦ told-through t m w.select_set-answer.new.self w.self-is w.select_set-answer.ensures.tells updates.0
-      | in-Text+in-Ok w ↦ told-through t m w.enter_long_text.new.self w.self-is w.enter_long_text.ensures.tells updates.0
-      | in_default w ↦ told-through t m w.act-answer.new.self w.self-is w.act-answer.ensures.tells updates.0
+      | in-Set w ↦ tells-through t m w.select_set-answer.new.self w.self-is w.select_set-answer.ensures.tells updates.0
+      | in-Text+in-Ok w ↦ tells-through t m w.enter_long_text.new.self w.self-is w.enter_long_text.ensures.tells updates.0
+      | in_default w ↦ tells-through t m w.act-answer.new.self w.self-is w.act-answer.ensures.tells updates.0
     ] in
     same-text (state_of t) (state_of c.update_shown.new.self) (shows-then (state_of t) (state_of m) (state_of c.update_shown.new.self) acted updates.1)

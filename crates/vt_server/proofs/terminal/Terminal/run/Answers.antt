@@ -12,8 +12,8 @@ loop-at-preserved c = record {
       c.args.outputs.now.items c.loop-at.outputs.items c.step.new.outputs.items c.loop-at-test.true c.index-inputs-at.is c.loop-at.invariant.taken c.in-Ok.ensures.ok;
   lost = λ lost. lost-stays (state_of c.loop-at.self) (state_of c.step.new.self) c.index-inputs-at.result c.loop-at.outputs.items c.step.new.outputs.items (c.loop-at.invariant.lost lost) c.in-Ok.ensures.ok;
   kept = λ none text is.
-      let told = either_false c.loop-at.redraws c.step.new.self.redraws none in
-      c.in-Ok.ensures.same told.1 text (c.loop-at.invariant.kept told.0 text is);
+      let unset = either_false c.loop-at.redraws c.step.new.self.redraws none in
+      c.in-Ok.ensures.same unset.1 text (c.loop-at.invariant.kept unset.0 text is);
   first = λ zero. absurd (omega (arith, zero));
 }
 

@@ -4,7 +4,7 @@ use Rattle.vt_rank.specs.Graphs.{lists, items_of}
 use Rattle.vt_verify.specs.declared.listing.Listing.{Listing}
 use Rattle.vt_stores.specs.Shapes.{shape_of}
 use Rattle.vt_verify.specs.Triggers.{listed}
-use Rattle.vt_verify.proofs.triggers.Triggers.of_objects.Goals as goal
+use Rattle.vt_verify.proofs.triggers.TriggerGraph.of_objects.Goals as goal
 
 pub returns : goal.returns
 unfolding items_of
