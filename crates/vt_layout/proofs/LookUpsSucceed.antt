@@ -25,7 +25,7 @@ use Rattle.vt_effects.specs.Soundness.{IsSound, value_fits, is_in_order}
 use Rattle.vt_effects.proofs.lemmas.stores.OneChangedObject.{first_of, second_of}
 use Rattle.vt_macros.specs.Machines.{mask_of}
 use Rattle.vt_shown.specs.ShownElements.{behind, is_element, number_in, number_shown, ids_in, item_of, drawn_in, soft_key_mask_of, keys_of}
-use Rattle.vt_shown.proofs.MarksByLevel.{shown_element}
+use Rattle.vt_shown.proofs.DrawnElements.{shown_element}
 use Rattle.vt_layout.specs.Drawings.{entries_in, key_entries}
 use Rattle.vt_layout.specs.Lines.{variable_text}
 use Rattle.vt_layout.specs.LookUps.{kinds_listed, null_listed, Resolves, AllResolveIn, HasNumber, HasText, HasLineValues, DrawingsFindAll}

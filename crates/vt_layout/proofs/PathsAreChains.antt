@@ -19,7 +19,7 @@ use Rattle.vt_chains.specs.Inclusions.{IsChain, included_by}
 use Rattle.vt_chains.proofs.Elements.{Contains-nil, cons_case}
 use Rattle.vt_shown.specs.ShownElements.{ids_in, keys_of, soft_key_mask_of, behind, stands_for, is_element}
 use Rattle.vt_effects.specs.Soundness.{IsSound, is_in_order}
-use Rattle.vt_shown.proofs.MarksByLevel.{listed_included, drawn_included, is_there, behind_case, included_at}
+use Rattle.vt_shown.proofs.DrawnElements.{listed_included, drawn_included, is_there, behind_case, included_at}
 use Rattle.vt_layout.specs.declared.element.Element.{Element}
 use Rattle.vt_layout.specs.declared.element.Position.{Position}
 use Rattle.vt_layout.specs.Drawings.{origin, entered, along, at_path, entries_in, mask_entries, key_entries, IsChained, PathsAreChained, Sticks, led_through, through, passed_below, passed}

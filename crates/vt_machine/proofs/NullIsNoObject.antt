@@ -8,7 +8,7 @@ use Rattle.vt_kinds.specs.Records.{Seen, kind_of}
 use Rattle.vt_stores.specs.Stores.{Objects, ids, map_of}
 use Rattle.vt_macros.specs.Runs.{NullIsNoObject}
 use Rattle.vt_machine.proofs.StateBeforeAndAfter.{kind_stays}
-use Rattle.vt_shown.proofs.MarksByLevel.{null_nowhere}
+use Rattle.vt_shown.proofs.DrawnElements.{null_nowhere}
 use Rattle.vt_macros.proofs.StoreInOrder.{entries_are, shape_is}
 
 none_there : (o : Option Seen) → option_map kind_of o ≡ None → o ≡ None

@@ -20,7 +20,7 @@ use Rattle.vt_machine.specs.declared.live.HeldKey.{HeldKey}
 use Rattle.vt_machine.specs.declared.live.Outcome.{Outcome}
 use Rattle.vt_machine.specs.declared.live.Outcome.TheVariants.{Done, Refused}
 use Rattle.vt_chains.specs.Depths.{ids_of}
-use Rattle.vt_shown.specs.Marks.{AreShown}
+use Rattle.vt_shown.specs.Marks.{AreShown, AreSomeShown}
 use Rattle.vt_effects.specs.Effects.{effect, kind_in}
 use Rattle.vt_macros.specs.Machines.{Ended, mask_of, run, joined_all, total_budget, events_of}
 use Rattle.vt_effects.specs.Soundness.{shape_in}
@@ -137,7 +137,9 @@ renewed state new = record { objects = new; key = kept_key state.objects new sta
 
 -- ---- the marks of shown objects
 
--- There is a mark for each object. The marks are those of the objects that the active mask shows, if they are said to be.
-pub record HasMarks (store : ObjectMap) (are_shown : Bool) (marks : List Bool) : Type 0 where
+-- There is a mark for each object. The active mask shows each marked object, if it is said to, and all objects that it shows
+-- are marked, if they are said to be.
+pub record HasMarks (store : ObjectMap) (are_shown all_shown : Bool) (marks : List Bool) : Type 0 where
   pub each : length marks ≡ length (ids_of store)
-  pub shown : are_shown ≡ true → AreShown store (active_in store) marks
+  pub shown : are_shown ≡ true → AreSomeShown store (active_in store) marks
+  pub all : are_shown ≡ true → all_shown ≡ true → AreShown store (active_in store) marks

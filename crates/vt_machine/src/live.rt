@@ -27,7 +27,7 @@ use vt_chains::Levels;
 use vt_effects::{execute, keeps_look, kind_in};
 use vt_macros::{Index, active_mask, events_of, raise, raise_all};
 use vt_objects::{Command, Event, Object, ObjectId, Raised, SortedStore, Store};
-use vt_shown::{is_marked, mark_shown, soft_key_mask};
+use vt_shown::{search_shown, soft_key_mask};
 use vt_verify::{Accepted, AcceptedParts};
 
 /// The key that the operator holds.
@@ -59,9 +59,10 @@ pub struct Live<S: Store> {
     working_set: ObjectId,
     /// A mark for each object.
     marks: Vec<bool>,
-    /// Whether the marks are those of the objects that the active mask shows. They stay so until a call changes what the text
-    /// of a screen shows.
+    /// Whether the active mask shows each marked object. It does so until a call changes what the text of a screen shows.
     pub(crate) are_marked: bool,
+    /// Whether all objects that the active mask shows are marked, if it shows the marked ones.
+    all_marked: bool,
     pub(crate) key: Option<HeldKey>,
     pub(crate) input: Option<ObjectId>,
 }
@@ -76,6 +77,7 @@ impl<S: Store> Drop for Live<S> {
             working_set: _working_set,
             marks: _marks,
             are_marked: _are_marked,
+            all_marked: _all_marked,
             key: _key,
             input: _input,
         } = self;
@@ -96,7 +98,7 @@ impl<S: Store> Model for Live<S> {
     ghost view = { λ a. record { objects = S.contents a.store; key = a.key; input = a.input } };
 
     ghost invariant = { λ a. CanRun a.index (S.contents a.store) a.levels × (kind_in (S.contents a.store) a.working_set ≡ Some kinds.WorkingSet)
-        × HasMarks (S.contents a.store) a.are_marked a.marks.items
+        × HasMarks (S.contents a.store) a.are_marked a.all_marked a.marks.items
         × (holds_key (S.contents a.store) a.key ≡ true) };
 }
 
@@ -134,6 +136,7 @@ impl<S: Store> Live<S> {
             working_set,
             marks,
             are_marked: false,
+            all_marked: false,
             key: None,
             input: None,
         })
@@ -233,12 +236,21 @@ impl<S: Store> Live<S> {
         ensures not_shown { result ≡ false → IsShown self.old.objects (active_in self.old.objects) id → ⊥ }
         ensures same { self.new ≡ self.old }
     {
-        if !self.are_marked {
-            let mask = self.active_mask();
-            mark_shown(&self.store, self.levels.as_slice(), &mut self.marks, mask);
-            self.are_marked = true;
+        let Some(index) = self.store.place(id) else {
+            return false;
+        };
+        if self.are_marked && self.all_marked {
+            return self.marks[index];
         }
-        is_marked(&self.store, &self.marks, id)
+        if self.are_marked && self.marks[index] {
+            return true;
+        }
+        let mask = self.active_mask();
+        let marks = &mut self.marks;
+        let is_found = search_shown(&self.store, self.levels.as_slice(), marks, mask, index);
+        self.are_marked = true;
+        self.all_marked = !is_found;
+        self.marks[index]
     }
 
     /// Does a command, and runs the macros of the events that it raises. Delete Object Pool changes nothing here: the

@@ -33,7 +33,7 @@ pub struct Terminal {
     pub(crate) shown: Option<u8>,
     // Whether a lower NAME has claimed the own address.
     pub(crate) lost: bool,
-    // Whether the screen may differ from the one before the last call of `step` or `run`.
+    // Whether the screen may differ from the one before the last call of `step` or `run` that took an input.
     pub(crate) redraws: bool,
     // The latest time so far, in microseconds.
     pub(crate) time: u64,
@@ -111,8 +111,9 @@ impl Terminal {
         self.shown
     }
 
-    /// Whether the screen may differ from the one before the last call of `step` or `run`, so that it has to be drawn again.
-    /// `new` and a successful `preload` set it.
+    /// Whether the screen may differ from the one before the last call of `step` or `run` that took an input, so that it has to
+    /// be drawn again. `new` and a successful `preload` set it. A call that takes no input, for want of memory or of inputs,
+    /// leaves it as it was.
     pub fn redraws(&self) -> bool
         ensures { result ≡ redraws self.now }
     {

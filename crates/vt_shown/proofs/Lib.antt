@@ -1,2 +1,2 @@
-pub mod MarksByLevel
-pub mod MarksOfListedIds
+pub mod DrawnElements
+pub mod Searches

@@ -1,9 +1,12 @@
 -- Marks of the objects of a store, at the index of each object by rising ID.
-use Rattle.std.specs.Prelude.{◌≡◌, ◌≤◌, ◌⊎◌, ℕ, Bool, true, false, List, [], ◌∷◌, length, slice_index, slice_index_or}
+use Rattle.std.specs.Prelude.{◌≡◌, ◌⊎◌, ◌==◌, if◌then◌else◌, ℕ, Bool, true, false, List, [], length, slice_index_or, Option, Some}
 use Rattle.std.specs.FinMap as finite
+use Rattle.vt_kinds.specs.declared.entries.Child.{Child}
+use Rattle.vt_kinds.specs.declared.object.Object.TheVariants as objects
+use Rattle.vt_kinds.specs.Records.{Seen}
 use Rattle.vt_stores.specs.Stores.{ObjectMap}
 use Rattle.vt_chains.specs.Depths.{ids_of, IsIdAt}
-use Rattle.vt_shown.specs.ShownElements.{drawn_in, soft_keys, IsNamed, IsShown}
+use Rattle.vt_shown.specs.ShownElements.{drawn_in, item_of, number_shown, IsNamed, IsShown}
 
 -- the object of an ID is marked
 pub record IsMarked (store : ObjectMap) (marks : List Bool) (id : ℕ) : Type 0 where
@@ -11,28 +14,45 @@ pub record IsMarked (store : ObjectMap) (marks : List Bool) (id : ℕ) : Type 0 
   pub there : IsIdAt (ids_of store) place id
   pub set : slice_index_or marks place false ≡ true
 
--- the new marks are the old ones and those of the elements that the listed IDs resolve to
-pub record Marks (store : ObjectMap) (names : List ℕ) (old new : List Bool) : Type 0 where
-  pub each : length new ≡ length old
-  pub kept : (id : ℕ) → IsMarked store old id → IsMarked store new id
-  pub added : (id : ℕ) → IsNamed store names id → IsMarked store new id
-  pub only : (id : ℕ) → IsMarked store new id → IsMarked store old id ⊎ IsNamed store names id
-
--- All IDs in `named` are done: the elements that they resolve to are marked.
-abbrev pub AreDone : ObjectMap → List Bool → List Bool → Type 0
-AreDone store named marks = (name : ℕ) → slice_index_or named name false ≡ true → (id : ℕ) → IsNamed store (name ∷ []) id → IsMarked store marks id
-
--- The elements of a mask and of its soft keys are marked, and those drawn by each marked object of at least a level.
-pub record AreMarked (store : ObjectMap) (levels : List ℕ) (mask level : ℕ) (marks : List Bool) : Type 0 where
+-- The mask shows each marked object.
+pub record AreSomeShown (store : ObjectMap) (mask : ℕ) (marks : List Bool) : Type 0 where
   pub each : length marks ≡ length (ids_of store)
   pub shown : (id : ℕ) → IsMarked store marks id → IsShown store mask id
-  pub in_mask : (id : ℕ) → IsNamed store (drawn_in store (finite.get store mask)) id → IsMarked store marks id
-  pub keys : (id : ℕ) → IsNamed store (soft_keys store mask) id → IsMarked store marks id
-  pub within : (place id : ℕ) → IsIdAt (ids_of store) place id → slice_index_or marks place false ≡ true → level ≤ slice_index levels place
-      → (other : ℕ) → IsNamed store (drawn_in store (finite.get store id)) other → IsMarked store marks other
 
 -- The marked objects are those that a mask shows.
 pub record AreShown (store : ObjectMap) (mask : ℕ) (marks : List Bool) : Type 0 where
   pub each : length marks ≡ length (ids_of store)
   pub shown : (id : ℕ) → IsMarked store marks id → IsShown store mask id
   pub marked : (id : ℕ) → IsShown store mask id → IsMarked store marks id
+
+-- ---- during a search
+
+-- the elements that an object draws are marked
+abbrev pub HasDrawingMarked : ObjectMap → List Bool → ℕ → Type 0
+HasDrawingMarked store marks id = (other : ℕ) → IsNamed store (drawn_in store (finite.get store id)) other → IsMarked store marks other
+
+-- A whole search from listed IDs: it marks the elements that they resolve to, and those that each newly marked object draws.
+pub record Searched (store : ObjectMap) (names : List ℕ) (old new : List Bool) : Type 0 where
+  pub kept : (id : ℕ) → IsMarked store old id → IsMarked store new id
+  pub added : (id : ℕ) → IsNamed store names id → IsMarked store new id
+  pub drawn : (id : ℕ) → IsMarked store new id → IsMarked store old id ⊎ HasDrawingMarked store new id
+
+-- A search from listed IDs, whole or not, marks objects alone that a mask shows, if the mask shows the elements that the IDs
+-- resolve to.
+abbrev pub MarksShown : ObjectMap → List ℕ → List Bool → List Bool → Type 0
+MarksShown store names old new = (mask : ℕ) → ((id : ℕ) → IsNamed store names id → IsShown store mask id) → AreSomeShown store mask old → AreSomeShown store mask new
+
+-- the children that an object draws; none for a hidden container
+abbrev pub children_drawn : Option Seen → List Child
+children_drawn (Some (objects.WorkingSet o)) = o.children
+children_drawn (Some (objects.DataMask o)) = o.children
+children_drawn (Some (objects.AlarmMask o)) = o.children
+children_drawn (Some (objects.Container o)) = if o.hidden == 0 then o.children else []
+children_drawn (Some (objects.Key o)) = o.children
+children_drawn (Some (objects.Button o)) = o.children
+children_drawn _ = []
+
+-- the current item of an input list
+abbrev pub item_drawn : ObjectMap → Option Seen → List ℕ
+item_drawn store (Some (objects.InputList o)) = item_of o.items (number_shown store o.variable o.value)
+item_drawn store _ = []

@@ -3,14 +3,15 @@
 use super::script::{Script, Step, expect_scripts};
 use super::*;
 
-// Working Set 0, Data Mask 1000, and in it Container 100 and Input String 301, of 8 bytes.
+// Working Set 0, Data Mask 1000, and in it Container 100 and Input String 301, of 8 bytes. Alarm Mask 1001.
 const DRAWN: &[u8] = b"\x00\x00\x00\x00\x01\xE8\x03\x00\x00\x00\
     \xE8\x03\x01\x00\xFF\xFF\x02\x00\x64\x00\x0A\x00\x05\x00\x2D\x01\x00\x00\x00\x00\
+    \xE9\x03\x02\x00\xFF\xFF\x00\x00\x00\x00\
     \x64\x00\x03\x32\x00\x14\x00\x00\x00\x00\
     \x2D\x01\x08\x0A\x00\x05\x00\x00\xFF\xFF\xFF\xFF\x00\xFF\xFF\x00\x08        \x01\x00";
 
 // The set at 80 is shown. Another set, with Working Set 0 and Data Mask 2000, uploads a pool at 81, and is shown then.
-const WHILE_SHOWN: [Step; 36] = [
+const WHILE_SHOWN: [Step; 37] = [
     Step::Redraws("18FFFF55#00", false),
     Step::Redraws("18EA2655#00EE00", false),
     // A set at 81 registers and uploads its pool.
@@ -29,9 +30,10 @@ const WHILE_SHOWN: [Step; 36] = [
     Step::Redraws("14E72680#A0640000FFFFFFFF", true),
     Step::Redraws("18FFFF80#00", false),
     Step::Redraws("14E72680#A0640001FFFFFFFF", true),
-    // A container that is shown already, a colour, and the size of an input are in no text; the size of a container is.
+    // A container that is shown already, a colour, a priority, and the size of an input are in no text; the size of a container is.
     Step::Redraws("14E72680#A0640001FFFFFFFF", false),
     Step::Redraws("14E72680#A7E80307FFFFFFFF", false),
+    Step::Redraws("14E72680#B0E90301FFFFFFFF", false),
     Step::Redraws("14E72680#A62D0133001400FF", false),
     Step::Redraws("14E72680#A6640033001400FF", true),
     // A command in packets, complete with the last one.

@@ -11,7 +11,7 @@ use std::alloc::Global;
 use std::test::Fail;
 use vt_chains::Levels;
 use vt_objects::{ObjectId, SortedStore, Store};
-use vt_shown::{is_marked, mark_shown};
+use vt_shown::search_shown;
 use vt_testing::accepted_pool;
 
 /// The Data Mask 1000 with the Soft Key Mask 2000, the Data Mask 1001 with none, and Lines on these masks or on none.
@@ -135,10 +135,18 @@ fn shows(
 ) -> Result<bool, Fail>
     requires { AreLevels (map_of store.now) levels.now }
 {
+    let Some(index) = store.place(ObjectId::from_raw(id)) else {
+        return Ok(false);
+    };
     let mut marks = Vec::from_elem(alloc, true, store.count())?;
     let mask = ObjectId::from_raw(mask);
-    mark_shown(store, levels.as_slice(), &mut marks, mask);
-    Ok(is_marked(store, &marks, ObjectId::from_raw(id)))
+    Ok(search_shown(
+        store,
+        levels.as_slice(),
+        &mut marks,
+        mask,
+        index,
+    ))
 }
 
 #[test]

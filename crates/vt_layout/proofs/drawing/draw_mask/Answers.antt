@@ -13,5 +13,5 @@ pub returns-clause-drawn : goal.returns-clause-drawn
 returns-clause-drawn g c =
     on_ok_weaker c.draw_soft_keys.result
     (mask_drawn (g.S.Store.contents c.args.store.now) c.args.mask c.soft_key_mask.result (seen c.in-Some.object.now) c.args.page.now c.draw_within.new.page c.draw_soft_keys.new.page
-    c.in-Some.ensures.value (c.soft_key_mask.ensures ∙ sym (ap soft_key_mask_of c.in-Some.ensures.value)) c.in_ok-draw_within.ensures)
+    c.in-Some.ensures.value (c.soft_key_mask.ensures.keys ∙ sym (ap soft_key_mask_of c.in-Some.ensures.value)) c.in_ok-draw_within.ensures)
     c.draw_soft_keys.ensures

@@ -29,7 +29,7 @@ invariant_of-self g c = (
   kind_stays (g.S.Store.contents c.raise_all-steps.new.store) (g.S.Store.contents c.self.inside.store) c.self.inside.working_set
       (c.raise_all-steps.ensures.shape ∙ after_shape (g.S.Store.contents c.self.inside.store) (g.S.Store.contents c.execute.new.store) c.args.command.now c.execute.ensures.objects)
       ∙ c.self.invariant.1,
-  marks_kept (g.S.Store.contents c.self.inside.store) (g.S.Store.contents c.raise_all-steps.new.store) c.self.inside.working_set c.self.inside.are_marked c.keeps_look.result
+  marks_kept (g.S.Store.contents c.self.inside.store) (g.S.Store.contents c.raise_all-steps.new.store) c.self.inside.working_set c.self.inside.are_marked c.keeps_look.result c.self.inside.all_marked
       c.self.inside.marks.items
       (c.raise_all-steps.ensures.shape ∙ after_shape (g.S.Store.contents c.self.inside.store) (g.S.Store.contents c.execute.new.store) c.args.command.now c.execute.ensures.objects)
       c.self.invariant.0.working_set c.self.invariant.1
@@ -50,7 +50,7 @@ invariant_of-self-in-Err g c =
     let shape = after_shape m n c.args.command.now c.execute.ensures.objects in (
       after_can c.self.inside.index m c.self.inside.levels c.execute.new.levels c.args.command.now n c.self.invariant.0 c.execute.ensures.objects c.execute.ensures.levels,
       kind_stays n m c.self.inside.working_set shape ∙ c.self.invariant.1,
-      marks_kept m n c.self.inside.working_set c.self.inside.are_marked c.keeps_look.result c.self.inside.marks.items shape c.self.invariant.0.working_set c.self.invariant.1
+      marks_kept m n c.self.inside.working_set c.self.inside.are_marked c.keeps_look.result c.self.inside.all_marked c.self.inside.marks.items shape c.self.invariant.0.working_set c.self.invariant.1
           (λ yes. refused_same m n c.args.command.now c.in-Err.bits c.execute.ensures.objects c.in-Err.ensures.result) c.self.invariant.2,
       key_stays m n c.self.inside.key shape c.self.invariant.3,
     )

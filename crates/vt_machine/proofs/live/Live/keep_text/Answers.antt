@@ -12,6 +12,6 @@ invariant_of-self g c =
     let shape = plain_shape m n c.args.place (with_text c.args.text.now) c.put_text.ensures (texts_plain c.args.text.now) in (
       plain_runs m n c.args.place (with_text c.args.text.now) c.self.inside.index c.self.inside.levels c.put_text.ensures (texts_plain c.args.text.now) c.self.invariant.0,
       kind_stays n m c.self.inside.working_set shape ∙ c.self.invariant.1,
-      marks_cleared m n c.self.inside.are_marked c.self.inside.marks.items shape c.self.invariant.2,
+      marks_cleared m n c.self.inside.are_marked c.self.inside.all_marked c.self.inside.marks.items shape c.self.invariant.2,
       key_stays m n c.self.inside.key shape c.self.invariant.3,
     )

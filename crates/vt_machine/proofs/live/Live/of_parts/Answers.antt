@@ -7,6 +7,6 @@ invariant_of-result g c =
     let long : length c.in_ok-marks.marks.items ≡ c.count.result = search rules in (
       c.requires.runs,
       c.requires.set,
-      record { each = long ∙ c.count.ensures.count ∙ count_is (g.S.Store.contents c.args.store); shown = λ never. absurd cc },
+      record { each = long ∙ c.count.ensures.count ∙ count_is (g.S.Store.contents c.args.store); shown = λ never. absurd cc; all = λ never full. absurd cc },
       refl,
     )

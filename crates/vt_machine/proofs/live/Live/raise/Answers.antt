@@ -22,7 +22,7 @@ pub invariant_of-self : goal.invariant_of-self
 invariant_of-self g c = (
   c.raise.ensures.can,
   kind_stays (g.S.Store.contents c.raise.new.store) (g.S.Store.contents c.self.inside.store) c.self.inside.working_set c.raise.ensures.shape ∙ c.self.invariant.1,
-  marks_kept (g.S.Store.contents c.self.inside.store) (g.S.Store.contents c.raise.new.store) c.self.inside.working_set c.self.inside.are_marked c.is_quiet_at.result
+  marks_kept (g.S.Store.contents c.self.inside.store) (g.S.Store.contents c.raise.new.store) c.self.inside.working_set c.self.inside.are_marked c.is_quiet_at.result c.self.inside.all_marked
       c.self.inside.marks.items c.raise.ensures.shape c.self.invariant.0.working_set c.self.invariant.1
       (λ yes. ran_same (g.S.Store.contents c.self.inside.store) (g.S.Store.contents c.raise.new.store) (event_commands (shape_in (g.S.Store.contents c.self.inside.store)) (listing c.args.id c.args.event))
       (budget (shape_in (g.S.Store.contents c.self.inside.store)) c.args.id c.args.event) c.raise.result

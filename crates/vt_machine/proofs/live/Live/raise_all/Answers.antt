@@ -14,7 +14,7 @@ pub invariant_of-self : goal.invariant_of-self
 invariant_of-self g c = (
   c.raise_all.ensures.can,
   kind_stays (g.S.Store.contents c.raise_all.new.store) (g.S.Store.contents c.self.inside.store) c.self.inside.working_set c.raise_all.ensures.shape ∙ c.self.invariant.1,
-  marks_kept (g.S.Store.contents c.self.inside.store) (g.S.Store.contents c.raise_all.new.store) c.self.inside.working_set c.self.inside.are_marked c.are_quiet.result
+  marks_kept (g.S.Store.contents c.self.inside.store) (g.S.Store.contents c.raise_all.new.store) c.self.inside.working_set c.self.inside.are_marked c.are_quiet.result c.self.inside.all_marked
       c.self.inside.marks.items c.raise_all.ensures.shape c.self.invariant.0.working_set c.self.invariant.1
       (λ yes. ran_same (g.S.Store.contents c.self.inside.store) (g.S.Store.contents c.raise_all.new.store) (joined_all (shape_in (g.S.Store.contents c.self.inside.store)) c.args.raised.now)
       (total_budget (shape_in (g.S.Store.contents c.self.inside.store)) c.args.raised.now) c.raise_all.result

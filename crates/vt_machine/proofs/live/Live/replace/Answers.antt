@@ -24,7 +24,7 @@ invariant_of-self g c =
     let shape : shape_in n ≡ shape_in m = ap shape_in is ∙ put_shape m entries fits in (
       subst (λ (o : ObjectMap). CanRun c.self.inside.index o c.self.inside.levels) (sym is) (put_runs m entries c.self.inside.index c.self.inside.levels fits c.self.invariant.0),
       kind_stays n m c.self.inside.working_set shape ∙ c.self.invariant.1,
-      marks_cleared m n c.self.inside.are_marked c.self.inside.marks.items shape c.self.invariant.2,
+      marks_cleared m n c.self.inside.are_marked c.self.inside.all_marked c.self.inside.marks.items shape c.self.invariant.2,
       key_stays m n c.self.inside.key shape c.self.invariant.3,
     )
 

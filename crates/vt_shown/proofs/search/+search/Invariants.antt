@@ -1,0 +1,17 @@
+use Rattle.std.proofs.Common.{◌+◌, ◌*◌, take}
+use Rattle.std.specs.Prelude.{slice_index}
+use Rattle.vt_shown.specs.Marks.{Searched, MarksShown}
+use Rattle.vt_shown.specs.ShownElements.{ids_in}
+use Rattle.vt_shown.proofs.search.+search.Given as goal
+
+abbrev pub decreases-search_drawing : goal.decreases-search_drawing
+decreases-search_drawing g l = 2 * slice_index l.levels.now l.index + 1
+
+abbrev pub decreases-search_named : goal.decreases-search_named
+decreases-search_named g l = 2 * l.level
+
+abbrev pub invariant-search_drawing-loop-child : goal.invariant-search_drawing-loop-child
+invariant-search_drawing-loop-child g l = record {
+  shown : MarksShown (g.S.Store.contents l.store) (take l.child-index (ids_in l.children)) l.initial.marks l.marks;
+  all : Searched (g.S.Store.contents l.store) (take l.child-index (ids_in l.children)) l.initial.marks l.marks;
+}

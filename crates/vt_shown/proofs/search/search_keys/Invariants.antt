@@ -1,0 +1,9 @@
+use Rattle.std.proofs.Common.{take}
+use Rattle.vt_shown.specs.Marks.{Searched, MarksShown}
+use Rattle.vt_shown.proofs.search.search_keys.Given as goal
+
+abbrev pub invariant-loop-key : goal.invariant-loop-key
+invariant-loop-key g l = record {
+  shown : MarksShown (g.S.Store.contents l.store) (take l.key-index l.keys) l.initial.marks l.marks;
+  all : Searched (g.S.Store.contents l.store) (take l.key-index l.keys) l.initial.marks l.marks;
+}

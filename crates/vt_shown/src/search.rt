@@ -1,0 +1,257 @@
+//! The search for an object that a mask shows.
+
+ghost use Rattle.std.specs.Prelude.{◌≡◌, ◌<◌, ◌∷◌, ℕ, [], false, true, length, map, slice_get, slice_index_or, IfNone, IfSome, IsTrue, None, Some};
+ghost use Rattle.std.specs.Option.{option_to_list};
+ghost use Rattle.std.specs.FinMap as finite;
+ghost use Rattle.vt_kinds.specs.Ids.{null_id};
+ghost use Rattle.vt_kinds.specs.Records.{Seen, seen};
+ghost use Rattle.vt_stores.specs.Stores.{IsPlace};
+ghost use Rattle.vt_chains.specs.Depths.{ids_of, inclusions_of, IsBelow, IsIdAt};
+ghost use Rattle.vt_chains.specs.Certificates.{IsCertificate};
+ghost use Rattle.vt_shown.specs.Marks.{AreShown, AreSomeShown, Searched, MarksShown, children_drawn, item_drawn};
+ghost use Rattle.vt_shown.specs.ShownElements as showing;
+ghost use Rattle.vt_shown.specs.ShownElements.{drawn_in, soft_keys, stands_for, keys_of, IsNamed};
+
+use crate::showing::{is_element, number_shown, standing};
+use crate::soft_keys::soft_key_mask;
+use vt_chains::{TERMINAL_LIMITS, entry};
+use vt_kinds::{Child, InputList, Object, ObjectId};
+use vt_stores::Store;
+
+/// A level above those of all objects.
+const ABOVE_ALL: u8 = TERMINAL_LIMITS.inclusions + 1;
+
+/// Searches the objects that a mask shows, in its drawing, however long, and on its soft keys, for the object at an index of
+/// the store, and marks each object that it visits. Ends with true at the object sought. If false, the marked objects are
+/// all those that the mask shows. `marks` has one mark for each object, at its index; former marks are cleared. Visits no
+/// object twice. docs/PROFILE.md, "The drawing".
+pub fn search_shown<S: Store>(
+    store: &S,
+    levels: &[u8],
+    marks: &mut [bool],
+    mask: ObjectId,
+    sought: usize,
+) -> bool
+    requires levels { IsCertificate (ids_of (S.contents store.now)) (inclusions_of (S.contents store.now)) levels.now }
+    requires marks { length marks.old ≡ length (ids_of (S.contents store.now)) }
+    ensures some { AreSomeShown (S.contents store.now) mask marks.new }
+    ensures found { result ≡ true → slice_index_or marks.new sought false ≡ true }
+    ensures all { result ≡ false → AreShown (S.contents store.now) mask marks.new }
+{
+    marks.fill(false);
+    let keys = soft_key_mask(store, mask);
+    if search_mask(store, levels, marks, mask, sought) {
+        return true;
+    }
+    search_soft_keys(store, levels, marks, keys, sought)
+}
+
+/// Searches the drawing of a mask.
+fn search_mask<S: Store>(
+    store: &S,
+    levels: &[u8],
+    marks: &mut [bool],
+    mask: ObjectId,
+    sought: usize,
+) -> bool
+    requires levels { IsCertificate (ids_of (S.contents store.now)) (inclusions_of (S.contents store.now)) levels.now }
+    requires marks { length marks.old ≡ length (ids_of (S.contents store.now)) }
+    requires null { finite.get (S.contents store.now) null_id ≡ None }
+    ensures shown { MarksShown (S.contents store.now) (drawn_in (S.contents store.now) (finite.get (S.contents store.now) mask)) marks.old marks.new }
+    ensures found { result ≡ true → slice_index_or marks.new sought false ≡ true }
+    ensures all { result ≡ false → Searched (S.contents store.now) (drawn_in (S.contents store.now) (finite.get (S.contents store.now) mask)) marks.old marks.new }
+{
+    match store.place(mask) {
+        Some(index) => search_drawing(store, levels, marks, index, sought),
+        None => false,
+    }
+}
+
+/// Searches the keys of a soft key mask.
+fn search_soft_keys<S: Store>(
+    store: &S,
+    levels: &[u8],
+    marks: &mut [bool],
+    keys: ObjectId,
+    sought: usize,
+) -> bool
+    requires levels { IsCertificate (ids_of (S.contents store.now)) (inclusions_of (S.contents store.now)) levels.now }
+    requires marks { length marks.old ≡ length (ids_of (S.contents store.now)) }
+    requires null { finite.get (S.contents store.now) null_id ≡ None }
+    ensures shown { MarksShown (S.contents store.now) (keys_of (finite.get (S.contents store.now) keys)) marks.old marks.new }
+    ensures found { result ≡ true → slice_index_or marks.new sought false ≡ true }
+    ensures all { result ≡ false → Searched (S.contents store.now) (keys_of (finite.get (S.contents store.now) keys)) marks.old marks.new }
+{
+    match store.get(keys) {
+        Some(Object::SoftKeyMask(o)) => {
+            search_keys(store, levels, marks, o.keys.as_slice(), sought)
+        }
+        _ => false,
+    }
+}
+
+/// Searches soft keys.
+fn search_keys<S: Store>(
+    store: &S,
+    levels: &[u8],
+    marks: &mut [bool],
+    keys: &[ObjectId],
+    sought: usize,
+) -> bool
+    requires levels { IsCertificate (ids_of (S.contents store.now)) (inclusions_of (S.contents store.now)) levels.now }
+    requires marks { length marks.old ≡ length (ids_of (S.contents store.now)) }
+    requires null { finite.get (S.contents store.now) null_id ≡ None }
+    ensures shown { MarksShown (S.contents store.now) keys.now marks.old marks.new }
+    ensures found { result ≡ true → slice_index_or marks.new sought false ≡ true }
+    ensures all { result ≡ false → Searched (S.contents store.now) keys.now marks.old marks.new }
+{
+    for key in keys {
+        if search_named(store, levels, marks, *key, ABOVE_ALL, sought) {
+            return true;
+        }
+    }
+    false
+}
+
+/// Searches the elements that the object at an index draws.
+#[cycle(search)]
+fn search_drawing<S: Store>(
+    store: &S,
+    levels: &[u8],
+    marks: &mut [bool],
+    index: usize,
+    sought: usize,
+) -> bool
+    requires levels { IsCertificate (ids_of (S.contents store.now)) (inclusions_of (S.contents store.now)) levels.now }
+    requires marks { length marks.old ≡ length (ids_of (S.contents store.now)) }
+    requires index { index < length levels.now }
+    requires null { finite.get (S.contents store.now) null_id ≡ None }
+    ensures shown { (id : ℕ) → IsIdAt (ids_of (S.contents store.now)) index id → MarksShown (S.contents store.now) (drawn_in (S.contents store.now) (finite.get (S.contents store.now) id)) marks.old marks.new }
+    ensures found { result ≡ true → slice_index_or marks.new sought false ≡ true }
+    ensures all { result ≡ false → (id : ℕ) → IsIdAt (ids_of (S.contents store.now)) index id → Searched (S.contents store.now) (drawn_in (S.contents store.now) (finite.get (S.contents store.now) id)) marks.old marks.new }
+{
+    let (_, object) = entry(store, index);
+    let level = levels[index];
+    let children = children_drawn(object);
+    for child in children {
+        if search_named(store, levels, marks, child.id, level, sought) {
+            return true;
+        }
+    }
+    match item_drawn(store, object) {
+        Some(item) => search_named(store, levels, marks, item, level, sought),
+        None => false,
+    }
+}
+
+/// Searches the element that an ID resolves to, below a level, and the elements within it.
+#[cycle(search)]
+fn search_named<S: Store>(
+    store: &S,
+    levels: &[u8],
+    marks: &mut [bool],
+    name: ObjectId,
+    level: u8,
+    sought: usize,
+) -> bool
+    requires levels { IsCertificate (ids_of (S.contents store.now)) (inclusions_of (S.contents store.now)) levels.now }
+    requires marks { length marks.old ≡ length (ids_of (S.contents store.now)) }
+    requires null { finite.get (S.contents store.now) null_id ≡ None }
+    requires below { (id : ℕ) → IsNamed (S.contents store.now) (name ∷ []) id → IsBelow (ids_of (S.contents store.now)) levels.now id level }
+    ensures shown { MarksShown (S.contents store.now) (name ∷ []) marks.old marks.new }
+    ensures found { result ≡ true → slice_index_or marks.new sought false ≡ true }
+    ensures all { result ≡ false → Searched (S.contents store.now) (name ∷ []) marks.old marks.new }
+{
+    let Some(index) = element_index(store, name) else {
+        return false;
+    };
+    if marks[index] {
+        return false;
+    }
+    marks[index] = true;
+    if index == sought {
+        return true;
+    }
+    search_drawing(store, levels, marks, index, sought)
+}
+
+/// The children that an object draws. Empty for an object without children, and for a hidden container.
+fn children_drawn(object: &Object<Vec<u8>>) -> &[Child]
+    ensures { result.now ≡ children_drawn (Some (seen object.now)) }
+{
+    match object {
+        Object::WorkingSet(o) => o.children.as_slice(),
+        Object::DataMask(o) => o.children.as_slice(),
+        Object::AlarmMask(o) => o.children.as_slice(),
+        Object::Container(o) if o.hidden == 0 => o.children.as_slice(),
+        Object::Key(o) => o.children.as_slice(),
+        Object::Button(o) => o.children.as_slice(),
+        _ => &[],
+    }
+}
+
+/// The current item of an input list, if the object is one and has one.
+fn item_drawn<S: Store>(store: &S, object: &Object<Vec<u8>>) -> Option<ObjectId>
+    ensures { option_to_list result ≡ item_drawn (S.contents store.now) (Some (seen object.now)) }
+{
+    match object {
+        Object::InputList(o) => current_item(store, o),
+        _ => None,
+    }
+}
+
+/// The current item of an input list, if there is one.
+fn current_item<S: Store>(store: &S, list: &InputList) -> Option<ObjectId>
+    ensures { option_to_list result ≡ showing.item_of list.now.items (showing.number_shown (S.contents store.now) list.now.variable list.now.value) }
+{
+    let index = number_shown(store, list.variable, u32::from(list.value))?;
+    list.items.as_slice().get(index as usize).copied()
+}
+
+/// The index of the element that an ID resolves to, directly or through a pointer, if it is an element.
+fn element_index<S: Store>(store: &S, name: ObjectId) -> Option<usize>
+    ensures some { IfSome result (λ index. (id : ℕ) × IsIdAt (ids_of (S.contents store.now)) index id × IsNamed (S.contents store.now) (name ∷ []) id) }
+    ensures none { IfNone result ((id : ℕ) → IsNamed (S.contents store.now) (name ∷ []) id → ⊥) }
+{
+    match direct_index(store, name) {
+        Some(index) => Some(index),
+        None => index_behind(store, name),
+    }
+}
+
+/// The index of an element that an ID refers to directly, as nearly all IDs do. `None` for other IDs.
+fn direct_index<S: Store>(store: &S, name: ObjectId) -> Option<usize>
+    ensures { IfSome result (λ index. IsPlace (finite.entries (S.contents store.now)) name index
+        × IsTrue (showing.is_element (finite.get (S.contents store.now) name))
+        × (stands_for (S.contents store.now) name ≡ Some name)) }
+{
+    let index = store.place(name)?;
+    if is_element_at(store, index) {
+        return Some(index);
+    }
+    None
+}
+
+/// Whether the object at an index of the store is an element.
+fn is_element_at<S: Store>(store: &S, index: usize) -> bool
+    ensures { (entry : ℕ × Seen) → slice_get (finite.entries (S.contents store.now)) index ≡ Some entry → result ≡ showing.is_element (Some entry.1) }
+{
+    match store.entry_at(index) {
+        Some((_, object)) => is_element(object),
+        None => false,
+    }
+}
+
+/// The index of the element that an ID resolves to, directly or through a pointer, if it is an element.
+fn index_behind<S: Store>(store: &S, name: ObjectId) -> Option<usize>
+    ensures some { IfSome result (λ index. (id : ℕ) × IsIdAt (ids_of (S.contents store.now)) index id × IsNamed (S.contents store.now) (name ∷ []) id) }
+    ensures none { IfNone result ((id : ℕ) → IsNamed (S.contents store.now) (name ∷ []) id → ⊥) }
+{
+    let Some(found) = standing(store, name) else {
+        return None;
+    };
+    if !is_element(found.1) {
+        return None;
+    }
+    store.place(found.0)
+}
