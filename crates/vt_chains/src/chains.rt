@@ -37,6 +37,7 @@ pub fn find_depths<S: Store>(store: &S, depths: &mut [u8], most: u8) -> Result<(
 
 /// Finds the depth of the object at an index, or a chain of `most` + 1 inclusions that begins with it.
 #[cycle(settle)]
+#[inline(never)]
 fn settle<S: Store>(store: &S, depths: &mut [u8], place: usize, most: u8) -> Result<u8, Chain>
     requires found { AreDepthsSoFar (ids_of (S.contents store.now)) (inclusions_of (S.contents store.now)) depths.old }
     requires closed { IsClosed (ids_of (S.contents store.now)) (inclusions_of (S.contents store.now)) }
@@ -114,8 +115,10 @@ fn deepest<S: Store>(
     Ok(deepest)
 }
 
-/// Finds the depth of an included ID, less than `most`, or a chain of `most` inclusions that begins with it.
+/// Finds the depth of an included ID, less than `most`, or a chain of `most` inclusions that begins with it. Most depths
+/// are known already.
 #[cycle(settle)]
+#[inline]
 fn settle_included<S: Store>(
     store: &S,
     depths: &mut [u8],
@@ -132,12 +135,17 @@ fn settle_included<S: Store>(
     ensures ok { IfOk result (λ depth. IsAtDepth (ids_of (S.contents store.now)) depths.new id depth) }
     ensures err { IfErr result (λ chain. BeginsChain (inclusions_of (S.contents store.now)) id most chain.items) }
 {
+    let place = place_of(store, id);
+    let depth = depths[place];
+    if depth < most {
+        return Ok(depth);
+    }
     if most == 0 {
         let mut chain = ArrayVec::new();
         chain.push(id);
         return Err(chain);
     }
-    settle(store, depths, place_of(store, id), most - 1)
+    settle(store, depths, place, most - 1)
 }
 
 /// The index of an ID in the store.

@@ -139,9 +139,9 @@ has_value n (objects.NumberVariable o) = o.value == n
 has_value n (objects.ObjectPointer o) = o.value == low_word n
 has_value n o = false
 
-abbrev pub has_shown_state : ℕ → Seen → Bool
-has_shown_state state (objects.Container o) = o.hidden == 1 - state
-has_shown_state state o = false
+abbrev pub has_hidden_state : ℕ → Seen → Bool
+has_hidden_state state (objects.Container o) = o.hidden == 1 - state
+has_hidden_state state o = false
 
 abbrev pub has_active : ℕ → Seen → Bool
 has_active mask (objects.WorkingSet o) = o.active_mask == mask
@@ -149,7 +149,7 @@ has_active mask o = false
 
 -- whether a command writes into an object what is there already
 abbrev pub writes_same : Command → Seen → Bool
-writes_same (HideShow id state) o = is_state state && has_shown_state state o
+writes_same (HideShow id state) o = is_state state && has_hidden_state state o
 writes_same (EnableDisable id state) o = is_state state && has_enabled_state state o
 writes_same (ChangeNumericValue id value) o = has_value value o
 writes_same (ChangeActiveMask set mask) o = has_active mask o

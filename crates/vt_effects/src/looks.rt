@@ -105,7 +105,7 @@ fn writes_same(command: &Command<'_>, object: &Object<Vec<u8>>) -> bool
     ensures { result ≡ looks.writes_same command.now (seen object.now) }
 {
     match *command {
-        Command::HideShow { state, .. } => state <= 1 && has_shown_state(object, state),
+        Command::HideShow { state, .. } => state <= 1 && has_hidden_state(object, state),
         Command::EnableDisable { state, .. } => state <= 1 && has_enabled_state(object, state),
         Command::ChangeNumericValue { value, .. } => has_value(object, value),
         Command::ChangeActiveMask { mask, .. } => has_active(object, mask),
@@ -114,9 +114,9 @@ fn writes_same(command: &Command<'_>, object: &Object<Vec<u8>>) -> bool
 }
 
 /// Whether a container is hidden in state 0, or shown in state 1.
-fn has_shown_state(object: &Object<Vec<u8>>, state: u8) -> bool
+fn has_hidden_state(object: &Object<Vec<u8>>, state: u8) -> bool
     requires { state ≤ 1 }
-    ensures { result ≡ looks.has_shown_state state (seen object.now) }
+    ensures { result ≡ looks.has_hidden_state state (seen object.now) }
 {
     match object {
         Object::Container(o) => o.hidden == 1 - state,

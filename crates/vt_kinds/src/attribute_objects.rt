@@ -116,3 +116,21 @@ impl<B: AsSlice<u8>> InputAttributes<B> {
         })
     }
 }
+
+impl<B: AsSlice<u8> + Drop> InputAttributes<B> {
+    /// Takes the object over, with its bytes copied into memory of its own.
+    pub(crate) fn into_owned(self, alloc: Global) -> Result<InputAttributes<Vec<u8>>, AllocError>
+        ensures { IfOk result (λ owned. seen_input_attributes owned ≡ seen_input_attributes self) }
+    {
+        let InputAttributes {
+            validation_type,
+            text,
+            macros,
+        } = self;
+        Ok(InputAttributes {
+            validation_type,
+            text: text.copied(alloc)?,
+            macros,
+        })
+    }
+}

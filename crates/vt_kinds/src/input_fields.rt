@@ -94,6 +94,40 @@ impl<B: AsSlice<u8>> InputString<B> {
     }
 }
 
+impl<B: AsSlice<u8> + Drop> InputString<B> {
+    /// Takes the object over, with its bytes copied into memory of its own.
+    pub(crate) fn into_owned(self, alloc: Global) -> Result<InputString<Vec<u8>>, AllocError>
+        ensures { IfOk result (λ owned. seen_input_string owned ≡ seen_input_string self) }
+    {
+        let InputString {
+            width,
+            height,
+            colour,
+            font,
+            input_attributes,
+            options,
+            variable,
+            justification,
+            text,
+            enabled,
+            macros,
+        } = self;
+        Ok(InputString {
+            width,
+            height,
+            colour,
+            font,
+            input_attributes,
+            options,
+            variable,
+            justification,
+            text: text.copied(alloc)?,
+            enabled,
+            macros,
+        })
+    }
+}
+
 /// An Input Number, type 9: a field for a number.
 #[derive(Drop)]
 pub struct InputNumber {

@@ -24,3 +24,15 @@ impl<B: AsSlice<u8>> Macro<B> {
         })
     }
 }
+
+impl<B: AsSlice<u8> + Drop> Macro<B> {
+    /// Takes the object over, with its bytes copied into memory of its own.
+    pub(crate) fn into_owned(self, alloc: Global) -> Result<Macro<Vec<u8>>, AllocError>
+        ensures { IfOk result (λ owned. seen_macro_object owned ≡ seen_macro_object self) }
+    {
+        let Macro { bytes } = self;
+        Ok(Macro {
+            bytes: bytes.copied(alloc)?,
+        })
+    }
+}

@@ -201,3 +201,42 @@ impl<B: AsSlice<u8>> Object<B> {
         }
     }
 }
+
+impl<B: AsSlice<u8> + Drop> Object<B> {
+    /// Takes the object over, with its texts, picture and macro bytes copied into memory of its own.
+    pub fn into_owned(self, alloc: Global) -> Result<Object<Vec<u8>>, AllocError>
+        ensures { IfOk result (λ owned. seen owned ≡ seen self) }
+    {
+        match self {
+            Object::WorkingSet(o) => Ok(Object::WorkingSet(o)),
+            Object::DataMask(o) => Ok(Object::DataMask(o)),
+            Object::AlarmMask(o) => Ok(Object::AlarmMask(o)),
+            Object::Container(o) => Ok(Object::Container(o)),
+            Object::SoftKeyMask(o) => Ok(Object::SoftKeyMask(o)),
+            Object::Key(o) => Ok(Object::Key(o)),
+            Object::Button(o) => Ok(Object::Button(o)),
+            Object::InputBoolean(o) => Ok(Object::InputBoolean(o)),
+            Object::InputString(o) => Ok(Object::InputString(o.into_owned(alloc)?)),
+            Object::InputNumber(o) => Ok(Object::InputNumber(o)),
+            Object::InputList(o) => Ok(Object::InputList(o)),
+            Object::OutputString(o) => Ok(Object::OutputString(o.into_owned(alloc)?)),
+            Object::OutputNumber(o) => Ok(Object::OutputNumber(o)),
+            Object::Line(o) => Ok(Object::Line(o)),
+            Object::Rectangle(o) => Ok(Object::Rectangle(o)),
+            Object::Ellipse(o) => Ok(Object::Ellipse(o)),
+            Object::Polygon(o) => Ok(Object::Polygon(o)),
+            Object::Meter(o) => Ok(Object::Meter(o)),
+            Object::LinearBar(o) => Ok(Object::LinearBar(o)),
+            Object::ArchedBar(o) => Ok(Object::ArchedBar(o)),
+            Object::Picture(o) => Ok(Object::Picture(o.into_owned(alloc)?)),
+            Object::NumberVariable(o) => Ok(Object::NumberVariable(o)),
+            Object::StringVariable(o) => Ok(Object::StringVariable(o.into_owned(alloc)?)),
+            Object::Font(o) => Ok(Object::Font(o)),
+            Object::LineAttributes(o) => Ok(Object::LineAttributes(o)),
+            Object::FillAttributes(o) => Ok(Object::FillAttributes(o)),
+            Object::InputAttributes(o) => Ok(Object::InputAttributes(o.into_owned(alloc)?)),
+            Object::ObjectPointer(o) => Ok(Object::ObjectPointer(o)),
+            Object::Macro(o) => Ok(Object::Macro(o.into_owned(alloc)?)),
+        }
+    }
+}

@@ -52,6 +52,36 @@ impl<B: AsSlice<u8>> OutputString<B> {
     }
 }
 
+impl<B: AsSlice<u8> + Drop> OutputString<B> {
+    /// Takes the object over, with its bytes copied into memory of its own.
+    pub(crate) fn into_owned(self, alloc: Global) -> Result<OutputString<Vec<u8>>, AllocError>
+        ensures { IfOk result (λ owned. seen_output_string owned ≡ seen_output_string self) }
+    {
+        let OutputString {
+            width,
+            height,
+            colour,
+            font,
+            options,
+            variable,
+            justification,
+            text,
+            macros,
+        } = self;
+        Ok(OutputString {
+            width,
+            height,
+            colour,
+            font,
+            options,
+            variable,
+            justification,
+            text: text.copied(alloc)?,
+            macros,
+        })
+    }
+}
+
 /// An Output Number, type 12: a field for a number.
 #[derive(Drop)]
 pub struct OutputNumber {

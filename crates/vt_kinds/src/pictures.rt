@@ -46,3 +46,31 @@ impl<B: AsSlice<u8>> Picture<B> {
         })
     }
 }
+
+impl<B: AsSlice<u8> + Drop> Picture<B> {
+    /// Takes the object over, with its bytes copied into memory of its own.
+    pub(crate) fn into_owned(self, alloc: Global) -> Result<Picture<Vec<u8>>, AllocError>
+        ensures { IfOk result (λ owned. seen_picture owned ≡ seen_picture self) }
+    {
+        let Picture {
+            width,
+            actual_width,
+            actual_height,
+            format,
+            options,
+            transparency,
+            bytes,
+            macros,
+        } = self;
+        Ok(Picture {
+            width,
+            actual_width,
+            actual_height,
+            format,
+            options,
+            transparency,
+            bytes: bytes.copied(alloc)?,
+            macros,
+        })
+    }
+}

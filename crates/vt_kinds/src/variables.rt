@@ -33,6 +33,18 @@ impl<B: AsSlice<u8>> StringVariable<B> {
     }
 }
 
+impl<B: AsSlice<u8> + Drop> StringVariable<B> {
+    /// Takes the object over, with its bytes copied into memory of its own.
+    pub(crate) fn into_owned(self, alloc: Global) -> Result<StringVariable<Vec<u8>>, AllocError>
+        ensures { IfOk result (λ owned. seen_string_variable owned ≡ seen_string_variable self) }
+    {
+        let StringVariable { text } = self;
+        Ok(StringVariable {
+            text: text.copied(alloc)?,
+        })
+    }
+}
+
 /// An Object Pointer, type 27, which acts as the object that it refers to.
 #[derive(Clone, Copy, Debug, PartialEq, Eq)]
 pub struct ObjectPointer {

@@ -35,7 +35,7 @@ input_line (inputs.Operator action) = OperatorAction (action_value action)
 
 -- The input is that of this line, a frame or an action of the operator.
 abbrev pub IsInputOfLine : ParsedLine → JudgedInput → Type 0
-IsInputOfLine (FrameAt time frame) (steps.FrameAt at heard verdict) = (at ≡ time) × (heard ≡ frame)
+IsInputOfLine (FrameAt time frame) (steps.FrameAt at received verdict) = (at ≡ time) × (received ≡ frame)
 IsInputOfLine (OperatorAction action) (steps.ActionAt value shown) = value ≡ action
 IsInputOfLine line event = ⊥
 

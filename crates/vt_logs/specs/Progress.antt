@@ -30,8 +30,8 @@ pub record ReplayPoint : Type 0 where
 abbrev pub scene : Terminal → List ℕ → ReplayState
 scene terminal screen = record { state = state_of terminal; screen = screen }
 
-abbrev pub stand : Terminal → List ℕ → Counts → Option (List ℕ) → ReplayPoint
-stand terminal screen counts held = record { scene = scene terminal screen; counts = counts; held = held }
+abbrev pub replay_point : Terminal → List ℕ → Counts → Option (List ℕ) → ReplayPoint
+replay_point terminal screen counts held = record { scene = scene terminal screen; counts = counts; held = held }
 
 -- A text that has the property Is is written.
 pub record Writes (Is : List ℕ → Type 0) (old new : Option (List ℕ)) : Type 0 where

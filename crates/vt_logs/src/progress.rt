@@ -7,7 +7,7 @@ ghost use Rattle.vt_logs.specs.Lines.{lines_of};
 ghost use Rattle.vt_logs.specs.EarlyEnds.{BreaksOff, MayBegin, Stops, StopsAtLong};
 ghost use Rattle.vt_logs.specs.LineEffects.{Follows, FollowsInput, TakesInputLine, TakesReading, input_line};
 ghost use Rattle.vt_logs.specs.Texts.{with_line_counted, no_counts, new_screen};
-ghost use Rattle.vt_logs.specs.Progress.{AtMost, HasNoNewline, IsLineFault, IsStepFault, Takes, TakesBytes, TakesOne, Writes, scene, stand};
+ghost use Rattle.vt_logs.specs.Progress.{AtMost, HasNoNewline, IsLineFault, IsStepFault, Takes, TakesBytes, TakesOne, Writes, scene, replay_point};
 ghost use Rattle.vt_server.specs.shown.Screens.{IsScreenOf, redraws};
 ghost use Rattle.vt_server.specs.States.{state_of};
 
@@ -95,13 +95,13 @@ impl Progress {
         requires few { AtMost (2 ^ 61) self.old.counts }
         requires short { length chunk.now ≤ 65536 }
         requires whole { HasNoNewline self.old.pending.items }
-        ensures taken { OnOk result (TakesBytes (stand terminal.old self.old.screen.items self.old.counts (W.contents writer.old))
+        ensures taken { OnOk result (TakesBytes (replay_point terminal.old self.old.screen.items self.old.counts (W.contents writer.old))
             self.old.pending.items chunk.now
-            (stand terminal.new self.new.screen.items self.new.counts (W.contents writer.new)) self.new.pending.items) }
+            (replay_point terminal.new self.new.screen.items self.new.counts (W.contents writer.new)) self.new.pending.items) }
         ensures whole { OnOk result (HasNoNewline self.new.pending.items) }
-        ensures stopped { OnErr result ((rest : List ℕ) → Stops (stand terminal.old self.old.screen.items self.old.counts (W.contents writer.old))
+        ensures stopped { OnErr result ((rest : List ℕ) → Stops (replay_point terminal.old self.old.screen.items self.old.counts (W.contents writer.old))
             (lines_of (self.old.pending.items ++ chunk.now ++ rest)) (state_of terminal.new) (W.contents writer.new)) }
-        ensures too_long { IsErrOf result ReplayFault.TooLong → (rest : List ℕ) → StopsAtLong (stand terminal.old self.old.screen.items self.old.counts (W.contents writer.old))
+        ensures too_long { IsErrOf result ReplayFault.TooLong → (rest : List ℕ) → StopsAtLong (replay_point terminal.old self.old.screen.items self.old.counts (W.contents writer.old))
             (lines_of (self.old.pending.items ++ chunk.now ++ rest)) (state_of terminal.new) (W.contents writer.new) }
         ensures fault { IfErr result (IsLineFault W.steady) }
     {
@@ -122,10 +122,10 @@ impl Progress {
         requires drawn { IsScreenOf (state_of terminal.old) self.old.screen.items }
         requires few { AtMost (2 ^ 62) self.old.counts }
         requires whole { HasNoNewline self.old.pending.items }
-        ensures takes { OnOk result (Takes (stand terminal.old self.old.screen.items self.old.counts (W.contents writer.old))
+        ensures takes { OnOk result (Takes (replay_point terminal.old self.old.screen.items self.old.counts (W.contents writer.old))
             (lines_of self.old.pending.items)
-            (stand terminal.new self.new.screen.items self.new.counts (W.contents writer.new))) }
-        ensures stopped { OnErr result (Stops (stand terminal.old self.old.screen.items self.old.counts (W.contents writer.old))
+            (replay_point terminal.new self.new.screen.items self.new.counts (W.contents writer.new))) }
+        ensures stopped { OnErr result (Stops (replay_point terminal.old self.old.screen.items self.old.counts (W.contents writer.old))
             (lines_of self.old.pending.items) (state_of terminal.new) (W.contents writer.new)) }
         ensures too_long { IsErrOf result ReplayFault.TooLong → 4096 < length self.old.pending.items }
         ensures stay { IsErrOf result ReplayFault.TooLong → (state_of terminal.new ≡ state_of terminal.old) × (W.contents writer.new ≡ W.contents writer.old) }
@@ -160,11 +160,11 @@ impl Progress {
     ) -> Result<(), ReplayFault>
         requires drawn { IsScreenOf (state_of terminal.old) self.old.screen.items }
         requires few { AtMost (2 ^ 62) self.old.counts }
-        ensures takes { OnOk result (Takes (stand terminal.old self.old.screen.items self.old.counts (W.contents writer.old))
+        ensures takes { OnOk result (Takes (replay_point terminal.old self.old.screen.items self.old.counts (W.contents writer.old))
             ((self.old.pending.items ++ part.now) ∷ [])
-            (stand terminal.new self.new.screen.items self.new.counts (W.contents writer.new))) }
+            (replay_point terminal.new self.new.screen.items self.new.counts (W.contents writer.new))) }
         ensures empty { OnOk result (self.new.pending.items ≡ []) }
-        ensures stopped { OnErr result (Stops (stand terminal.old self.old.screen.items self.old.counts (W.contents writer.old))
+        ensures stopped { OnErr result (Stops (replay_point terminal.old self.old.screen.items self.old.counts (W.contents writer.old))
             ((self.old.pending.items ++ part.now) ∷ []) (state_of terminal.new) (W.contents writer.new)) }
         ensures too_long { IsErrOf result ReplayFault.TooLong → 4096 < length (self.old.pending.items ++ part.now) }
         ensures stay { IsErrOf result ReplayFault.TooLong → (state_of terminal.new ≡ state_of terminal.old) × (W.contents writer.new ≡ W.contents writer.old) }
@@ -190,11 +190,11 @@ impl Progress {
         requires drawn { IsScreenOf (state_of terminal.old) self.old.screen.items }
         requires few { AtMost (2 ^ 62) self.old.counts }
         requires short { length line.now ≤ 4096 }
-        ensures takes { OnOk result (Takes (stand terminal.old self.old.screen.items self.old.counts (W.contents writer.old))
+        ensures takes { OnOk result (Takes (replay_point terminal.old self.old.screen.items self.old.counts (W.contents writer.old))
             (line.now ∷ [])
-            (stand terminal.new self.new.screen.items self.new.counts (W.contents writer.new))) }
+            (replay_point terminal.new self.new.screen.items self.new.counts (W.contents writer.new))) }
         ensures pending { self.new.pending ≡ self.old.pending }
-        ensures stopped { OnErr result (Stops (stand terminal.old self.old.screen.items self.old.counts (W.contents writer.old))
+        ensures stopped { OnErr result (Stops (replay_point terminal.old self.old.screen.items self.old.counts (W.contents writer.old))
             (line.now ∷ []) (state_of terminal.new) (W.contents writer.new)) }
         ensures fault { IfErr result (IsStepFault W.steady) }
     {
@@ -214,9 +214,9 @@ impl Progress {
     ) -> Result<(), ReplayFault>
         requires drawn { IsScreenOf (state_of terminal.old) self.old.screen.items }
         requires few { AtMost (2 ^ 62) self.old.counts }
-        ensures takes { OnOk result (TakesOne (stand terminal.old self.old.screen.items self.old.counts (W.contents writer.old))
+        ensures takes { OnOk result (TakesOne (replay_point terminal.old self.old.screen.items self.old.counts (W.contents writer.old))
             (reading_of reading.entry)
-            (stand terminal.new self.new.screen.items self.new.counts (W.contents writer.new))) }
+            (replay_point terminal.new self.new.screen.items self.new.counts (W.contents writer.new))) }
         ensures stopped { OnErr result (Writes (BreaksOff (state_of terminal.old) (Follows (state_of terminal.old) (reading_of reading.entry))
             (TakesReading (scene terminal.old self.old.screen.items) (self.old.counts.lines + 1) (reading_of reading.entry)) (state_of terminal.new))
             (W.contents writer.old) (W.contents writer.new)) }

@@ -1,5 +1,5 @@
 -- The marks of shown objects stay those of the objects shown while a store looks the same.
-use Rattle.std.proofs.Common.{◌≡◌, ◌<◌, ◌+◌, ◌-◌, ℕ, zero, suc, Bool, true, false, not, ◌&&◌, List, [], ◌∷◌, ◌++◌, length, get_or, take, Option, Some, Result, Ok, Err, refl, sym, ap, subst, ◌∙◌, arith}
+use Rattle.std.proofs.Common.{◌≡◌, ◌<◌, ◌≤◌, ◌⊎◌, inl, inr, ◌+◌, ◌-◌, ℕ, zero, suc, Bool, true, false, not, ◌&&◌, List, [], ◌∷◌, ◌++◌, length, get_or, take, Option, Some, Result, Ok, Err, refl, sym, ap, subst, ◌∙◌, arith}
 use Rattle.std.proofs.Math.Seq.{take-append_seam}
 use Rattle.std.specs.Option.{option_map}
 use Rattle.std.specs.FinMap as finite
@@ -108,13 +108,20 @@ pub mark_hides : (m : ObjectMap) (id index : ℕ) (marks : List Bool) (mark : Bo
 mark_hides m id index marks mark at are is clear shown =
     clear_mark m id index marks at (mark_at m id index marks mark at are.each is ∙ clear) (are.marked id shown)
 
--- an object without a mark is not shown after a search for it, as the search did not end at it
-pub search_hides : (m : ObjectMap) (id index : ℕ) (marks : List Bool) (mark is_found : Bool) → IsPlace (finite.entries m) id index → length marks ≡ length (ids_of m)
-    → (is_found ≡ true → slice_index_or marks index false ≡ true) → (is_found ≡ false → AreShown m (active_in m) marks) → mark ≡ get_or marks index mark → mark ≡ false
-    → IsShown m (active_in m) id → ⊥
-search_hides m id index marks mark true at each found all is clear shown =
-    let set = sym (found refl) ∙ mark_at m id index marks mark at each is ∙ clear in absurd cc
-search_hides m id index marks mark false at each found all is clear shown = mark_hides m id index marks mark at (all refl) is clear shown
+-- an object without a mark is not shown after a search for it or for no object, as the search did not end at it
+pub search_hides : (m : ObjectMap) (id index sought : ℕ) (marks : List Bool) (mark is_found : Bool) → IsPlace (finite.entries m) id index
+    → length marks ≡ length (ids_of m) → (sought ≡ index) ⊎ (length (ids_of m) ≤ sought) → is_found ≡ slice_index_or marks sought false
+    → (is_found ≡ false → AreShown m (active_in m) marks) → mark ≡ get_or marks index mark → mark ≡ false → IsShown m (active_in m) id → ⊥
+search_hides m id index sought marks mark true at each (inl same) found all is clear shown =
+    let set = found ∙ ap (λ (i : ℕ). slice_index_or marks i false) same ∙ mark_at m id index marks mark at each is ∙ clear in absurd cc
+search_hides m id index sought marks mark true at each (inr past) found all is clear shown =
+    let set = found ∙ past_end marks sought (omega (arith, past, each)) in absurd cc
+  where
+    past_end : (marks : List Bool) (i : ℕ) → length marks ≤ i → slice_index_or marks i false ≡ false
+    past_end [] i le = refl
+    past_end (x ∷ marks) zero le = absurd (omega (arith, le))
+    past_end (x ∷ marks) (suc i) le = past_end marks i (omega (arith, le))
+search_hides m id index sought marks mark false at each which found all is clear shown = mark_hides m id index marks mark at (all refl) is clear shown
 
 -- the marks after a search
 pub search_marks : (m : ObjectMap) (mask : ℕ) (marks : List Bool) (is_found : Bool) → mask ≡ active_in m → AreSomeShown m mask marks

@@ -137,9 +137,9 @@ renewed state new = record { objects = new; key = kept_key state.objects new sta
 
 -- ---- the marks of shown objects
 
--- There is a mark for each object. The active mask shows each marked object, if it is said to, and all objects that it shows
--- are marked, if they are said to be.
-pub record HasMarks (store : ObjectMap) (are_shown all_shown : Bool) (marks : List Bool) : Type 0 where
+-- There is a mark for each object. Where the marks hold, the active mask shows each marked object; where they are whole too, the
+-- marked objects are all that it shows.
+pub record HasMarks (store : ObjectMap) (hold whole : Bool) (marks : List Bool) : Type 0 where
   pub each : length marks ≡ length (ids_of store)
-  pub shown : are_shown ≡ true → AreSomeShown store (active_in store) marks
-  pub all : are_shown ≡ true → all_shown ≡ true → AreShown store (active_in store) marks
+  pub shown : hold ≡ true → AreSomeShown store (active_in store) marks
+  pub all : hold ≡ true → whole ≡ true → AreShown store (active_in store) marks

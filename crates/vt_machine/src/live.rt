@@ -1,11 +1,12 @@
 //! A running working set with its object pool and event machine.
 
-ghost use Rattle.std.specs.Prelude.{◌≡◌, ◌≤◌, ℕ, [], ◌∷◌, Some, None, IfOk, true, false, length};
+ghost use Rattle.std.specs.Prelude.{◌≡◌, ◌≤◌, ◌⊎◌, ℕ, [], ◌∷◌, Some, None, IfOk, true, false, length};
 ghost use Rattle.std.specs.Option.{option_map};
 ghost use Rattle.std.specs.FinMap as finite;
 ghost use Rattle.vt_kinds.specs.declared.kind.Kind.TheVariants as kinds;
 ghost use Rattle.vt_kinds.specs.Records.{seen};
 ghost use Rattle.vt_stores.specs.Stores.{map_of};
+ghost use Rattle.vt_chains.specs.Depths.{ids_of};
 ghost use Rattle.vt_verify.specs.Budgets.{budget};
 ghost use Rattle.vt_verify.specs.Rules.{working_sets};
 ghost use Rattle.vt_verify.specs.Triggers.{listing};
@@ -59,9 +60,10 @@ pub struct Live<S: Store> {
     working_set: ObjectId,
     /// A mark for each object.
     marks: Vec<bool>,
-    /// Whether the active mask shows each marked object. It does so until a call changes what the text of a screen shows.
+    /// Whether the marks hold: the active mask shows each marked object. They do so until a call changes what the text of a
+    /// screen shows.
     pub(crate) are_marked: bool,
-    /// Whether all objects that the active mask shows are marked, if it shows the marked ones.
+    /// Whether the marks, where they hold, are whole: the marked objects are all that the active mask shows.
     all_marked: bool,
     pub(crate) key: Option<HeldKey>,
     pub(crate) input: Option<ObjectId>,
@@ -246,11 +248,23 @@ impl<S: Store> Live<S> {
             return true;
         }
         let mask = self.active_mask();
+        let sought = self.sought(index);
         let marks = &mut self.marks;
-        let is_found = search_shown(&self.store, self.levels.as_slice(), marks, mask, index);
+        let is_found = search_shown(&self.store, self.levels.as_slice(), marks, mask, sought);
         self.are_marked = true;
         self.all_marked = !is_found;
         self.marks[index]
+    }
+
+    /// The index to search for: at first that of the object asked for. A second search while the look stays is for no object,
+    /// and so marks all objects shown.
+    fn sought(&self, index: usize) -> usize
+        ensures { (result ≡ index) ⊎ (length (ids_of self.now.objects) ≤ result) }
+    {
+        if self.are_marked {
+            return self.store.count();
+        }
+        index
     }
 
     /// Does a command, and runs the macros of the events that it raises. Delete Object Pool changes nothing here: the

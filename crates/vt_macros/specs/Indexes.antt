@@ -35,7 +35,7 @@ is_quiet_event index event = list_all (λ id. slice_index_or index.quiet.items i
 abbrev pub are_quiet_events : Index → List Raised → Bool
 are_quiet_events index raised = list_all (λ r. is_quiet_event index (listing_of r)) raised
 
--- The index has the listed macros of each event, the commands of each macro, and knows quiet macros alone to be quiet.
+-- The index has the listed macros of each event, the commands of each macro, and each macro known to be quiet is quiet.
 pub record IsIndexOf (shape : Shape) (index : Index) : Type 0 where
   pub listings_are : AreListings shape index.listings
   pub commands_are : (id : ℕ) → map (command_in index) (pieces_in index id) ≡ map Some (commands shape id)

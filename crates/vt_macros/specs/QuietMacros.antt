@@ -36,7 +36,7 @@ is_quiet_at shape known event = list_all (λ id. slice_index_or known id false) 
 abbrev pub are_quiet : Shape → List Bool → List Raised → Bool
 are_quiet shape known raised = list_all (λ r. is_quiet_at shape known (listing_of r)) raised
 
--- whether a command writes no field in a text, and triggers macros alone that are known to be quiet
+-- whether a command writes no field in a text, and triggers only known quiet macros
 abbrev pub is_quiet : Shape → List Bool → Command → Bool
 is_quiet shape known command = is_unseen_in shape command && are_quiet shape known (row_events command)
 

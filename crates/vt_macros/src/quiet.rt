@@ -12,9 +12,9 @@ use vt_effects::writes_unseen;
 use vt_objects::{Command, ObjectId, Raised, Store, row_events};
 
 impl Index {
-    /// Looks for quiet macros in `order`: a macro is quiet if its commands write no field that a screen's text shows, and
-    /// trigger macros alone that are known to be quiet. In the order of ranks, each macro after those that it triggers,
-    /// none is missed; no contract says so.
+    /// Finds the quiet macros of `order` and notes them in the index: a macro is quiet if its commands write no field that a
+    /// screen's text shows, and trigger only known quiet macros. In the order of ranks, each macro after those that it
+    /// triggers, none is missed; no contract says so.
     pub fn find_quiet<S: Store>(&mut self, store: &S, order: &[u8])
         requires { IsIndexOf (shape_in (S.contents store.now)) self.old }
         ensures { IsIndexOf (shape_in (S.contents store.now)) self.new }
@@ -26,7 +26,7 @@ impl Index {
         }
     }
 
-    /// Whether events trigger macros alone that are known to be quiet.
+    /// Whether events trigger only known quiet macros.
     pub fn are_quiet(&self, raised: &[Raised]) -> bool
         ensures { result ≡ are_quiet_events self.now raised.now }
     {
@@ -35,7 +35,7 @@ impl Index {
             .all(|event| self.is_quiet_at(event.id, event.event.number()))
     }
 
-    /// Whether an event, by its number, triggers macros alone that are known to be quiet.
+    /// Whether an event, by its number, triggers only known quiet macros.
     pub fn is_quiet_at(&self, id: ObjectId, event: u8) -> bool
         ensures { result ≡ is_quiet_event self.now (listing id event) }
     {
@@ -83,7 +83,7 @@ impl Index {
         }
     }
 
-    /// Whether a command writes no field that a screen's text shows, and triggers macros alone that are known to be quiet.
+    /// Whether a command writes no field that a screen's text shows, and triggers only known quiet macros.
     fn is_quiet<S: Store>(&self, store: &S, command: &Command<'_>) -> bool
         requires { IsIndexOf (shape_in (S.contents store.now)) self.now }
         ensures { result ≡ quiet.is_quiet (shape_in (S.contents store.now)) self.now.quiet.items command.now }

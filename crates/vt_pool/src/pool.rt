@@ -62,6 +62,18 @@ impl<'a> Pool<'a> {
         &self.objects
     }
 
+    /// Takes the objects out, in the pool's order. IDs are unique, and none is NULL.
+    pub fn into_objects(self) -> Vec<(ObjectId, Object<&'a [u8]>)>
+        ensures all { map seen_entry result.items ≡ self.entry }
+        ensures each { AreObjects self.entry }
+    {
+        let Pool {
+            objects,
+            places: _places,
+        } = self;
+        objects
+    }
+
     /// Returns the object of an ID, or `None`.
     pub fn get(&self, id: ObjectId) -> Option<&Object<&'a [u8]>>
         ensures { option_map (λ o. seen o.now) result ≡ finite.get (contents self.now) id }

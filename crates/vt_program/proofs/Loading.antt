@@ -20,7 +20,7 @@ use Rattle.vt_logs.specs.declared.fault.ReplayFault.TheVariants.{TooLong, Write}
 use Rattle.vt_logs.specs.EarlyEnds.{HasStopped, HasStoppedAtLong}
 use Rattle.vt_logs.specs.Lines.{lines_of}
 use Rattle.vt_logs.specs.Replays.{IsReplay, HasLongLine}
-use Rattle.vt_program.specs.Runs.{FileContents, IsLoaded, IsPoolOf, IsAcceptedPoolOf, IsRefusedPool, IsReportOf, IsStart, StandsReplayed, WritesReplay, new_state}
+use Rattle.vt_program.specs.Runs.{FileContents, IsLoaded, IsPoolOf, IsAcceptedPoolOf, IsRefusedPool, IsReportOf, IsStart, HasReplayedUntil, WritesReplay, new_state}
 use Rattle.vt_logs.specs.Texts.{counts_text}
 use Rattle.vt_server.specs.state.AddressStates.{empty}
 use Rattle.vt_server.specs.Steps.{preloading}
@@ -147,7 +147,7 @@ whole_stands start end input text counts old new r written =
 pub whole_written : (file remaining old mid new : Option (List ℕ)) (start end : State) (counts : Counts)
     → IfSome file (λ bytes. remaining ≡ Some bytes)
     → IfSome remaining (λ input. (text : List ℕ) × Appends old mid text × IsReplay start input text counts end)
-    → Keeps mid new → IfSome file (λ input. StandsReplayed start input Write old new)
+    → Keeps mid new → IfSome file (λ input. HasReplayedUntil start input Write old new)
 whole_written None remaining old mid new start end counts same replay keeps = tt
 whole_written (Some bytes) remaining old mid new start end counts same replay keeps =
     let r = rw same at replay in
@@ -161,7 +161,7 @@ whole_written (Some bytes) remaining old mid new start end counts same replay ke
 pub front_written : (file remaining old new : Option (List ℕ)) (start end : State) (why : ReplayFault) → IfSome file (λ bytes. remaining ≡ Some bytes)
     → IfSome remaining (λ input. HasStopped start input end old new)
     → (why ≡ TooLong → IfSome remaining (λ input. HasStoppedAtLong start input end old new))
-    → IfSome file (λ input. StandsReplayed start input why old new)
+    → IfSome file (λ input. HasReplayedUntil start input why old new)
 front_written None remaining old new start end why same stopped at_long = tt
 front_written (Some bytes) remaining old new start end why same stopped at_long =
     record { now = end; stopped = rw same at stopped; at_long = λ e. rw same at (at_long e) }

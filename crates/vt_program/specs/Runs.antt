@@ -159,25 +159,25 @@ IsReplayFault files options why =
 
 -- The output after a fault of a log's replay, with the terminal then: the first lines are taken and their text is written, that of the
 -- last one perhaps in part. Where a line is too long, all lines before it are taken and their text is written whole.
-pub record StandsReplayed (start : State) (input : List ℕ) (why : ReplayFault) (old new : Option (List ℕ)) : Type 0 where
+pub record HasReplayedUntil (start : State) (input : List ℕ) (why : ReplayFault) (old new : Option (List ℕ)) : Type 0 where
   pub now : State
   pub stopped : HasStopped start input now old new
   pub at_long : why ≡ replay_fault.TooLong → HasStoppedAtLong start input now old new
 
 -- The output after a fault of a log: nothing where it could not be opened, or the first bytes of its replay.
-abbrev pub StandsWritten : State → Option (List ℕ) → Fault → Option (List ℕ) → Option (List ℕ) → Type 0
-StandsWritten start log (fault.File path cause) old new = Keeps old new
-StandsWritten start log (fault.Pool why) old new = ⊥
-StandsWritten start log (fault.Refused why named) old new = ⊥
-StandsWritten start log fault.Memory old new = ⊥
-StandsWritten start log (fault.Replay why cause) old new = IfSome log (λ input. StandsReplayed start input why old new)
+abbrev pub HasWrittenUntil : State → Option (List ℕ) → Fault → Option (List ℕ) → Option (List ℕ) → Type 0
+HasWrittenUntil start log (fault.File path cause) old new = Keeps old new
+HasWrittenUntil start log (fault.Pool why) old new = ⊥
+HasWrittenUntil start log (fault.Refused why named) old new = ⊥
+HasWrittenUntil start log fault.Memory old new = ⊥
+HasWrittenUntil start log (fault.Replay why cause) old new = IfSome log (λ input. HasReplayedUntil start input why old new)
 
 -- The terminal is the one that the options give, and the log has a fault.
 pub record HasLogFault (files : FileContents) (options : Options) (why : Fault) (old new : Option (List ℕ)) : Type 0 where
   pub start : State
   pub given : IsStart files options start
   pub faulty : IsLogFault files options.file.now why
-  pub written : StandsWritten start (files options.file.now) why old new
+  pub written : HasWrittenUntil start (files options.file.now) why old new
 
 -- The faults of a replay, with the output before they are printed. The pool comes first: where its file does not give an accepted
 -- pool, nothing is written.

@@ -22,7 +22,7 @@ use vt_kinds::{Kind, ObjectId};
 use vt_logs::{Notes, ReplayFault, Sink, Stream, replay_with_notes};
 use vt_pool::{Pool, PoolFault, read_pool};
 use vt_server::Terminal;
-use vt_verify::{Accepted, verify};
+use vt_verify::{Accepted, verify_owned};
 
 /// Opens files by their paths.
 pub trait Open {
@@ -345,13 +345,27 @@ fn accepted<'a>(alloc: Global, bytes: &[u8]) -> Result<Accepted, Fault<'a>>
         Err(PoolFault::OutOfMemory { .. }) => return Err(Fault::Memory),
         Err(fault) => return Err(Fault::Pool(fault)),
     };
-    match verify(alloc, &pool) {
+    match verify_owned(alloc, pool) {
         Ok(accepted) => Ok(accepted),
         Err(vt_verify::Refusal::OutOfMemory) => Err(Fault::Memory),
         Err(why) => {
-            let named = named_in(&pool, &why);
+            let named = named_in_bytes(alloc, bytes, &why)?;
             Err(Fault::Refused { why, named })
         }
+    }
+}
+
+/// The kinds of the objects in a refusal of the pool of some bytes. Reads the pool again, as the verifier has taken it over.
+fn named_in_bytes<'a>(
+    alloc: Global,
+    bytes: &[u8],
+    why: &vt_verify::Refusal,
+) -> Result<Named, Fault<'a>>
+    ensures { IfErr result (λ fault. fault ≡ Memory) }
+{
+    match read_pool(alloc, bytes) {
+        Ok(pool) => Ok(named_in(&pool, why)),
+        Err(_) => Err(Fault::Memory),
     }
 }
 

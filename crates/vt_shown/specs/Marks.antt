@@ -37,7 +37,7 @@ pub record Searched (store : ObjectMap) (names : List ℕ) (old new : List Bool)
   pub added : (id : ℕ) → IsNamed store names id → IsMarked store new id
   pub drawn : (id : ℕ) → IsMarked store new id → IsMarked store old id ⊎ HasDrawingMarked store new id
 
--- A search from listed IDs, whole or not, marks objects alone that a mask shows, if the mask shows the elements that the IDs
+-- A search from listed IDs, whole or not, marks only objects that a mask shows, if the mask shows the elements that the IDs
 -- resolve to.
 abbrev pub MarksShown : ObjectMap → List ℕ → List Bool → List Bool → Type 0
 MarksShown store names old new = (mask : ℕ) → ((id : ℕ) → IsNamed store names id → IsShown store mask id) → AreSomeShown store mask old → AreSomeShown store mask new

@@ -21,10 +21,11 @@ use vt_stores::Store;
 /// A level above those of all objects.
 const ABOVE_ALL: u8 = TERMINAL_LIMITS.inclusions + 1;
 
-/// Searches the objects that a mask shows, in its drawing, however long, and on its soft keys, for the object at an index of
-/// the store, and marks each object that it visits. Ends with true at the object sought. If false, the marked objects are
-/// all those that the mask shows. `marks` has one mark for each object, at its index; former marks are cleared. Visits no
-/// object twice. docs/PROFILE.md, "The drawing".
+/// Searches a mask's drawing, however long, and its soft keys for the object at the index `sought`. True when it gets to the
+/// object: the mask shows each marked object then. False if the mask does not show it: the marked objects are then all that
+/// the mask shows, as after a search for an index past the last object. `levels` has the level of each object
+/// (`Levels::as_slice`), and `marks` a mark for each object, at its index; former marks are cleared. docs/PROFILE.md, "The
+/// drawing".
 pub fn search_shown<S: Store>(
     store: &S,
     levels: &[u8],
@@ -35,7 +36,7 @@ pub fn search_shown<S: Store>(
     requires levels { IsCertificate (ids_of (S.contents store.now)) (inclusions_of (S.contents store.now)) levels.now }
     requires marks { length marks.old ≡ length (ids_of (S.contents store.now)) }
     ensures some { AreSomeShown (S.contents store.now) mask marks.new }
-    ensures found { result ≡ true → slice_index_or marks.new sought false ≡ true }
+    ensures found { result ≡ slice_index_or marks.new sought false }
     ensures all { result ≡ false → AreShown (S.contents store.now) mask marks.new }
 {
     marks.fill(false);
@@ -59,6 +60,7 @@ fn search_mask<S: Store>(
     requires null { finite.get (S.contents store.now) null_id ≡ None }
     ensures shown { MarksShown (S.contents store.now) (drawn_in (S.contents store.now) (finite.get (S.contents store.now) mask)) marks.old marks.new }
     ensures found { result ≡ true → slice_index_or marks.new sought false ≡ true }
+    ensures not_found { result ≡ false → slice_index_or marks.new sought false ≡ slice_index_or marks.old sought false }
     ensures all { result ≡ false → Searched (S.contents store.now) (drawn_in (S.contents store.now) (finite.get (S.contents store.now) mask)) marks.old marks.new }
 {
     match store.place(mask) {
@@ -80,6 +82,7 @@ fn search_soft_keys<S: Store>(
     requires null { finite.get (S.contents store.now) null_id ≡ None }
     ensures shown { MarksShown (S.contents store.now) (keys_of (finite.get (S.contents store.now) keys)) marks.old marks.new }
     ensures found { result ≡ true → slice_index_or marks.new sought false ≡ true }
+    ensures not_found { result ≡ false → slice_index_or marks.new sought false ≡ slice_index_or marks.old sought false }
     ensures all { result ≡ false → Searched (S.contents store.now) (keys_of (finite.get (S.contents store.now) keys)) marks.old marks.new }
 {
     match store.get(keys) {
@@ -103,6 +106,7 @@ fn search_keys<S: Store>(
     requires null { finite.get (S.contents store.now) null_id ≡ None }
     ensures shown { MarksShown (S.contents store.now) keys.now marks.old marks.new }
     ensures found { result ≡ true → slice_index_or marks.new sought false ≡ true }
+    ensures not_found { result ≡ false → slice_index_or marks.new sought false ≡ slice_index_or marks.old sought false }
     ensures all { result ≡ false → Searched (S.contents store.now) keys.now marks.old marks.new }
 {
     for key in keys {
@@ -128,6 +132,7 @@ fn search_drawing<S: Store>(
     requires null { finite.get (S.contents store.now) null_id ≡ None }
     ensures shown { (id : ℕ) → IsIdAt (ids_of (S.contents store.now)) index id → MarksShown (S.contents store.now) (drawn_in (S.contents store.now) (finite.get (S.contents store.now) id)) marks.old marks.new }
     ensures found { result ≡ true → slice_index_or marks.new sought false ≡ true }
+    ensures not_found { result ≡ false → slice_index_or marks.new sought false ≡ slice_index_or marks.old sought false }
     ensures all { result ≡ false → (id : ℕ) → IsIdAt (ids_of (S.contents store.now)) index id → Searched (S.contents store.now) (drawn_in (S.contents store.now) (finite.get (S.contents store.now) id)) marks.old marks.new }
 {
     let (_, object) = entry(store, index);
@@ -160,6 +165,7 @@ fn search_named<S: Store>(
     requires below { (id : ℕ) → IsNamed (S.contents store.now) (name ∷ []) id → IsBelow (ids_of (S.contents store.now)) levels.now id level }
     ensures shown { MarksShown (S.contents store.now) (name ∷ []) marks.old marks.new }
     ensures found { result ≡ true → slice_index_or marks.new sought false ≡ true }
+    ensures not_found { result ≡ false → slice_index_or marks.new sought false ≡ slice_index_or marks.old sought false }
     ensures all { result ≡ false → Searched (S.contents store.now) (name ∷ []) marks.old marks.new }
 {
     let Some(index) = element_index(store, name) else {
@@ -242,7 +248,7 @@ fn is_element_at<S: Store>(store: &S, index: usize) -> bool
     }
 }
 
-/// The index of the element that an ID resolves to, directly or through a pointer, if it is an element.
+/// Like `element_index`, but looks the object up first: for pointers, hidden containers and missing IDs.
 fn index_behind<S: Store>(store: &S, name: ObjectId) -> Option<usize>
     ensures some { IfSome result (λ index. (id : ℕ) × IsIdAt (ids_of (S.contents store.now)) index id × IsNamed (S.contents store.now) (name ∷ []) id) }
     ensures none { IfNone result ((id : ℕ) → IsNamed (S.contents store.now) (name ∷ []) id → ⊥) }

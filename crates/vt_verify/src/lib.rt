@@ -1,8 +1,8 @@
 //! Verification of object pools: whether all references, inclusions, macros and triggers of a pool are valid, and how
 //! many steps each of its events can cost.
 //!
-//! - `verify` and `verify_update` return an `Accepted` pool or the first `Refusal`. `Accepted::into_parts` returns its
-//!   `AcceptedParts`, with the `Listings` of the macros that run at each event.
+//! - `verify`, `verify_owned` and `verify_update` return an `Accepted` pool or the first `Refusal`. `Accepted::into_parts`
+//!   returns its `AcceptedParts`, with the `Listings` of the macros that run at each event.
 //! - `find_depths` of vt_chains finds the depths of a store's objects, or a `Chain` that is too long; the `Limits` of
 //!   this terminal are `TERMINAL_LIMITS`.
 //! - `laws` has the theorems about the definitions.
@@ -29,7 +29,7 @@ mod verification;
 pub use accepted::{Accepted, AcceptedParts};
 pub use listing::Listings;
 pub use refusal::Refusal;
-pub use verification::{verify, verify_update};
+pub use verification::{verify, verify_owned, verify_update};
 pub use vt_chains::{Chain, Limits, TERMINAL_LIMITS, find_depths};
 
 /// A refused allocation.

@@ -1,4 +1,4 @@
-//! Copies of the objects of a pool or of an updated store, by rising ID.
+//! The objects of a pool or of an updated store, copied or taken over, by rising ID.
 
 ghost use Rattle.std.specs.Prelude.{◌≡◌, IfOk, OnOk, map};
 ghost use Rattle.std.specs.FinMap as finite;
@@ -19,6 +19,16 @@ pub(crate) fn sorted(alloc: Global, pool: &Pool<'_>) -> Result<SortedStore, Allo
     ensures stored { IfOk result AreStored }
 {
     let entries = copies(alloc, pool)?;
+    let objects = SortedStore::from_vec(entries)?;
+    Ok(objects)
+}
+
+/// The objects of a pool, taken over, by rising ID.
+pub(crate) fn sorted_owned(alloc: Global, pool: Pool<'_>) -> Result<SortedStore, AllocError>
+    ensures made { IfOk result (λ objects. objects ≡ by_rising_id pool.entry) }
+    ensures stored { IfOk result AreStored }
+{
+    let entries = owned(alloc, pool)?;
     let objects = SortedStore::from_vec(entries)?;
     Ok(objects)
 }
@@ -65,6 +75,19 @@ fn copies(alloc: Global, pool: &Pool<'_>) -> Result<Vec<(ObjectId, Object<Vec<u8
     let mut entries = Vec::with_capacity(alloc, objects.len())?;
     for (id, object) in objects {
         entries.push((*id, object.copied(alloc)?))?;
+    }
+    Ok(entries)
+}
+
+/// The objects of a pool, taken over, in the order of the pool.
+fn owned(alloc: Global, pool: Pool<'_>) -> Result<Vec<(ObjectId, Object<Vec<u8>>)>, AllocError>
+    ensures entries { IfOk result (λ entries. map seen_entry entries.items ≡ pool.entry) }
+    ensures each { AreObjects pool.entry }
+{
+    let objects = pool.into_objects();
+    let mut entries = Vec::with_capacity(alloc, objects.len())?;
+    for (id, object) in objects {
+        entries.push((id, object.into_owned(alloc)?))?;
     }
     Ok(entries)
 }

@@ -29,7 +29,10 @@ pub(crate) struct TriggerGraph {
 
 impl TriggerGraph {
     /// The triggers of the macros of some objects.
-    pub(crate) fn of_objects(alloc: Global, objects: &SortedStore) -> Result<TriggerGraph, AllocError>
+    pub(crate) fn of_objects(
+        alloc: Global,
+        objects: &SortedStore,
+    ) -> Result<TriggerGraph, AllocError>
         requires { rules.cut_short (shape_of objects.now) ≡ None }
         ensures { IfOk result (λ t. IsTriggerGraph (shape_of objects.now) t.events.keys t.graph) }
     {

@@ -15,7 +15,7 @@ ghost use Rattle.vt_chains.specs.Limits.{terminal};
 use crate::accepted::Accepted;
 use crate::budgets::Budgets;
 use crate::macros::{PieceTest, cut_short, failing_piece};
-use crate::objects::{sorted, updated};
+use crate::objects::{sorted, sorted_owned, updated};
 use crate::order::by_rank;
 use crate::reference::Test;
 use crate::references::{all_stand, missing, wrong_kind};
@@ -38,6 +38,19 @@ pub fn verify(alloc: Global, pool: &Pool<'_>) -> Result<Accepted, Refusal>
     ensures refused { IfErr result (IsRefused terminal (by_rising_id pool.now)) }
 {
     let objects = sorted(alloc, pool)?;
+    accept(alloc, objects)
+}
+
+/// Like `verify`, but consumes the pool: its lists are moved, and only texts, picture and macro bytes are copied. After a
+/// refusal the pool is gone.
+pub fn verify_owned(alloc: Global, pool: Pool<'_>) -> Result<Accepted, Refusal>
+    // The accepted objects are the objects of the pool, and they meet all rules.
+    ensures accepted { IfOk result (λ accepted. (accepted ≡ by_rising_id pool.entry) × IsAcceptable terminal accepted) }
+    ensures verified { IfOk result IsVerified }
+    // A refusal reports the first rule that fails, and its first culprit, or some chain or circle.
+    ensures refused { IfErr result (IsRefused terminal (by_rising_id pool.entry)) }
+{
+    let objects = sorted_owned(alloc, pool)?;
     accept(alloc, objects)
 }
 

@@ -87,23 +87,23 @@ fn a_reader_that_fails_at_each_place(rt: HostRuntime) -> Result<(), Fail> {
 }
 
 /// Whether a writer with capacity for this many bytes ends the replay, with exactly these bytes written.
-fn is_cut_by_the_writer(alloc: Global, room: usize) -> Result<bool, Fail> {
+fn is_cut_by_the_writer(alloc: Global, limit: usize) -> Result<bool, Fail> {
     let mut terminal = started(alloc)?;
     let mut reader: &[u8] = LOG;
     let taken = Vec::new(alloc);
-    let mut writer = Stream::new(Narrow { taken, room });
+    let mut writer = Stream::new(Narrow { taken, limit });
     let end = replay(alloc, &mut reader, &mut writer, &mut terminal);
     Ok(
         matches!(end, Err(ReplayFault::Write))
-            && TEXT.get(..room) == Some(writer.get_ref().taken.as_slice()),
+            && TEXT.get(..limit) == Some(writer.get_ref().taken.as_slice()),
     )
 }
 
 #[test]
 fn a_writer_that_fails_at_each_place(rt: HostRuntime) -> Result<(), Fail> {
-    for room in 0..TEXT.len() {
-        let cut = is_cut_by_the_writer(rt.alloc(), room)?;
-        assert!(&rt; cut, "{room}");
+    for limit in 0..TEXT.len() {
+        let cut = is_cut_by_the_writer(rt.alloc(), limit)?;
+        assert!(&rt; cut, "{limit}");
     }
     Ok(())
 }

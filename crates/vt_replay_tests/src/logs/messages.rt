@@ -75,7 +75,7 @@ fn help_is_no_fault(rt: HostRuntime) -> Result<(), Fail> {
 fn ends_alike(rt: &impl AllocGlobal, words: &[&str], wanted: Status) -> Result<bool, Fail> {
     let mut out = Vec::new(rt.alloc());
     let taken = Vec::new(rt.alloc());
-    let mut errors = Narrow { taken, room: 3 };
+    let mut errors = Narrow { taken, limit: 3 };
     let mut shelf = Shelf {
         log: b"",
         pool: b"",

@@ -30,21 +30,21 @@ impl Read for Pieces<'_> {
     }
 }
 
-/// A writer that takes `room` bytes, and then fails.
+/// A writer that takes `limit` bytes, and then fails.
 #[derive(Drop)]
 pub struct Narrow {
     pub taken: Vec<u8>,
-    pub room: usize,
+    pub limit: usize,
 }
 
 impl Write for Narrow {
     fn write(&mut self, buf: &[u8]) -> io::Result<usize> {
-        if self.room == 0 {
+        if self.limit == 0 {
             return Err(Error::from(ErrorKind::Other));
         }
-        let count = self.room.min(buf.len());
+        let count = self.limit.min(buf.len());
         self.taken.extend_from_slice(&buf[..count])?;
-        self.room -= count;
+        self.limit -= count;
         Ok(count)
     }
 
@@ -110,21 +110,21 @@ fn a_reader_that_fails(rt: HostRuntime) {
 }
 
 /// Whether a writer with capacity for this many bytes ends the replay, with the beginning of the text written.
-fn is_cut(alloc: Global, room: usize) -> bool {
+fn is_cut(alloc: Global, limit: usize) -> bool {
     let mut reader: &[u8] = FAULTY;
     let taken = Vec::new(alloc);
-    let mut writer = Stream::new(Narrow { taken, room });
+    let mut writer = Stream::new(Narrow { taken, limit });
     let mut terminal = Terminal::new(alloc, 0x26, Name::from_raw(1));
     let end = replay(alloc, &mut reader, &mut writer, &mut terminal);
     matches!(end, Err(ReplayFault::Write))
-        && FAULTY_TEXT.get(..room) == Some(writer.get_ref().taken.as_slice())
+        && FAULTY_TEXT.get(..limit) == Some(writer.get_ref().taken.as_slice())
 }
 
 #[test]
 fn writers_that_fail(rt: HostRuntime) {
-    for room in 0..FAULTY_TEXT.len() {
-        let cut = is_cut(rt.alloc(), room);
-        assert!(&rt; cut, "{room}");
+    for limit in 0..FAULTY_TEXT.len() {
+        let cut = is_cut(rt.alloc(), limit);
+        assert!(&rt; cut, "{limit}");
     }
 }
 
@@ -182,7 +182,7 @@ fn lines_are_written_out_before_the_next_read(rt: HostRuntime) {
 /// Whether a report is cut at three bytes without a fault being reported.
 fn report_is_cut(alloc: Global, pool: &[u8]) -> bool {
     let taken = Vec::new(alloc);
-    let mut out = Stream::new(Narrow { taken, room: 3 });
+    let mut out = Stream::new(Narrow { taken, limit: 3 });
     let mut errors = Vec::new(alloc);
     let mut shelf = Shelf { log: b"", pool };
     let words = ["vt_replay", "pool", "--report"];

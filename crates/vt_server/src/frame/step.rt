@@ -101,12 +101,12 @@ impl Terminal {
             }
             FrameMeaning::Tp => {
                 let completed = self.node.prepare_tp(now, frame)?;
-                let upload = self.prepare_completed(source, completed)?;
+                let upload = self.prepare_announced(source, completed)?;
                 Ok(PreparedFrame::Prepared(upload))
             }
             FrameMeaning::Etp => {
                 let completed = self.node.prepare_etp(now, frame)?;
-                let upload = self.prepare_completed(source, completed)?;
+                let upload = self.prepare_announced(source, completed)?;
                 Ok(PreparedFrame::Prepared(upload))
             }
             _ => Ok(PreparedFrame::Prepared(PreparedMessage::Nothing)),

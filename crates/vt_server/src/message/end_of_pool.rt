@@ -15,7 +15,7 @@ use vt_can::assigned::END_OF_POOL;
 use vt_machine::{Live, Replacement};
 use vt_objects::{ObjectId, SortedStore};
 use vt_pool::{Pool, PoolFault, Reading};
-use vt_verify::{Refusal, verify, verify_update};
+use vt_verify::{Refusal, verify_owned, verify_update};
 
 /// The judgement of a finished upload.
 #[derive(Drop)]
@@ -47,16 +47,16 @@ pub(crate) fn judge(
         }
     };
     match pool {
-        None => judge_first(alloc, &read),
+        None => judge_first(alloc, read),
         Some(live) => judge_update(alloc, live, &read),
     }
 }
 
 /// Judges the first pool of a set.
-fn judge_first(alloc: Global, read: &Pool<'_>) -> Result<Judgement, OutOfMemory>
-    ensures { (bytes : List ℕ) → IsPool bytes read.now → IfOk result (IsJudgement (record { pool = None; transfer = bytes })) }
+fn judge_first(alloc: Global, read: Pool<'_>) -> Result<Judgement, OutOfMemory>
+    ensures { (bytes : List ℕ) → IsPool bytes read.entry → IfOk result (IsJudgement (record { pool = None; transfer = bytes })) }
 {
-    match verify(alloc, read) {
+    match verify_owned(alloc, read) {
         Ok(accepted) => {
             let live = Live::from_accepted(alloc, accepted)?;
             let pool = Box::new(alloc, live)?;

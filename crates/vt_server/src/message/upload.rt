@@ -55,7 +55,7 @@ impl Terminal {
     }
 
     /// Does the work in advance for a message in packets, from its announced size and first byte.
-    pub(crate) fn prepare_completed(
+    pub(crate) fn prepare_announced(
         &mut self,
         source: u8,
         completed: Option<(usize, u8)>,

@@ -140,13 +140,7 @@ fn shows(
     };
     let mut marks = Vec::from_elem(alloc, true, store.count())?;
     let mask = ObjectId::from_raw(mask);
-    Ok(search_shown(
-        store,
-        levels.as_slice(),
-        &mut marks,
-        mask,
-        index,
-    ))
+    Ok(search_shown(store, levels.as_slice(), &mut marks, mask, index))
 }
 
 #[test]

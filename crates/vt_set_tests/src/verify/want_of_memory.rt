@@ -8,7 +8,7 @@ use std::test::Fail;
 use vt_objects::{SortedStore, Store};
 use vt_pool::{Pool, PoolFault, read_pool};
 use vt_testing::{CONTAINER, MASK, WORKING_SET};
-use vt_verify::{Accepted, Refusal, verify, verify_update};
+use vt_verify::{Accepted, Refusal, verify, verify_owned, verify_update};
 
 /// Makes a call, and repeats it if memory is refused.
 fn again<T, F: Fn() -> Result<T, AllocError>>(call: F) -> Result<T, AllocError>
@@ -55,6 +55,22 @@ fn verify_again(alloc: Global, bytes: &[u8]) -> Result<Accepted, Refusal> {
     };
     match verify(alloc, &pool) {
         Err(Refusal::OutOfMemory) => verify(alloc, &pool),
+        other => other,
+    }
+}
+
+/// Verifies a pool that is taken over.
+fn verify_taken(alloc: Global, bytes: &[u8]) -> Result<Accepted, Refusal> {
+    let Ok(pool) = read_again(alloc, bytes) else {
+        return Err(Refusal::OutOfMemory);
+    };
+    verify_owned(alloc, pool)
+}
+
+/// Verifies a pool that is taken over, and reads and verifies it again if memory is refused.
+fn verify_taken_again(alloc: Global, bytes: &[u8]) -> Result<Accepted, Refusal> {
+    match verify_taken(alloc, bytes) {
+        Err(Refusal::OutOfMemory) => verify_taken(alloc, bytes),
         other => other,
     }
 }
@@ -120,9 +136,15 @@ fn expect_accepted(rt: &(impl Abort + AllocGlobal), bytes: &[u8]) -> Result<(), 
     expect_store(rt, &accepted)
 }
 
+fn expect_taken(rt: &(impl Abort + AllocGlobal), bytes: &[u8]) -> Result<(), Refusal> {
+    let accepted = verify_taken_again(rt.alloc(), bytes)?;
+    expect_store(rt, &accepted)
+}
+
 #[test]
 fn want_of_memory(rt: HostRuntime) -> Result<(), Fail> {
     let bytes = again(|| pool_bytes(rt.alloc()))?;
     expect_accepted(&rt, &bytes)?;
+    expect_taken(&rt, &bytes)?;
     Ok(())
 }

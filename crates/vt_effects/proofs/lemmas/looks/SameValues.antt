@@ -8,7 +8,7 @@ use Rattle.vt_commands.specs.declared.command.Command.TheVariants.{HideShow, Ena
 use Rattle.vt_kinds.specs.Records.{Seen}
 use Rattle.vt_effects.specs.Changes.{left, if_passed, is_state, with_lowest_bit, changed, hide_show, enable_disable, change_value, change_active_mask}
 use Rattle.vt_effects.specs.Fields.{low_byte, low_word}
-use Rattle.vt_effects.specs.Looks.{has_shown_state, has_enabled_state, has_value, has_active, writes_same}
+use Rattle.vt_effects.specs.Looks.{has_hidden_state, has_enabled_state, has_value, has_active, writes_same}
 
 second : (a b : Bool) → (a && b) ≡ true → b ≡ true
 second true b e = e
@@ -19,7 +19,7 @@ same_if : (test : Bool) (error : ℕ) (o new : Seen) → new ≡ o → left o (i
 same_if true error o new same = same
 same_if false error o new same = refl
 
-hidden_same : (state : ℕ) (o : Seen) → has_shown_state state o ≡ true → left o (hide_show state o) ≡ o
+hidden_same : (state : ℕ) (o : Seen) → has_hidden_state state o ≡ true → left o (hide_show state o) ≡ o
 hidden_same state (objects.Container o) is =
     same_if (is_state state) _ (objects.Container o) _ (ap (λ (n : ℕ). objects.Container (record o { hidden = n })) (sym (eqb-true o.hidden _ is)))
 hidden_same state _ is = refl

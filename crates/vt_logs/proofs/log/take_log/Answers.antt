@@ -4,7 +4,7 @@ use Rattle.std.specs.Io.KnownBytes.{Consumes}
 use Rattle.std.proofs.KnownBytes.{Keeps-refl}
 use Rattle.vt_server.specs.States.{state_of}
 use Rattle.vt_logs.specs.Texts.{no_counts}
-use Rattle.vt_logs.specs.Progress.{scene, stand, ReplayPoint}
+use Rattle.vt_logs.specs.Progress.{scene, replay_point, ReplayPoint}
 use Rattle.vt_logs.proofs.ReplayInvariants.{way_drawn, way_flushed, way_start, way_more, way_reads, way_end, read_front}
 use Rattle.vt_logs.proofs.LongLines.{way_long, end_long}
 use Rattle.vt_logs.proofs.EarlyEndInLines.{on_any_err}
@@ -20,23 +20,23 @@ loop-init g c = record {
 
 pub end_log-requires-clause-drawn : goal.end_log-requires-clause-drawn
 end_log-requires-clause-drawn g c =
-    let start : ReplayPoint = stand c.args.terminal.now c.begin.new.self.screen.items no_counts (g.W.Write.contents c.begin.new.writer) in
-    let now : ReplayPoint = stand c.loop.terminal c.loop.progress.screen.items c.loop.progress.counts (g.W.Write.contents c.loop.writer) in
+    let start : ReplayPoint = replay_point c.args.terminal.now c.begin.new.self.screen.items no_counts (g.W.Write.contents c.begin.new.writer) in
+    let now : ReplayPoint = replay_point c.loop.terminal c.loop.progress.screen.items c.loop.progress.counts (g.W.Write.contents c.loop.writer) in
     way_drawn start now (g.R.Read.remaining c.args.reader.now) (g.R.Read.remaining c.loop.reader) c.loop.progress.pending.items c.loop.counter c.loop.invariant.way c.in_ok-begin.ensures.drawn
 
 pub take_chunk-requires-clause-drawn : goal.take_chunk-requires-clause-drawn
 take_chunk-requires-clause-drawn g c =
-    let start : ReplayPoint = stand c.args.terminal.now c.begin.new.self.screen.items no_counts (g.W.Write.contents c.begin.new.writer) in
-    let now : ReplayPoint = stand c.loop.terminal c.loop.progress.screen.items c.loop.progress.counts (g.W.Write.contents c.loop.writer) in
+    let start : ReplayPoint = replay_point c.args.terminal.now c.begin.new.self.screen.items no_counts (g.W.Write.contents c.begin.new.writer) in
+    let now : ReplayPoint = replay_point c.loop.terminal c.loop.progress.screen.items c.loop.progress.counts (g.W.Write.contents c.loop.writer) in
     way_drawn start now (g.R.Read.remaining c.args.reader.now) (g.R.Read.remaining c.loop.reader) c.loop.progress.pending.items c.loop.counter c.loop.invariant.way c.in_ok-begin.ensures.drawn
 
 pub returns-then-count-eq0-clause-text : goal.returns-then-count-eq0-clause-text
 returns-then-count-eq0-clause-text g c =
-    let start : ReplayPoint = stand c.args.terminal.now c.begin.new.self.screen.items no_counts (g.W.Write.contents c.begin.new.writer) in
-    let now : ReplayPoint = stand c.loop.terminal c.loop.progress.screen.items c.loop.progress.counts (g.W.Write.contents c.flush.new.writer) in
+    let start : ReplayPoint = replay_point c.args.terminal.now c.begin.new.self.screen.items no_counts (g.W.Write.contents c.begin.new.writer) in
+    let now : ReplayPoint = replay_point c.loop.terminal c.loop.progress.screen.items c.loop.progress.counts (g.W.Write.contents c.flush.new.writer) in
     let way = way_flushed start (scene c.loop.terminal c.loop.progress.screen.items) c.loop.progress.counts (g.W.Write.contents c.loop.writer) (g.W.Write.contents c.flush.new.writer)
     (g.R.Read.remaining c.args.reader.now) (g.R.Read.remaining c.loop.reader) c.loop.progress.pending.items c.loop.counter c.loop.invariant.way c.flush.ensures.kept in
-    let done : ReplayPoint = stand c.end_log.new.terminal c.end_log.new.self.screen.items c.end_log.new.self.counts (g.W.Write.contents c.end_log.new.writer) in
+    let done : ReplayPoint = replay_point c.end_log.new.terminal c.end_log.new.self.screen.items c.end_log.new.self.counts (g.W.Write.contents c.end_log.new.writer) in
     let items = c.loop.chunk in
     let filled : 0 < length c.next_bytes.new.buf = omega (arith, c.next_bytes.auto.buf, c.deref_mut.ensures.len, items.ok.0, c.loop.invariant.chunk) in
     way_end start now done (g.R.Read.remaining c.args.reader.now) (g.R.Read.remaining c.loop.reader) (g.R.Read.remaining c.next_bytes.new.self) (g.W.Write.contents c.args.writer.now) (g.W.Write.contents c.put_counts.new.writer)
@@ -45,11 +45,11 @@ returns-then-count-eq0-clause-text g c =
 
 pub loop-preserved : goal.loop-preserved
 loop-preserved g c =
-    let start : ReplayPoint = stand c.args.terminal.now c.begin.new.self.screen.items no_counts (g.W.Write.contents c.begin.new.writer) in
-    let now : ReplayPoint = stand c.loop.terminal c.loop.progress.screen.items c.loop.progress.counts (g.W.Write.contents c.flush.new.writer) in
+    let start : ReplayPoint = replay_point c.args.terminal.now c.begin.new.self.screen.items no_counts (g.W.Write.contents c.begin.new.writer) in
+    let now : ReplayPoint = replay_point c.loop.terminal c.loop.progress.screen.items c.loop.progress.counts (g.W.Write.contents c.flush.new.writer) in
     let way = way_flushed start (scene c.loop.terminal c.loop.progress.screen.items) c.loop.progress.counts (g.W.Write.contents c.loop.writer) (g.W.Write.contents c.flush.new.writer)
     (g.R.Read.remaining c.args.reader.now) (g.R.Read.remaining c.loop.reader) c.loop.progress.pending.items c.loop.counter c.loop.invariant.way c.flush.ensures.kept in
-    let after : ReplayPoint = stand c.take_chunk.new.terminal c.take_chunk.new.self.screen.items c.take_chunk.new.self.counts (g.W.Write.contents c.take_chunk.new.writer) in
+    let after : ReplayPoint = replay_point c.take_chunk.new.terminal c.take_chunk.new.self.screen.items c.take_chunk.new.self.counts (g.W.Write.contents c.take_chunk.new.writer) in
     let items = c.loop.chunk in
     let full : length c.next_bytes.new.buf ≡ items.len = omega (arith, c.next_bytes.auto.buf, c.deref_mut.ensures.len) in
     let short : length (take c.in-Ok.count c.deref.result.now) ≤ 65536 = simp length-take (omega (arith, c.deref.ensures.len, items.ok.0, c.loop.invariant.chunk)) in
@@ -64,8 +64,8 @@ loop-preserved g c =
 
 pub returns-in_err-end_log-clause-too_long : goal.returns-in_err-end_log-clause-too_long
 returns-in_err-end_log-clause-too_long g c =
-    let start : ReplayPoint = stand c.args.terminal.now c.begin.new.self.screen.items no_counts (g.W.Write.contents c.begin.new.writer) in
-    let now : ReplayPoint = stand c.loop.terminal c.loop.progress.screen.items c.loop.progress.counts (g.W.Write.contents c.flush.new.writer) in
+    let start : ReplayPoint = replay_point c.args.terminal.now c.begin.new.self.screen.items no_counts (g.W.Write.contents c.begin.new.writer) in
+    let now : ReplayPoint = replay_point c.loop.terminal c.loop.progress.screen.items c.loop.progress.counts (g.W.Write.contents c.flush.new.writer) in
     let way = way_flushed start (scene c.loop.terminal c.loop.progress.screen.items) c.loop.progress.counts (g.W.Write.contents c.loop.writer) (g.W.Write.contents c.flush.new.writer)
     (g.R.Read.remaining c.args.reader.now) (g.R.Read.remaining c.loop.reader) c.loop.progress.pending.items c.loop.counter c.loop.invariant.way c.flush.ensures.kept in
     let p = err_from_is_err_and c.from_residual-in_err-end_log.result c.from_residual-in_err-end_log.ensures.1 in
@@ -75,8 +75,8 @@ returns-in_err-end_log-clause-too_long g c =
 
 pub returns-in_err-take_chunk-clause-too_long : goal.returns-in_err-take_chunk-clause-too_long
 returns-in_err-take_chunk-clause-too_long g c =
-    let start : ReplayPoint = stand c.args.terminal.now c.begin.new.self.screen.items no_counts (g.W.Write.contents c.begin.new.writer) in
-    let now : ReplayPoint = stand c.loop.terminal c.loop.progress.screen.items c.loop.progress.counts (g.W.Write.contents c.flush.new.writer) in
+    let start : ReplayPoint = replay_point c.args.terminal.now c.begin.new.self.screen.items no_counts (g.W.Write.contents c.begin.new.writer) in
+    let now : ReplayPoint = replay_point c.loop.terminal c.loop.progress.screen.items c.loop.progress.counts (g.W.Write.contents c.flush.new.writer) in
     let way = way_flushed start (scene c.loop.terminal c.loop.progress.screen.items) c.loop.progress.counts (g.W.Write.contents c.loop.writer) (g.W.Write.contents c.flush.new.writer)
     (g.R.Read.remaining c.args.reader.now) (g.R.Read.remaining c.loop.reader) c.loop.progress.pending.items c.loop.counter c.loop.invariant.way c.flush.ensures.kept in
     let items = c.loop.chunk in
@@ -100,16 +100,16 @@ returns-in_err-begin-clause-stopped g c =
 
 pub returns-in_err-flush-clause-stopped : goal.returns-in_err-flush-clause-stopped
 returns-in_err-flush-clause-stopped g c =
-    let start : ReplayPoint = stand c.args.terminal.now c.begin.new.self.screen.items no_counts (g.W.Write.contents c.begin.new.writer) in
-    let now : ReplayPoint = stand c.loop.terminal c.loop.progress.screen.items c.loop.progress.counts (g.W.Write.contents c.loop.writer) in
+    let start : ReplayPoint = replay_point c.args.terminal.now c.begin.new.self.screen.items no_counts (g.W.Write.contents c.begin.new.writer) in
+    let now : ReplayPoint = replay_point c.loop.terminal c.loop.progress.screen.items c.loop.progress.counts (g.W.Write.contents c.loop.writer) in
     on_any_err c.from_residual-in_err-flush.result
     (way_stop start now (g.R.Read.remaining c.args.reader.now) (g.R.Read.remaining c.loop.reader) (g.W.Write.contents c.args.writer.now) (g.W.Write.contents c.flush.new.writer) c.loop.progress.pending.items c.loop.counter
     refl c.in_ok-begin.ensures.drawn c.in_ok-begin.ensures.text c.loop.invariant.way c.flush.ensures.kept)
 
 pub returns-in_err-end_log-clause-stopped : goal.returns-in_err-end_log-clause-stopped
 returns-in_err-end_log-clause-stopped g c =
-    let start : ReplayPoint = stand c.args.terminal.now c.begin.new.self.screen.items no_counts (g.W.Write.contents c.begin.new.writer) in
-    let now : ReplayPoint = stand c.loop.terminal c.loop.progress.screen.items c.loop.progress.counts (g.W.Write.contents c.flush.new.writer) in
+    let start : ReplayPoint = replay_point c.args.terminal.now c.begin.new.self.screen.items no_counts (g.W.Write.contents c.begin.new.writer) in
+    let now : ReplayPoint = replay_point c.loop.terminal c.loop.progress.screen.items c.loop.progress.counts (g.W.Write.contents c.flush.new.writer) in
     let way = way_flushed start (scene c.loop.terminal c.loop.progress.screen.items) c.loop.progress.counts (g.W.Write.contents c.loop.writer) (g.W.Write.contents c.flush.new.writer)
     (g.R.Read.remaining c.args.reader.now) (g.R.Read.remaining c.loop.reader) c.loop.progress.pending.items c.loop.counter c.loop.invariant.way c.flush.ensures.kept in
     let items = c.loop.chunk in
@@ -120,11 +120,11 @@ returns-in_err-end_log-clause-stopped g c =
 
 pub returns-in_err-put_counts-clause-stopped : goal.returns-in_err-put_counts-clause-stopped
 returns-in_err-put_counts-clause-stopped g c =
-    let start : ReplayPoint = stand c.args.terminal.now c.begin.new.self.screen.items no_counts (g.W.Write.contents c.begin.new.writer) in
-    let now : ReplayPoint = stand c.loop.terminal c.loop.progress.screen.items c.loop.progress.counts (g.W.Write.contents c.flush.new.writer) in
+    let start : ReplayPoint = replay_point c.args.terminal.now c.begin.new.self.screen.items no_counts (g.W.Write.contents c.begin.new.writer) in
+    let now : ReplayPoint = replay_point c.loop.terminal c.loop.progress.screen.items c.loop.progress.counts (g.W.Write.contents c.flush.new.writer) in
     let way = way_flushed start (scene c.loop.terminal c.loop.progress.screen.items) c.loop.progress.counts (g.W.Write.contents c.loop.writer) (g.W.Write.contents c.flush.new.writer)
     (g.R.Read.remaining c.args.reader.now) (g.R.Read.remaining c.loop.reader) c.loop.progress.pending.items c.loop.counter c.loop.invariant.way c.flush.ensures.kept in
-    let done : ReplayPoint = stand c.end_log.new.terminal c.end_log.new.self.screen.items c.end_log.new.self.counts (g.W.Write.contents c.end_log.new.writer) in
+    let done : ReplayPoint = replay_point c.end_log.new.terminal c.end_log.new.self.screen.items c.end_log.new.self.counts (g.W.Write.contents c.end_log.new.writer) in
     let items = c.loop.chunk in
     let filled : 0 < length c.next_bytes.new.buf = omega (arith, c.next_bytes.auto.buf, c.deref_mut.ensures.len, items.ok.0, c.loop.invariant.chunk) in
     on_any_err c.from_residual-in_err-put_counts.result
@@ -133,8 +133,8 @@ returns-in_err-put_counts-clause-stopped g c =
 
 pub returns-in_err-take_chunk-clause-stopped : goal.returns-in_err-take_chunk-clause-stopped
 returns-in_err-take_chunk-clause-stopped g c =
-    let start : ReplayPoint = stand c.args.terminal.now c.begin.new.self.screen.items no_counts (g.W.Write.contents c.begin.new.writer) in
-    let now : ReplayPoint = stand c.loop.terminal c.loop.progress.screen.items c.loop.progress.counts (g.W.Write.contents c.flush.new.writer) in
+    let start : ReplayPoint = replay_point c.args.terminal.now c.begin.new.self.screen.items no_counts (g.W.Write.contents c.begin.new.writer) in
+    let now : ReplayPoint = replay_point c.loop.terminal c.loop.progress.screen.items c.loop.progress.counts (g.W.Write.contents c.flush.new.writer) in
     let way = way_flushed start (scene c.loop.terminal c.loop.progress.screen.items) c.loop.progress.counts (g.W.Write.contents c.loop.writer) (g.W.Write.contents c.flush.new.writer)
     (g.R.Read.remaining c.args.reader.now) (g.R.Read.remaining c.loop.reader) c.loop.progress.pending.items c.loop.counter c.loop.invariant.way c.flush.ensures.kept in
     let items = c.loop.chunk in
@@ -147,22 +147,22 @@ returns-in_err-take_chunk-clause-stopped g c =
 
 pub returns-in_default-clause-stopped : goal.returns-in_default-clause-stopped
 returns-in_default-clause-stopped g c =
-    let start : ReplayPoint = stand c.args.terminal.now c.begin.new.self.screen.items no_counts (g.W.Write.contents c.begin.new.writer) in
-    let now : ReplayPoint = stand c.loop.terminal c.loop.progress.screen.items c.loop.progress.counts (g.W.Write.contents c.flush.new.writer) in
+    let start : ReplayPoint = replay_point c.args.terminal.now c.begin.new.self.screen.items no_counts (g.W.Write.contents c.begin.new.writer) in
+    let now : ReplayPoint = replay_point c.loop.terminal c.loop.progress.screen.items c.loop.progress.counts (g.W.Write.contents c.flush.new.writer) in
     let way = way_flushed start (scene c.loop.terminal c.loop.progress.screen.items) c.loop.progress.counts (g.W.Write.contents c.loop.writer) (g.W.Write.contents c.flush.new.writer)
     (g.R.Read.remaining c.args.reader.now) (g.R.Read.remaining c.loop.reader) c.loop.progress.pending.items c.loop.counter c.loop.invariant.way c.flush.ensures.kept in
     way_stop start now (g.R.Read.remaining c.args.reader.now) (g.R.Read.remaining c.loop.reader) (g.W.Write.contents c.args.writer.now) now.held c.loop.progress.pending.items c.loop.counter refl c.in_ok-begin.ensures.drawn c.in_ok-begin.ensures.text way (Keeps-refl now.held)
 
 pub returns-clause-stopped : goal.returns-clause-stopped
 returns-clause-stopped g c =
-    let start : ReplayPoint = stand c.args.terminal.now c.begin.new.self.screen.items no_counts (g.W.Write.contents c.begin.new.writer) in
-    let now : ReplayPoint = stand c.loop.terminal c.loop.progress.screen.items c.loop.progress.counts (g.W.Write.contents c.loop.writer) in
+    let start : ReplayPoint = replay_point c.args.terminal.now c.begin.new.self.screen.items no_counts (g.W.Write.contents c.begin.new.writer) in
+    let now : ReplayPoint = replay_point c.loop.terminal c.loop.progress.screen.items c.loop.progress.counts (g.W.Write.contents c.loop.writer) in
     way_stop start now (g.R.Read.remaining c.args.reader.now) (g.R.Read.remaining c.loop.reader) (g.W.Write.contents c.args.writer.now) now.held c.loop.progress.pending.items c.loop.counter refl c.in_ok-begin.ensures.drawn c.in_ok-begin.ensures.text c.loop.invariant.way (Keeps-refl now.held)
 
 pub returns-in_err-end_log-clause-cause : goal.returns-in_err-end_log-clause-cause
 returns-in_err-end_log-clause-cause g c =
-    let start : ReplayPoint = stand c.args.terminal.now c.begin.new.self.screen.items no_counts (g.W.Write.contents c.begin.new.writer) in
-    let now : ReplayPoint = stand c.loop.terminal c.loop.progress.screen.items c.loop.progress.counts (g.W.Write.contents c.flush.new.writer) in
+    let start : ReplayPoint = replay_point c.args.terminal.now c.begin.new.self.screen.items no_counts (g.W.Write.contents c.begin.new.writer) in
+    let now : ReplayPoint = replay_point c.loop.terminal c.loop.progress.screen.items c.loop.progress.counts (g.W.Write.contents c.flush.new.writer) in
     let way = way_flushed start (scene c.loop.terminal c.loop.progress.screen.items) c.loop.progress.counts (g.W.Write.contents c.loop.writer) (g.W.Write.contents c.flush.new.writer)
     (g.R.Read.remaining c.args.reader.now) (g.R.Read.remaining c.loop.reader) c.loop.progress.pending.items c.loop.counter c.loop.invariant.way c.flush.ensures.kept in
     ends_in_line c.from_residual-in_err-end_log.result g.R.Source.steady g.W.Sink.steady (g.R.Read.remaining c.args.reader.now) c.in_err-end_log.field-0.0 c.from_residual-in_err-end_log.ensures.1
@@ -174,8 +174,8 @@ returns-in_err-end_log-clause-cause g c =
 
 pub returns-in_err-take_chunk-clause-cause : goal.returns-in_err-take_chunk-clause-cause
 returns-in_err-take_chunk-clause-cause g c =
-    let start : ReplayPoint = stand c.args.terminal.now c.begin.new.self.screen.items no_counts (g.W.Write.contents c.begin.new.writer) in
-    let now : ReplayPoint = stand c.loop.terminal c.loop.progress.screen.items c.loop.progress.counts (g.W.Write.contents c.flush.new.writer) in
+    let start : ReplayPoint = replay_point c.args.terminal.now c.begin.new.self.screen.items no_counts (g.W.Write.contents c.begin.new.writer) in
+    let now : ReplayPoint = replay_point c.loop.terminal c.loop.progress.screen.items c.loop.progress.counts (g.W.Write.contents c.flush.new.writer) in
     let way = way_flushed start (scene c.loop.terminal c.loop.progress.screen.items) c.loop.progress.counts (g.W.Write.contents c.loop.writer) (g.W.Write.contents c.flush.new.writer)
     (g.R.Read.remaining c.args.reader.now) (g.R.Read.remaining c.loop.reader) c.loop.progress.pending.items c.loop.counter c.loop.invariant.way c.flush.ensures.kept in
     let items = c.loop.chunk in
@@ -191,6 +191,6 @@ returns-in_err-take_chunk-clause-cause g c =
 
 pub returns-clause-cause : goal.returns-clause-cause
 returns-clause-cause g c =
-    let start : ReplayPoint = stand c.args.terminal.now c.begin.new.self.screen.items no_counts (g.W.Write.contents c.begin.new.writer) in
-    let now : ReplayPoint = stand c.loop.terminal c.loop.progress.screen.items c.loop.progress.counts (g.W.Write.contents c.loop.writer) in
+    let start : ReplayPoint = replay_point c.args.terminal.now c.begin.new.self.screen.items no_counts (g.W.Write.contents c.begin.new.writer) in
+    let now : ReplayPoint = replay_point c.loop.terminal c.loop.progress.screen.items c.loop.progress.counts (g.W.Write.contents c.loop.writer) in
     λ steady. way_reads start now (g.R.Read.remaining c.args.reader.now) (g.R.Read.remaining c.loop.reader) c.loop.progress.pending.items c.loop.counter 1000000000 c.loop.invariant.way c.loop-test.false

@@ -117,19 +117,19 @@ impl Write for Stubborn {
     }
 }
 
-/// A writer that takes `room` bytes, and then is refused memory.
+/// A writer that takes `limit` bytes, and then is refused memory.
 #[derive(Drop)]
 struct Starved {
-    room: usize,
+    limit: usize,
 }
 
 impl Write for Starved {
     fn write(&mut self, buf: &[u8]) -> io::Result<usize> {
-        if self.room == 0 {
+        if self.limit == 0 {
             return Err(Error::from(ErrorKind::OutOfMemory));
         }
-        let count = self.room.min(buf.len());
-        self.room -= count;
+        let count = self.limit.min(buf.len());
+        self.limit -= count;
         Ok(count)
     }
 
@@ -165,9 +165,9 @@ const MEMORY: &str =
 #[test]
 fn failing_writes_are_named(rt: HostRuntime) -> Result<(), Fail> {
     let taken = Vec::new(rt.alloc());
-    let mut narrow = Stream::new(Narrow { taken, room: 14 });
+    let mut narrow = Stream::new(Narrow { taken, limit: 14 });
     let write = breaks_off(&rt, SECOND_FAULTY, &mut narrow, WRITE)?;
-    let mut starved = Stream::new(Starved { room: 14 });
+    let mut starved = Stream::new(Starved { limit: 14 });
     let memory = breaks_off(&rt, SECOND_FAULTY, &mut starved, MEMORY)?;
     assert!(&rt; write && memory);
     Ok(())

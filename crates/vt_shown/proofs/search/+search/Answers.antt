@@ -1,5 +1,5 @@
 use Rattle.std.proofs.Common.{◌≡◌, ◌<◌, ◌≤◌, ◌+◌, ◌∷◌, [], ◌++◌, ℕ, Bool, true, false, List, Option, Some, length, set, get_or, map, sym, ap, subst, ◌∙◌, arith, refl, take}
-use Rattle.std.proofs.lemmas.List.{get_or-set_same, length-map, length-set}
+use Rattle.std.proofs.lemmas.List.{get_or-set_other, get_or-set_same, length-map, length-set}
 use Rattle.std.specs.Prelude.{slice_index, slice_index_or}
 use Rattle.std.specs.Option.{option_to_list}
 use Rattle.vt_kinds.specs.declared.entries.Child.{Child}
@@ -22,8 +22,19 @@ search_drawing-search_named-requires g t c κs within =
     let name = child_drawn m c.entry.result.0 i c.child-item.result.id children (item_drawn m (Some o)) parts c.loop-child-test.true
     (child_among children i c.child-item.result c.loop-child-test.true c.child-item.is) in (
       omega (arith, measure),
-      (within, (c.requires.levels, (c.loop-child.auto.marks ∙ c.requires.marks, (c.requires.null,
-      name_below m c.args.levels.now c.args.index c.entry.result.0 c.child-item.result.id c.requires.levels c.requires.null c.entry.ensures.stands name)))),
+      (
+        within,
+        (
+          c.requires.levels,
+          (
+            c.loop-child.auto.marks ∙ c.requires.marks,
+            (
+              c.requires.null,
+              name_below m c.args.levels.now c.args.index c.entry.result.0 c.child-item.result.id c.requires.levels c.requires.null c.entry.ensures.stands name,
+            ),
+          ),
+        ),
+      ),
     )
 
 pub search_drawing-returns-then-search_named-clause-shown : goal.search_drawing-returns-then-search_named-clause-shown
@@ -55,6 +66,7 @@ search_drawing-loop-child-preserved g t c =
       shown = shown_next m (ids_in children) i c.child-item.result.id c.args.marks.now c.loop-child.marks c.search_named.new.marks inside is c.loop-child.invariant.shown c.search_named.ensures.shown;
       all = searched_next m (ids_in children) i c.child-item.result.id c.args.marks.now c.loop-child.marks c.search_named.new.marks inside is c.loop-child.invariant.all
           (c.search_named.ensures.all c.if-search_named.false);
+      not_found = c.search_named.ensures.not_found c.if-search_named.false ∙ c.loop-child.invariant.not_found;
     }
 
 pub search_drawing-search_named-requires-in-Some : goal.search_drawing-search_named-requires-in-Some
@@ -65,9 +77,20 @@ search_drawing-search_named-requires-in-Some g t c κs within =
     let measure = c.decreases in
     let parts = parts_of m c.entry.result.0 o children (c.in-Some.item ∷ []) c.entry.ensures.object c.children_drawn-children.ensures c.in-Some.ensures in (
       omega (arith, measure),
-      (within, (c.requires.levels, (c.loop-child.auto.marks ∙ c.requires.marks, (c.requires.null,
-      name_below m c.args.levels.now c.args.index c.entry.result.0 c.in-Some.item c.requires.levels c.requires.null c.entry.ensures.stands
-      (item_named m c.entry.result.0 c.in-Some.item children parts))))),
+      (
+        within,
+        (
+          c.requires.levels,
+          (
+            c.loop-child.auto.marks ∙ c.requires.marks,
+            (
+              c.requires.null,
+              name_below m c.args.levels.now c.args.index c.entry.result.0 c.in-Some.item c.requires.levels c.requires.null c.entry.ensures.stands
+                  (item_named m c.entry.result.0 c.in-Some.item children parts),
+            ),
+          ),
+        ),
+      ),
     )
 
 pub search_drawing-returns-in-Some-clause-shown : goal.search_drawing-returns-in-Some-clause-shown
@@ -173,3 +196,7 @@ search_named-returns-clause-all g t c none =
     let each = c.requires.marks in
     searched_within m found.0 c.in-Some.index c.args.marks.now (omega (arith, inside, each)) found.1 c.args.name c.search_drawing.new.marks found.2
     (c.search_drawing.ensures.all none found.0 found.1)
+
+pub search_named-returns-clause-not_found : goal.search_named-returns-clause-not_found
+search_named-returns-clause-not_found g t c none =
+    c.search_drawing.ensures.not_found none ∙ get_or-set_other c.args.marks.now c.in-Some.index c.args.sought true false (λ same. c.if-index-sought.false (sym same))

@@ -1,5 +1,5 @@
-use Rattle.std.proofs.Common.{◌+◌, ◌*◌, take}
-use Rattle.std.specs.Prelude.{slice_index}
+use Rattle.std.proofs.Common.{◌≡◌, ◌+◌, ◌*◌, false, take}
+use Rattle.std.specs.Prelude.{slice_index, slice_index_or}
 use Rattle.vt_shown.specs.Marks.{Searched, MarksShown}
 use Rattle.vt_shown.specs.ShownElements.{ids_in}
 use Rattle.vt_shown.proofs.search.+search.Given as goal
@@ -14,4 +14,5 @@ abbrev pub invariant-search_drawing-loop-child : goal.invariant-search_drawing-l
 invariant-search_drawing-loop-child g l = record {
   shown : MarksShown (g.S.Store.contents l.store) (take l.child-index (ids_in l.children)) l.initial.marks l.marks;
   all : Searched (g.S.Store.contents l.store) (take l.child-index (ids_in l.children)) l.initial.marks l.marks;
+  not_found : slice_index_or l.marks l.sought false ≡ slice_index_or l.initial.marks l.sought false;
 }

@@ -17,6 +17,7 @@ loop-key-preserved g c =
       shown = shown_next m c.args.keys.now i c.key-item.result c.args.marks.now c.loop-key.marks c.search_named.new.marks lt is c.loop-key.invariant.shown c.search_named.ensures.shown;
       all = searched_next m c.args.keys.now i c.key-item.result c.args.marks.now c.loop-key.marks c.search_named.new.marks lt is c.loop-key.invariant.all
           (c.search_named.ensures.all c.if-search_named.false);
+      not_found = c.search_named.ensures.not_found c.if-search_named.false ∙ c.loop-key.invariant.not_found;
     }
 
 pub returns-then-search_named-clause-shown : goal.returns-then-search_named-clause-shown

@@ -1,7 +1,7 @@
 use Rattle.std.proofs.Common.{◌≡◌, ap}
 use Rattle.std.proofs.lemmas.Result.{on_err_weaker, on_ok_weaker}
 use Rattle.vt_can.specs.lines.Readings.{reading_of}
-use Rattle.vt_logs.specs.Progress.{stand, ReplayPoint}
+use Rattle.vt_logs.specs.Progress.{replay_point, ReplayPoint}
 use Rattle.vt_logs.specs.declared.progress.Progress.{Progress}
 use Rattle.vt_server.specs.States.{state_of}
 use Rattle.vt_logs.proofs.TakenLines.{takes_one}
@@ -11,8 +11,8 @@ use Rattle.vt_logs.proofs.progress.Progress.take_line.Goals.{in-Err, in_default}
 
 pub returns-clause-takes : goal.returns-clause-takes
 returns-clause-takes g c =
-    let from : ReplayPoint = stand c.args.terminal.now c.args.self.now.screen.items c.args.self.now.counts (g.W.Write.contents c.args.writer.now) in
-    let to : ReplayPoint = stand c.take_reading.new.terminal c.take_reading.new.self.screen.items c.take_reading.new.self.counts (g.W.Write.contents c.take_reading.new.writer) in
+    let from : ReplayPoint = replay_point c.args.terminal.now c.args.self.now.screen.items c.args.self.now.counts (g.W.Write.contents c.args.writer.now) in
+    let to : ReplayPoint = replay_point c.take_reading.new.terminal c.take_reading.new.self.screen.items c.take_reading.new.self.counts (g.W.Write.contents c.take_reading.new.writer) in
     let screen : c.match-reading.self.screen.items ≡ c.args.self.now.screen.items = elim c.match-reading.branch [
       | in-Err w ↦ ap (λ (p : Progress). p.screen.items) w.self-is
       | in_default w ↦ ap (λ (p : Progress). p.screen.items) w.self-is
@@ -27,7 +27,7 @@ returns-clause-takes g c =
 
 pub returns-clause-stopped : goal.returns-clause-stopped
 returns-clause-stopped g c =
-    let from : ReplayPoint = stand c.args.terminal.now c.args.self.now.screen.items c.args.self.now.counts (g.W.Write.contents c.args.writer.now) in
+    let from : ReplayPoint = replay_point c.args.terminal.now c.args.self.now.screen.items c.args.self.now.counts (g.W.Write.contents c.args.writer.now) in
     let screen : c.match-reading.self.screen.items ≡ c.args.self.now.screen.items = elim c.match-reading.branch [
       | in-Err w ↦ ap (λ (p : Progress). p.screen.items) w.self-is
       | in_default w ↦ ap (λ (p : Progress). p.screen.items) w.self-is

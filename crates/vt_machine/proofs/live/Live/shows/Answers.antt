@@ -1,4 +1,4 @@
-use Rattle.std.proofs.Common.{◌≡◌, ◌<◌, ◌++◌, refl, ℕ, Bool, true, false, List, length, drop, take, get_or, ap, subst, sym, ◌∙◌, arith}
+use Rattle.std.proofs.Common.{◌≡◌, ◌<◌, ◌≤◌, ◌⊎◌, ◌++◌, refl, ℕ, Bool, true, false, List, length, drop, take, get_or, ap, subst, sym, ◌∙◌, arith}
 use Rattle.vt_stores.specs.Stores.{ObjectMap}
 use Rattle.vt_chains.specs.Depths.{ids_of}
 use Rattle.vt_chains.proofs.IdIndices.{stands_of, within}
@@ -76,5 +76,7 @@ returns-clause-not_shown g c clear =
     let active = c.active_mask-mask.ensures.active ∙ ap active_in (sym (ap (λ s. s.objects) c.self.view_is)) in
     let is = c.index-2.ensures ∙ ap (λ (xs : List Bool). get_or xs c.in-Some.index c.index-2.result.now) (all_marks c.self.inside.marks.len new (drop (length new) old) long) in
     subst (λ (o : ObjectMap). IsShown o (active_in o) c.args.id → ⊥) (ap (λ s. s.objects) c.self.view_is)
-    (search_hides m c.args.id c.in-Some.index new c.index-2.result.now c.search_shown-is_found.result c.in-Some.ensures.some c.search_shown-is_found.ensures.some.each
+    (search_hides m c.args.id c.in-Some.index c.sought-sought.result new c.index-2.result.now c.search_shown-is_found.result c.in-Some.ensures.some
+    c.search_shown-is_found.ensures.some.each
+    (subst (λ (o : ObjectMap). (c.sought-sought.result ≡ c.in-Some.index) ⊎ (length (ids_of o) ≤ c.sought-sought.result)) (sym (ap (λ s. s.objects) c.self.view_is)) c.sought-sought.ensures)
     c.search_shown-is_found.ensures.found (λ none. subst (λ (k : ℕ). AreShown m k new) active (c.search_shown-is_found.ensures.all none)) is clear)

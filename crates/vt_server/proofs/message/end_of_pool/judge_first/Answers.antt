@@ -8,7 +8,7 @@ pub returns-in_ok-pool-in-Ok : goal.returns-in_ok-pool-in-Ok
 returns-in_ok-pool-in-Ok c bytes is = record {
   verdict = Accepts (map_of c.in-Ok.accepted);
   right = record {
-    pool = c.args.read.now;
+    pool = c.args.read;
     read = is;
     verified = subst IsVerified c.in-Ok.ensures.accepted.0 c.in-Ok.ensures.verified;
     objects_are = ap map_of c.in-Ok.ensures.accepted.0;
@@ -20,7 +20,7 @@ pub returns-in_ok-reply-in-Err : goal.returns-in_ok-reply-in-Err
 returns-in_ok-reply-in-Err c bytes is = record {
   verdict = Refuses c.in-Err.refusal;
   right = record {
-    pool = c.args.read.now;
+    pool = c.args.read;
     read = is;
     refused = c.in-Err.ensures.refused;
     named = c.in_ok-reply-in-Err.ensures.named;
