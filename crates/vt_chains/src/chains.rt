@@ -116,7 +116,7 @@ fn deepest<S: Store>(
 }
 
 /// Finds the depth of an included ID, less than `most`, or a chain of `most` inclusions that begins with it. Most depths
-/// are known already.
+/// are known already; one not yet found is 255, above every `most`.
 #[cycle(settle)]
 #[inline]
 fn settle_included<S: Store>(

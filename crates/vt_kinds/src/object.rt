@@ -203,7 +203,8 @@ impl<B: AsSlice<u8>> Object<B> {
 }
 
 impl<B: AsSlice<u8> + Drop> Object<B> {
-    /// Takes the object over, with its texts, picture and macro bytes copied into memory of its own.
+    /// Takes the object over, with its texts, picture and macro bytes copied into memory of its own. `AllocError` if memory
+    /// is refused; the object is dropped then.
     pub fn into_owned(self, alloc: Global) -> Result<Object<Vec<u8>>, AllocError>
         ensures { IfOk result (λ owned. seen owned ≡ seen self) }
     {
