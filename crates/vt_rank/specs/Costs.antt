@@ -1,5 +1,5 @@
 -- Costs of nodes and groups.
-use Rattle.std.specs.Prelude.{◌≡◌, ℕ, zero, suc, ◌<◌, ◌≤◌, ◌^◌, max, List, [], ◌∷◌, sum_by, slice_index}
+use Rattle.std.specs.Prelude.{◌≡◌, ℕ, zero, suc, ◌<◌, ◌≤◌, ◌^◌, max, min, List, [], ◌∷◌, sum_by, slice_index}
 use Rattle.vt_rank.specs.declared.graph.Graph.{Graph}
 use Rattle.vt_rank.specs.declared.graph.Item.{Item}
 use Rattle.vt_rank.specs.declared.graph.Item.TheVariants.{Step, Group, Most}
@@ -44,6 +44,10 @@ CostsAreTotals g = (n : ℕ) → cost_of g n ≡ node_total (cost_of g) g n
 pub record AreCosts (g : Graph) (costs : List ℕ) : Type 0 where
   pub nodes : (n : ℕ) → slice_index costs n ≡ cost_of g n
   pub groups : (k : ℕ) → group_cost g k < 2 ^ 32
+
+-- the costs of a graph's nodes, each cut at a limit
+abbrev pub AreCostsUpTo : Graph → ℕ → List ℕ → Type 0
+AreCostsUpTo g limit costs = (n : ℕ) → slice_index costs n ≡ min (cost_of g n) limit
 
 pub record IsWithin (g : Graph) (cap : ℕ) : Type 0 where
   pub nodes : (n : ℕ) → cost_of g n ≤ cap

@@ -3,7 +3,7 @@
 ghost use Rattle.std.specs.Prelude.{◌≡◌, ℕ, List, ◌<◌, ◌≤◌, IfOk, IfErr, IfSome, IfNone, slice_index};
 ghost use Rattle.vt_rank.specs.Paths.{AreRanks};
 ghost use Rattle.vt_rank.specs.declared.graph.Graph.{Graph as Network};
-ghost use Rattle.vt_rank.specs.Costs.{group_total, AreCosts, IsWithin, IsFirstOverCap, CostsAreTotals};
+ghost use Rattle.vt_rank.specs.Costs.{group_total, AreCosts, AreCostsUpTo, IsWithin, IsFirstOverCap, CostsAreTotals};
 
 use crate::budget::{Costs, OverBudget};
 use crate::graph::Graph;
@@ -39,6 +39,22 @@ pub fn costs(graph: &Graph, ranks: &Ranks, cap: u32) -> Result<Costs, OverBudget
         Some(group) => Err(OverBudget::Group(group)),
         None => Ok(Costs { costs }),
     }
+}
+
+/// The cost of each node, but at most `limit`. `ranks` are those of this graph.
+///
+/// Does not allocate. Reads each item once, with the nodes of its group, and the groups of `Item::Most` once in all.
+pub fn costs_up_to(graph: &Graph, ranks: &Ranks, limit: u64) -> [u64; 256]
+    requires limit { 0 < limit }
+    requires ranks { AreRanks graph.now ranks.now }
+    ensures { AreCostsUpTo graph.now limit result }
+{
+    let mut table = no_costs();
+    let mut most = None;
+    for rank in 0..256usize {
+        fill(graph, ranks, rank as u8, limit, &mut table, &mut most);
+    }
+    table
 }
 
 // Returns the costs of all nodes, or the least node over the cap.

@@ -38,7 +38,8 @@ impl Graph {
         }
     }
 
-    pub(crate) fn group(&self, group: usize) -> &[u8]
+    /// The nodes of a group.
+    pub fn group(&self, group: usize) -> &[u8]
         ensures { result.now ≡ group_of self.now group }
     {
         match self.groups.get(group) {

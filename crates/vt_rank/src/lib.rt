@@ -20,7 +20,8 @@ mod search;
 mod table;
 
 pub use budget::{Costs, OverBudget};
-pub use capped::costs;
+pub use capped::{costs, costs_up_to};
 pub use circle::Circle;
 pub use graph::{Graph, Item};
 pub use ranking::{Ranks, rank};
+pub use table::cost_of_nodes;

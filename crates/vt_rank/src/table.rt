@@ -108,7 +108,8 @@ fn cost_of_most(graph: &Graph, table: &[u64; 256], limit: u64) -> u64
     greatest
 }
 
-pub(crate) fn cost_of_nodes(table: &[u64; 256], nodes: &[u8], limit: u64) -> u64
+/// The sum of the costs of nodes in a table, repeats counted, cut at a limit.
+pub fn cost_of_nodes(table: &[u64; 256], nodes: &[u8], limit: u64) -> u64
     ensures { result ≡ min (sum_by (slice_index table.now) nodes.now) limit }
 {
     let mut total = 0u64;

@@ -9,7 +9,7 @@ ghost use Rattle.vt_verify.specs.Macros.{macro_bytes_in, macro_command};
 use vt_objects::{Command, Object, ObjectId};
 
 /// The bytes of the object, if it is a macro with an ID of at most 255.
-pub(crate) fn named_macro(id: ObjectId, object: &Object<Vec<u8>>) -> Option<&[u8]>
+pub fn named_macro(id: ObjectId, object: &Object<Vec<u8>>) -> Option<&[u8]>
     ensures { option_map (λ bytes. bytes.now) result ≡ macro_bytes_in id (fixed (seen object.now)) }
 {
     match object {
@@ -19,7 +19,7 @@ pub(crate) fn named_macro(id: ObjectId, object: &Object<Vec<u8>>) -> Option<&[u8
 }
 
 /// Reads one macro command from its bytes; `None` for Delete Object Pool and for bytes that are no command.
-pub(crate) fn macro_command(piece: &[u8]) -> Option<Command<'_>>
+pub fn macro_command(piece: &[u8]) -> Option<Command<'_>>
     ensures { result ≡ macro_command piece.now }
 {
     match Command::read(piece)? {

@@ -27,8 +27,14 @@ mod triggers;
 mod verification;
 
 pub use accepted::{Accepted, AcceptedParts};
-pub use listing::Listings;
+pub use commands::{macro_command, named_macro};
+pub use listing::{Listing, Listings};
+pub use macros::is_whole;
+pub use reference::{Reference, Test};
+pub use references::pointed;
 pub use refusal::Refusal;
+pub use targets::{has_attribute, kind_for};
+pub use triggers::TriggerGraph;
 pub use verification::{verify, verify_owned, verify_update};
 pub use vt_chains::{Chain, Limits, TERMINAL_LIMITS, find_depths};
 

@@ -16,11 +16,11 @@ use vt_objects::{Event, MacroEntry, Object, ObjectId, Raised, SortedStore};
 
 /// An object and the number of an event of it.
 #[derive(Clone, Copy, Debug, PartialEq, Eq, Hash)]
-pub(crate) struct Listing {
+pub struct Listing {
     /// The object.
-    pub(crate) id: ObjectId,
+    pub id: ObjectId,
     /// The number of the event.
-    pub(crate) event: u8,
+    pub event: u8,
 }
 
 impl Listing {

@@ -37,7 +37,8 @@ fn cut_short_in(id: ObjectId, object: &Object<Vec<u8>>) -> Option<ObjectId>
     }
 }
 
-fn is_whole(bytes: &[u8]) -> bool
+/// Whether a macro's bytes end with a whole command.
+pub fn is_whole(bytes: &[u8]) -> bool
     ensures { result ≡ is_some (cut bytes.now) }
 {
     // The remaining bytes are cut into the same commands as in the whole.

@@ -10,20 +10,20 @@ use vt_objects::{Kind, Kinds, ObjectId, Slot, SortedStore, Target};
 
 /// A reference: an ID in an object, and the kinds allowed for it.
 #[derive(Clone, Copy, Debug, PartialEq, Eq)]
-pub(crate) struct Reference {
+pub struct Reference {
     /// The object that has the reference.
-    pub(crate) parent: ObjectId,
+    pub parent: ObjectId,
     /// The referenced ID, or NULL.
-    pub(crate) id: ObjectId,
+    pub id: ObjectId,
     /// Whether NULL is allowed.
-    pub(crate) may_be_null: bool,
+    pub may_be_null: bool,
     /// The allowed kinds.
-    pub(crate) kinds: Kinds,
+    pub kinds: Kinds,
 }
 
 /// A test of a reference.
 #[derive(Clone, Copy, Debug, PartialEq, Eq)]
-pub(crate) enum Test {
+pub enum Test {
     /// The ID is NULL, where NULL is allowed, or the ID of an existing object.
     IsThere,
     /// The object is of an allowed kind. NULL and missing objects pass.
@@ -34,7 +34,7 @@ pub(crate) enum Test {
 
 impl Reference {
     /// The reference of a slot.
-    pub(crate) fn of_slot(parent: ObjectId, slot: &Slot) -> Reference
+    pub fn of_slot(parent: ObjectId, slot: &Slot) -> Reference
         ensures { result ≡ of_slot parent slot.now }
     {
         Reference {
@@ -46,7 +46,7 @@ impl Reference {
     }
 
     /// The reference of a target of a macro's command.
-    pub(crate) fn of_target(parent: ObjectId, target: Target) -> Reference
+    pub fn of_target(parent: ObjectId, target: Target) -> Reference
         ensures { result ≡ of_target parent target }
     {
         Reference {
@@ -58,7 +58,7 @@ impl Reference {
     }
 
     /// The reference to a macro with an ID of at most 255.
-    pub(crate) fn to_macro(parent: ObjectId, id: ObjectId) -> Reference
+    pub fn to_macro(parent: ObjectId, id: ObjectId) -> Reference
         ensures { result ≡ macro_reference parent id }
     {
         Reference {
@@ -70,7 +70,7 @@ impl Reference {
     }
 
     /// Whether the reference passes a test.
-    pub(crate) fn passes(&self, test: Test, objects: &SortedStore) -> bool
+    pub fn passes(&self, test: Test, objects: &SortedStore) -> bool
         ensures { result ≡ passes test (shape_of objects.now) self.now }
     {
         match test {

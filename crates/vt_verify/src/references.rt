@@ -143,7 +143,7 @@ fn wrong_or_points_wrong(objects: &SortedStore, reference: Reference) -> Option<
 }
 
 /// The reference to the value of a referenced pointer.
-fn pointed(objects: &SortedStore, reference: Reference) -> Option<Reference>
+pub fn pointed(objects: &SortedStore, reference: Reference) -> Option<Reference>
     ensures { option_to_list result ≡ pointed reference (object_at objects.now reference.id) }
 {
     match objects.get(reference.id)? {

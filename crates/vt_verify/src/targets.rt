@@ -105,7 +105,7 @@ fn failing_in(objects: &SortedStore, id: ObjectId, piece: &[u8], test: Test) -> 
 }
 
 /// The kind of the object of a command, or `None` if it is missing.
-fn kind_for(objects: &SortedStore, command: &Command<'_>) -> Option<Kind>
+pub fn kind_for(objects: &SortedStore, command: &Command<'_>) -> Option<Kind>
     ensures { result ≡ kind_for (shape_of objects.now) (object_of command.now) }
 {
     kind_at(objects, command.object()?)
@@ -128,7 +128,7 @@ fn failing(
 }
 
 /// Whether the object of a Change Attribute has that attribute; true for other commands.
-pub(crate) fn has_attribute(objects: &SortedStore, command: &Command<'_>) -> bool
+pub fn has_attribute(objects: &SortedStore, command: &Command<'_>) -> bool
     ensures { result ≡ command_has_attribute (shape_of objects.now) (Some command.now) }
 {
     let Command::ChangeAttribute { id, number, .. } = *command else {

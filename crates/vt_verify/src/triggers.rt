@@ -22,17 +22,16 @@ use vt_rank::{Graph, Item};
 
 /// The events at which macros run, and the graph of the macros. The group at an event's index has its macros.
 #[derive(Drop)]
-pub(crate) struct TriggerGraph {
-    pub(crate) events: IndexSet<Listing>,
-    pub(crate) graph: Graph,
+pub struct TriggerGraph {
+    /// The events at which macros run.
+    pub events: IndexSet<Listing>,
+    /// The graph of the macros.
+    pub graph: Graph,
 }
 
 impl TriggerGraph {
     /// The triggers of the macros of some objects.
-    pub(crate) fn of_objects(
-        alloc: Global,
-        objects: &SortedStore,
-    ) -> Result<TriggerGraph, AllocError>
+    pub fn of_objects(alloc: Global, objects: &SortedStore) -> Result<TriggerGraph, AllocError>
         requires { rules.cut_short (shape_of objects.now) ≡ None }
         ensures { IfOk result (λ t. IsTriggerGraph (shape_of objects.now) t.events.keys t.graph) }
     {

@@ -77,7 +77,7 @@ not_among (e ∷ es) id none =
     let both = entry_case (eq_by_cmp nat_cmp id e.0) e.1 (object_at es id) none in
     or_from (eqb id e.0) (list_any (eqb id) (ids es)) (other_by id e.0 both.0) (not_among es id both.1)
 
-named_more : (es : Objects) (id : ℕ) (o : Seen) → AreNamed es → object_at es id ≡ None → id < null_id → AreNamed (es ++ (id, o) ∷ [])
+pub named_more : (es : Objects) (id : ℕ) (o : Seen) → AreNamed es → object_at es id ≡ None → id < null_id → AreNamed (es ++ (id, o) ∷ [])
 named_more es id o named none lt =
     let same = map-append (λ (e : ℕ × Seen). e.0) es ((id, o) ∷ []) in
     record {
