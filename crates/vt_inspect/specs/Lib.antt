@@ -1,0 +1,11 @@
+-- The definitions used in the contracts of vt_inspect.
+pub mod Circles
+pub mod Costs
+pub mod Findings
+pub mod Inspections
+pub mod Laws
+pub mod Lists
+pub mod Missing
+pub mod Places
+pub mod Readings
+pub mod References

@@ -1,0 +1,141 @@
+//! The inspection of a pool's bytes.
+
+ghost use Rattle.std.specs.Prelude.{◌≡◌, ◌≤◌, length, map, IfOk, IfSome, IsSome};
+ghost use Rattle.vt_stores.specs.Stores.{object_at};
+ghost use Rattle.vt_inspect.specs.Inspections.{IsInspection, unread_notes};
+ghost use Rattle.vt_inspect.specs.Places.{HasOffset, IsOffset, IsRecordOf, place_of};
+
+use crate::finding::{Finding, FindingPlace};
+use crate::in_force::{InForce, in_force};
+use crate::records::{Records, read_records};
+use crate::rules::put_findings;
+use std::alloc::{AllocError, Global};
+use vt_objects::{Kind, ObjectId, SortedStore, Store};
+use vt_pool::PoolFault;
+
+/// The record of an object in force.
+#[derive(Clone, Copy, Debug, PartialEq, Eq)]
+pub struct ObjectRecord {
+    /// The object.
+    pub id: ObjectId,
+    /// The kind of the object.
+    pub kind: Kind,
+    /// The index of the record's first byte.
+    pub at: usize,
+}
+
+/// A record that a later one of the same ID replaces.
+#[derive(Clone, Copy, Debug, PartialEq, Eq)]
+pub struct ReplacedRecord {
+    /// The ID of both.
+    pub id: ObjectId,
+    /// The index of the replaced record's first byte.
+    pub at: usize,
+    /// The index of the first byte of the record in force.
+    pub by: usize,
+}
+
+/// Rules that were not judged.
+#[derive(Clone, Copy, Debug, PartialEq, Eq)]
+pub enum Note {
+    /// The bytes from `at` on could not be read, so nothing is called missing: rules 1, 3 and 8 were not judged.
+    Unread { at: usize },
+    /// The bytes of a macro end inside a command, so no triggers are known: rules 11 and 12 were not judged.
+    UnknownTriggers,
+    /// Macros trigger each other in a circle, so no costs are known: rule 12 was not judged.
+    UnknownCosts,
+}
+
+/// The result of an inspection.
+#[derive(Drop)]
+pub struct Inspection {
+    /// The objects in force.
+    pub objects: SortedStore,
+    /// The record of each object in force, by rising ID.
+    pub records: Vec<ObjectRecord>,
+    /// The other records, in the order of their bytes.
+    pub replaced: Vec<ReplacedRecord>,
+    /// All findings, in the order of the rules; the faults of records first. Empty exactly if the pool is acceptable.
+    pub findings: Vec<Finding>,
+    /// The rules that were not judged.
+    pub notes: Vec<Note>,
+}
+
+impl Inspection {
+    /// The record of an object in force.
+    pub fn record(&self, id: ObjectId) -> Option<&ObjectRecord>
+        ensures record { IfSome result (λ r. IsRecordOf self.now id r.now) }
+        // An object has a record, if there are as many records as objects.
+        ensures found { IsSome (object_at self.now.objects id) → length self.now.objects ≤ length self.now.records.items → IsSome result }
+    {
+        self.records.get(self.objects.place(id)?)
+    }
+
+    /// The index of the first byte of a finding: of a wrong field of a record, of a command of a macro, or else of the
+    /// object's record. `None` for a finding of the whole pool.
+    pub fn offset(&self, finding: &Finding) -> Option<usize>
+        ensures offset { IfSome result (IsOffset self.now (place_of finding.now)) }
+        // A finding of an object has an offset, if there are as many records as objects.
+        ensures found { length self.now.objects ≤ length self.now.records.items → HasOffset self.now.objects (place_of finding.now) → IsSome result }
+    {
+        match finding.place()? {
+            FindingPlace::Byte(at) => Some(at),
+            FindingPlace::Object(id) => Some(self.record(id)?.at),
+            FindingPlace::Command { id, at } => {
+                let commands = self.record(id)?.at.checked_add(BEFORE_COMMANDS)?;
+                commands.checked_add(at)
+            }
+        }
+    }
+}
+
+/// The bytes of a macro's record before its commands: ID, type and length.
+const BEFORE_COMMANDS: usize = 5;
+
+/// Finds all faults of a pool's bytes.
+pub fn inspect(alloc: Global, bytes: &[u8]) -> Result<Inspection, AllocError>
+    ensures { IfOk result (IsInspection bytes.now) }
+{
+    let Records {
+        found,
+        faults,
+        unread,
+    } = read_records(alloc, bytes)?;
+    let InForce {
+        objects,
+        records,
+        replaced,
+    } = in_force(alloc, found)?;
+    let mut findings = fault_findings(alloc, faults.as_slice())?;
+    let mut notes = unread_notes(alloc, unread)?;
+    put_findings(alloc, &objects, unread.is_none(), &mut findings, &mut notes)?;
+    Ok(Inspection {
+        objects,
+        records,
+        replaced,
+        findings,
+        notes,
+    })
+}
+
+/// The findings of records.
+fn fault_findings(alloc: Global, faults: &[PoolFault]) -> Result<Vec<Finding>, AllocError>
+    ensures { IfOk result (λ findings. findings.items ≡ map Finding.Record faults.now) }
+{
+    let mut findings = Vec::with_capacity(alloc, faults.len())?;
+    for fault in faults {
+        findings.push(Finding::Record(*fault))?;
+    }
+    Ok(findings)
+}
+
+/// The note on bytes that were not read.
+fn unread_notes(alloc: Global, unread: Option<usize>) -> Result<Vec<Note>, AllocError>
+    ensures { IfOk result (λ notes. notes.items ≡ unread_notes unread) }
+{
+    let mut notes = Vec::new(alloc);
+    if let Some(at) = unread {
+        notes.push(Note::Unread { at })?;
+    }
+    Ok(notes)
+}

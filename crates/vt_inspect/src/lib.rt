@@ -1,0 +1,28 @@
+//! All faults of an object pool, with their positions.
+//!
+//! - `inspect` returns the `Inspection` of a pool's bytes: the objects in force with their records, the replaced
+//!   records, each `Finding`, and a `Note` for each rule that was not judged. `Inspection::offset` is the index of a
+//!   finding's first byte.
+//! - `laws` has the theorems about the definitions.
+//!
+//! docs/PROFILE.md, "Verification of a pool", has the rules, and "Pools and faults" the faults of records.
+#![tactic(auto)]
+
+mod finding;
+mod in_force;
+mod inclusions;
+mod inspection;
+pub mod laws;
+mod macros;
+mod records;
+mod references;
+mod rules;
+mod targets;
+mod triggers;
+mod working_sets;
+
+pub use finding::{Finding, FindingPlace, ReferenceAt, Spot};
+pub use inspection::{Inspection, Note, ObjectRecord, ReplacedRecord, inspect};
+
+/// A refused allocation.
+pub use std::alloc::AllocError as OutOfMemory;
