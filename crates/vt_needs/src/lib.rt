@@ -1,0 +1,32 @@
+//! What a pool needs of a terminal, and what its maker may have overlooked: warnings, sizes, and the differences of two pools.
+//!
+//! - `warnings` finds each `Warning` about the objects of a pool, which need not be an accepted one.
+//! - `needs_of` finds what a pool `Needs` of a terminal, and `lacks` what a terminal has less of.
+//! - `dearest_event` and `longest_chain` find the greatest load of an accepted pool; `compare` finds each `Difference` of two pools by their IDs.
+//! - `Sizes` are those of a terminal; `TERMINAL_SIZES` are those of this one.
+//!
+//! docs/PROFILE.md, "Warnings", has the meaning of each warning.
+#![tactic(auto)]
+
+mod differences;
+mod elements;
+mod fonts;
+mod id_set;
+mod loads;
+mod naming;
+mod needs;
+mod rule;
+mod sizes;
+mod text_fields;
+mod warning;
+
+pub use differences::{Difference, compare};
+pub use elements::Extent;
+pub use loads::{Dearest, dearest_event, longest_chain};
+pub use needs::{Lack, Needs, has_font, has_kind, lacks, needs_of};
+pub use rule::warnings;
+pub use sizes::{Area, Sizes, TERMINAL_SIZES};
+pub use warning::{Element, TextField, Warning};
+
+/// The error of a failed allocation.
+pub use std::alloc::AllocError as OutOfMemory;

@@ -1,0 +1,67 @@
+//! Warnings about the objects of a pool.
+
+use crate::sizes::Area;
+use vt_objects::ObjectId;
+
+/// A field with a text or a number.
+#[derive(Clone, Copy, Debug, PartialEq, Eq)]
+pub struct TextField {
+    /// The object.
+    pub id: ObjectId,
+    /// The number of characters up to the last one that is no space.
+    pub columns: u32,
+    /// Whether the text is shown in one line: it has no line break, and is not wrapped.
+    pub is_one_line: bool,
+    /// The area of a character.
+    pub cell: Area,
+    /// The area of the field.
+    pub area: Area,
+}
+
+/// A child of an object, by the area that it takes there.
+#[derive(Clone, Copy, Debug, PartialEq, Eq)]
+pub struct Element {
+    /// The object that has the child.
+    pub parent: ObjectId,
+    /// The index of the child in the object's list.
+    pub index: u8,
+    /// The child, or the value of the pointer that is the child.
+    pub id: ObjectId,
+    /// The position in the object.
+    pub x: i16,
+    /// The position in the object.
+    pub y: i16,
+    /// The width in pixels.
+    pub width: u32,
+    /// The height in pixels.
+    pub height: u32,
+}
+
+/// Something that a pool's maker may have overlooked. A terminal accepts the pool all the same. docs/PROFILE.md, "Warnings".
+#[derive(Clone, Copy, Debug, PartialEq, Eq)]
+pub enum Warning {
+    /// W02: no slot, no macro entry and no command of a macro names the object.
+    Unused {
+        id: ObjectId,
+    },
+    /// W03: a text in one line is wider than its field.
+    TextTooWide(TextField),
+    /// W04: a character is higher than its field.
+    TextTooHigh(TextField),
+    /// W05: a child reaches out of the area of its mask, container, button or key.
+    Outside {
+        /// The child.
+        element: Element,
+        /// The area of the object that has the child.
+        area: Area,
+    },
+    /// W06: a soft key mask has more keys than the terminal.
+    ExtraKeys {
+        /// The soft key mask.
+        id: ObjectId,
+        /// The number of its keys.
+        keys: u8,
+        /// The most keys that the terminal shows.
+        most: u8,
+    },
+}
