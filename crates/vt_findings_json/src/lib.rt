@@ -1,0 +1,13 @@
+//! Findings and warnings about a pool as lines of JSON.
+//!
+//! - `item_json` returns the line of an item: it reads back as the item's message with its details.
+//! - `summary_json` returns the line of a pool's counts.
+//!
+//! docs/POOLS.md, "Every fault at once", has the members.
+#![tactic(auto)]
+
+mod details;
+mod lines;
+mod objects;
+
+pub use lines::{item_json, summary_json};

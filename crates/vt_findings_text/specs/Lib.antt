@@ -1,0 +1,6 @@
+-- The specifications that the contracts of vt_findings_text use.
+pub mod Codes
+pub mod Events
+pub mod Labels
+pub mod Severities
+pub mod Spots

@@ -1,0 +1,31 @@
+//! Findings and warnings about a pool as lines for people and for GitHub.
+//!
+//! - `Names` are the names of objects, from files of lines `ID,NAME` or `#define NAME ID`.
+//! - A `Source` is an inspected pool with its path and its names. `Source::message` returns the `Message` of an `Item`: the offset in the
+//!   file, the severity, the code and a sentence.
+//! - A `Message` writes its line for people by `Display`, and for GitHub by `GithubLine`.
+//!
+//! docs/POOLS.md has the codes.
+#![tactic(auto)]
+
+mod codes;
+mod events;
+mod github;
+mod item;
+mod label;
+mod message;
+mod names;
+mod sentences;
+mod source;
+mod spot;
+mod warning_sentences;
+
+pub use codes::{Code, code_of};
+pub use events::event_name;
+pub use github::GithubLine;
+pub use item::Item;
+pub use label::Label;
+pub use message::{Message, Severity, Summary};
+pub use names::Names;
+pub use source::Source;
+pub use spot::SpotText;

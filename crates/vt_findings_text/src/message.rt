@@ -1,0 +1,115 @@
+//! Messages about a pool, each a line.
+
+ghost use Rattle.std.specs.Prelude.{◌≡◌};
+ghost use Rattle.vt_findings_text.specs.Severities.{severity_of, severity_word};
+
+use crate::codes::Code;
+use crate::item::Item;
+use std::fmt;
+
+/// How bad it is.
+#[derive(Clone, Copy, Debug, PartialEq, Eq)]
+pub enum Severity {
+    /// A terminal refuses the pool.
+    Error,
+    /// A terminal accepts the pool all the same.
+    Warning,
+    /// Some rules were not judged.
+    Note,
+}
+
+impl Severity {
+    /// The word for it.
+    pub fn word(self) -> &'static str
+        ensures { result.now ≡ severity_word self }
+    {
+        match self {
+            Severity::Error => "error",
+            Severity::Warning => "warning",
+            Severity::Note => "note",
+        }
+    }
+}
+
+/// How bad an item is.
+pub(crate) fn severity_of(item: Item<'_>) -> Severity
+    ensures { result ≡ severity_of item.entry }
+{
+    match item {
+        Item::Finding(_) => Severity::Error,
+        Item::Replaced(_) | Item::Warning(_) => Severity::Warning,
+        Item::Note(_) => Severity::Note,
+    }
+}
+
+/// A message about a pool. `Display` writes `FILE:OFFSET: SEVERITY[CODE NAME] SENTENCE`, without a newline.
+#[derive(Drop)]
+pub struct Message<'a> {
+    /// The path of the pool's file.
+    pub file: &'a str,
+    /// The index of the byte that the message is about.
+    pub offset: usize,
+    /// How bad it is.
+    pub severity: Severity,
+    /// The code.
+    pub code: Code,
+    /// The cause.
+    pub sentence: String,
+}
+
+impl fmt::Display for Message<'_> {
+    fn fmt<W: fmt::Write>(&self, f: &mut fmt::Formatter<W>) -> fmt::Result {
+        let Code { code, name } = self.code;
+        write!(
+            f,
+            "{}:{}: {}[{code} {name}] {}",
+            self.file,
+            self.offset,
+            self.severity.word(),
+            self.sentence
+        )
+    }
+}
+
+/// The counts of a pool's messages. `Display` writes them in a line, without a newline.
+#[derive(Clone, Copy, Drop)]
+pub struct Summary<'a> {
+    /// The path of the pool's file.
+    pub file: &'a str,
+    /// The number of errors.
+    pub errors: usize,
+    /// The number of warnings.
+    pub warnings: usize,
+    /// The number of objects in force.
+    pub objects: usize,
+    /// The number of errors and warnings that have no line.
+    pub left_out: usize,
+}
+
+impl fmt::Display for Summary<'_> {
+    fn fmt<W: fmt::Write>(&self, f: &mut fmt::Formatter<W>) -> fmt::Result {
+        let Summary {
+            file,
+            errors,
+            warnings,
+            objects,
+            left_out,
+        } = *self;
+        write!(f, "{file}: ")?;
+        write_count(f, errors, "error")?;
+        f.write_str(", ")?;
+        write_count(f, warnings, "warning")?;
+        f.write_str(", ")?;
+        write_count(f, objects, "object")?;
+        if left_out > 0 {
+            write!(f, "; {left_out} not shown")?;
+        }
+        Ok(())
+    }
+}
+
+/// Writes a count with its noun, which takes an s unless the count is 1.
+fn write_count<W: fmt::Write>(f: &mut fmt::Formatter<W>, count: usize, noun: &str) -> fmt::Result {
+    let ending = if count == 1 { "" } else { "s" };
+    write!(f, "{count} {noun}{ending}")
+}
