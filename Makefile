@@ -29,9 +29,10 @@ examples:
 wrong-bodies:
 	@bash scripts/wrong_bodies.sh $(CRATES)
 
-# Proves the program and leaves it at crates/vt_replay/out/vt_replay.
+# Proves the programs and leaves them at crates/vt_replay/out/vt_replay and crates/segyolant/out/segyolant.
 build:
 	cd crates/vt_replay && rt run -- --version
+	cd crates/segyolant && rt run -- --version
 
 # Times the proved program on a million lines, read and ignored, answered with a new screen each, and answered with
 # macros, and pools written and read.

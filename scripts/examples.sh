@@ -9,10 +9,12 @@ files_of() {
         vt_examples) (cd examples && ls -- *.log *.iop) ;;
         vt_replay) echo seeder.log ;;
         vt_sample) echo sprayer.iop ;;
+        vt_pool_examples) (cd examples && ls -- *.iop *.h) ;;
+        segyolant) echo sprayer.iop sprayer.h ;;
     esac
 }
 
-for crate in vt_examples vt_replay vt_sample; do
+for crate in vt_examples vt_replay vt_sample vt_pool_examples segyolant; do
     data=crates/$crate/data
     mkdir -p "$data"
     for file in $(files_of "$crate"); do

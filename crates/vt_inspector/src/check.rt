@@ -1,0 +1,131 @@
+//! The subcommand `check`.
+
+use crate::files::{Open, read_file, read_names};
+use crate::program::Status;
+use std::alloc::{AllocError, Global};
+use std::io::{self, Write};
+use vt_findings_json::{item_json, summary_json};
+use vt_findings_text::{GithubLine, Item, Names, Source, Summary};
+use vt_inspect::{Inspection, inspect};
+use vt_inspector_words::{CheckOptions, Format};
+use vt_needs::{TERMINAL_SIZES, Warning, warnings};
+use vt_objects::Store;
+
+/// Checks each pool in turn. A file that cannot be read is named, and the others are checked all the same.
+pub(crate) fn run_check<F: Open, W: Write, E: Write>(
+    alloc: Global,
+    options: &CheckOptions<'_>,
+    files: &mut F,
+    out: &mut W,
+    errors: &mut E,
+) -> io::Result<Status> {
+    let Some(names) = read_names(alloc, options.names.as_slice(), files, errors)? else {
+        return Ok(Status::NotJudged);
+    };
+    let mut status = Status::Clean;
+    for path in options.pools.iter() {
+        let found = match read_file(alloc, path, files, errors)? {
+            Some(bytes) => check_pool(alloc, options, path, bytes.as_slice(), &names, out)?,
+            None => Status::NotJudged,
+        };
+        status = status.and(found);
+    }
+    Ok(status)
+}
+
+/// Prints every finding and warning of a pool, and the counts.
+fn check_pool<W: Write>(
+    alloc: Global,
+    options: &CheckOptions<'_>,
+    path: &str,
+    bytes: &[u8],
+    names: &Names,
+    out: &mut W,
+) -> io::Result<Status> {
+    let inspection = inspect(alloc, bytes)?;
+    let warnings = warnings(alloc, &inspection.objects, TERMINAL_SIZES)?;
+    let source = Source {
+        path,
+        inspection: &inspection,
+        names,
+    };
+    let items = items_of(alloc, &inspection, warnings.as_slice())?;
+    let most = options.most.map_or(items.len(), |most| most as usize);
+    for item in items.iter().take(most) {
+        put_item(alloc, &source, *item, options.format, out)?;
+    }
+    for note in inspection.notes.iter() {
+        put_item(alloc, &source, Item::Note(*note), options.format, out)?;
+    }
+    let errors = inspection.findings.len();
+    let summary = Summary {
+        file: path,
+        errors,
+        warnings: items.len().saturating_sub(errors),
+        objects: inspection.objects.count(),
+        left_out: items.len().saturating_sub(most),
+    };
+    put_summary(alloc, summary, options.format, out)?;
+    Ok(status_of(&summary, options.denies_warnings))
+}
+
+/// The findings, then the replaced records, then the warnings.
+fn items_of<'a>(
+    alloc: Global,
+    inspection: &'a Inspection,
+    warnings: &'a [Warning],
+) -> Result<Vec<Item<'a>>, AllocError> {
+    let mut items = Vec::new(alloc);
+    for finding in inspection.findings.iter() {
+        items.push(Item::Finding(finding))?;
+    }
+    for replaced in inspection.replaced.iter() {
+        items.push(Item::Replaced(replaced))?;
+    }
+    for warning in warnings {
+        items.push(Item::Warning(warning))?;
+    }
+    Ok(items)
+}
+
+fn put_item<W: Write>(
+    alloc: Global,
+    source: &Source<'_>,
+    item: Item<'_>,
+    format: Format,
+    out: &mut W,
+) -> io::Result<()> {
+    let message = source.message(alloc, item)?;
+    match format {
+        Format::Text => writeln!(out, "{message}"),
+        Format::Json => {
+            let line = item_json(alloc, source, &message, item)?;
+            writeln!(out, "{line}")
+        }
+        Format::Github => writeln!(out, "{}", GithubLine { message: &message }),
+    }
+}
+
+fn put_summary<W: Write>(
+    alloc: Global,
+    summary: Summary<'_>,
+    format: Format,
+    out: &mut W,
+) -> io::Result<()> {
+    match format {
+        Format::Json => {
+            let line = summary_json(alloc, summary)?;
+            writeln!(out, "{line}")
+        }
+        Format::Text | Format::Github => writeln!(out, "{summary}"),
+    }
+}
+
+/// The status of a pool with these counts.
+fn status_of(summary: &Summary<'_>, denies_warnings: bool) -> Status {
+    if summary.errors > 0 || denies_warnings && summary.warnings > 0 {
+        Status::Found
+    } else {
+        Status::Clean
+    }
+}

@@ -1,0 +1,87 @@
+//! The subcommand `diff`.
+
+use crate::files::{Open, read_file, read_names};
+use crate::program::Status;
+use std::alloc::Global;
+use std::io::{self, Write};
+use vt_findings_text::Source;
+use vt_inspect::{Inspection, Note, inspect};
+use vt_inspector_words::DiffOptions;
+use vt_needs::{Difference, compare};
+
+/// Prints the differences of two pools, as far as their bytes can be read.
+pub(crate) fn run_diff<F: Open, W: Write, E: Write>(
+    alloc: Global,
+    options: &DiffOptions<'_>,
+    files: &mut F,
+    out: &mut W,
+    errors: &mut E,
+) -> io::Result<Status> {
+    let Some(names) = read_names(alloc, options.names.as_slice(), files, errors)? else {
+        return Ok(Status::NotJudged);
+    };
+    let Some(old_bytes) = read_file(alloc, options.old, files, errors)? else {
+        return Ok(Status::NotJudged);
+    };
+    let Some(new_bytes) = read_file(alloc, options.new, files, errors)? else {
+        return Ok(Status::NotJudged);
+    };
+    let old = inspect(alloc, old_bytes.as_slice())?;
+    let new = inspect(alloc, new_bytes.as_slice())?;
+    let is_judged = is_read(&old, options.old, errors) & is_read(&new, options.new, errors);
+    let found = compare(alloc, &old.objects, &new.objects)?;
+    let before = Source {
+        path: options.old,
+        inspection: &old,
+        names: &names,
+    };
+    let after = Source {
+        path: options.new,
+        inspection: &new,
+        names: &names,
+    };
+    for difference in found.iter() {
+        put_difference(&before, &after, *difference, out)?;
+    }
+    if !is_judged {
+        return Ok(Status::NotJudged);
+    }
+    Ok(if found.is_empty() {
+        Status::Clean
+    } else {
+        Status::Found
+    })
+}
+
+/// Whether all bytes of a pool were read; if not, `errors` says from where on.
+fn is_read<E: Write>(inspection: &Inspection, path: &str, errors: &mut E) -> bool {
+    for note in inspection.notes.iter() {
+        if let Note::Unread { at } = note {
+            let _ = writeln!(
+                errors,
+                "segyolant: {path}: the bytes from {at} on cannot be read, so they are not compared; segyolant check says why"
+            );
+            return false;
+        }
+    }
+    true
+}
+
+fn put_difference<W: Write>(
+    before: &Source<'_>,
+    after: &Source<'_>,
+    difference: Difference,
+    out: &mut W,
+) -> io::Result<()> {
+    match difference {
+        Difference::Removed { id } => writeln!(out, "removed {}", before.label(id)),
+        Difference::OtherKind { id } => writeln!(
+            out,
+            "other kind {}, was {}",
+            after.label(id),
+            before.label(id)
+        ),
+        Difference::Changed { id } => writeln!(out, "changed {}", after.label(id)),
+        Difference::Added { id } => writeln!(out, "added {}", after.label(id)),
+    }
+}

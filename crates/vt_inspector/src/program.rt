@@ -1,0 +1,77 @@
+//! A run of the program, from its words to its status.
+
+use crate::check::run_check;
+use crate::diff::run_diff;
+use crate::files::Open;
+use crate::needs::run_needs;
+use std::alloc::Global;
+use std::convert::AsStr;
+use std::io::{self, Write};
+use vt_inspector_words::{Options, UsageError};
+
+/// The status with which a run ends.
+#[derive(Clone, Copy, Debug, PartialEq, Eq)]
+pub enum Status {
+    /// Nothing was found.
+    Clean,
+    /// Something was found.
+    Found,
+    /// The words, a file or memory stopped the run.
+    NotJudged,
+}
+
+impl Status {
+    /// The exit status of the process.
+    pub fn code(self) -> u8 {
+        match self {
+            Status::Clean => 0,
+            Status::Found => 1,
+            Status::NotJudged => 2,
+        }
+    }
+
+    /// The status of two pools: the worse of both.
+    pub(crate) fn and(self, other: Status) -> Status {
+        match (self, other) {
+            (Status::NotJudged, _) | (_, Status::NotJudged) => Status::NotJudged,
+            (Status::Found, _) | (_, Status::Found) => Status::Found,
+            (Status::Clean, Status::Clean) => Status::Clean,
+        }
+    }
+}
+
+/// Runs the program on its words, of which the first is its name. `errors` gets a sentence for each file that cannot be read. An error is
+/// returned if `out` cannot be written or memory is refused.
+pub fn run<S: AsStr, F: Open, W: Write, E: Write>(
+    alloc: Global,
+    words: &[S],
+    files: &mut F,
+    out: &mut W,
+    errors: &mut E,
+) -> io::Result<Status> {
+    let options = match Options::parse(alloc, words) {
+        Ok(options) => options,
+        Err(refusal) => return refuse(&refusal, out, errors),
+    };
+    let status = match &options {
+        Options::Check(options) => run_check(alloc, options, files, out, errors)?,
+        Options::Needs(options) => run_needs(alloc, options, files, out, errors)?,
+        Options::Diff(options) => run_diff(alloc, options, files, out, errors)?,
+    };
+    out.flush()?;
+    Ok(status)
+}
+
+fn refuse<W: Write, E: Write>(
+    refusal: &UsageError<'_>,
+    out: &mut W,
+    errors: &mut E,
+) -> io::Result<Status> {
+    if refusal.is_help() {
+        write!(out, "{refusal}")?;
+        out.flush()?;
+        return Ok(Status::Clean);
+    }
+    let _ = write!(errors, "{refusal}");
+    Ok(Status::NotJudged)
+}

@@ -1,0 +1,162 @@
+//! Runs of the program on pools in memory: output, messages and status.
+
+use std::io::{self, Error, ErrorKind};
+use std::process::Abort;
+use std::test::Fail;
+use vt_inspector::{Open, Status, run};
+use vt_testing::POOL;
+
+/// A pool with each warning but W06. The record of the Container 100 comes twice.
+const WARNED: &[u8] = &[
+    0, 0, 0, 0, 1, 0xE8, 3, 0, 0, 0, // the Working Set 0
+    0xE8, 3, 1, 0, 0xFF, 0xFF, 2, 0, 100, 0, 10, 0, 5, 0, 44, 1, 0xD1, 1, 0, 0, // the Data Mask 1000, at 10
+    100, 0, 3, 50, 0, 20, 0, 0, 0, 0, // the Container 100, at 30
+    44, 1, 11, 16, 0, 8, 0, 0, 200, 0, 0, 0xFF, 0xFF, 0, 4, 0, 0x41, 0x42, 0x43, 0x20, 0, // the Output String 300, at 40
+    200, 0, 23, 0, 2, 0, 0, 0, // the Font Attributes 200, of 8x12, at 61
+    100, 0, 3, 50, 0, 20, 0, 0, 0, 0, // the Container 100, at 69
+    201, 0, 21, 7, 0, 0, 0, // the Number Variable 201, at 79
+];
+
+const WARNINGS: &str = "\
+w:30: warning[W01 Replaced] Container 100 `box`: the record at 69 replaces this one\n\
+w:79: warning[W02 Unused] Number Variable 201 `rate`: no object names it\n\
+w:40: warning[W03 TextTooWide] Output String 300 `label`: 3 characters of 8 pixels in a field of 16\n\
+w:40: warning[W04 TextTooHigh] Output String 300 `label`: characters of 12 pixels in a field of 8\n\
+w:10: warning[W05 Outside] Data Mask 1000: child 1, Output String 300 `label`, of 16x8 at 465,0 reaches out of its area of 480x480\n\
+w: 0 errors, 5 warnings, 6 objects\n";
+
+/// Names in both forms, with lines that are passed over, one of them not UTF-8.
+const NAMES: &[u8] =
+    b"// a comment\n100,old\n#define box 0x64 // of the mask\n\xFF,7\r\n300, label \r\n#define\n#define rate 201\n65536,big\n5,\n";
+
+/// The files of the tests.
+#[derive(Drop)]
+struct Shelf;
+
+impl Open for Shelf {
+    type Reader = &'static [u8];
+
+    fn open(&mut self, path: &str) -> io::Result<&'static [u8]> {
+        match path {
+            "pool" => Ok(POOL),
+            "w" => Ok(WARNED),
+            "names" => Ok(NAMES),
+            "cut" => Ok(&WARNED[..35]),
+            _ => Err(Error::from(ErrorKind::NotFound)),
+        }
+    }
+}
+
+/// A run: its words, then its status, its output, and whether there are messages.
+type Run<'a> = (&'a [&'a str], Status, &'a str, bool);
+
+fn expect_run(rt: &(impl Abort + AllocGlobal), wanted: &Run<'_>) -> Result<(), Fail> {
+    let (words, status, text, has_messages) = *wanted;
+    let mut out = Vec::new(rt.alloc());
+    let mut errors = Vec::new(rt.alloc());
+    let ended = run(rt.alloc(), words, &mut Shelf, &mut out, &mut errors)?;
+    assert_eq!(rt; out.as_slice(), text.as_bytes(), "{words:?}");
+    assert_eq!(rt; ended, status, "{words:?}");
+    assert_eq!(rt; !errors.is_empty(), has_messages, "{words:?}");
+    Ok(())
+}
+
+#[test]
+fn warnings_have_codes_offsets_and_names(rt: HostRuntime) -> Result<(), Fail> {
+    expect_run(
+        &rt,
+        &(
+            &["s", "check", "w", "--names", "names"],
+            Status::Clean,
+            WARNINGS,
+            false,
+        ),
+    )
+}
+
+#[test]
+fn denied_warnings_are_found(rt: HostRuntime) -> Result<(), Fail> {
+    expect_run(
+        &rt,
+        &(
+            &[
+                "s", "check", "pool", "w", "--most", "0", "--deny", "warnings",
+            ],
+            Status::Found,
+            "pool: 0 errors, 0 warnings, 3 objects\nw: 0 errors, 5 warnings, 6 objects; 5 not shown\n",
+            false,
+        ),
+    )
+}
+
+#[test]
+fn other_files_are_checked_beside_a_missing_one(rt: HostRuntime) -> Result<(), Fail> {
+    expect_run(
+        &rt,
+        &(
+            &["s", "check", "none", "pool"],
+            Status::NotJudged,
+            "pool: 0 errors, 0 warnings, 3 objects\n",
+            true,
+        ),
+    )?;
+    expect_run(
+        &rt,
+        &(
+            &["s", "check", "pool", "--names", "none"],
+            Status::NotJudged,
+            "",
+            true,
+        ),
+    )?;
+    expect_run(&rt, &(&["s", "check"], Status::NotJudged, "", true))
+}
+
+#[test]
+fn differences_are_by_id(rt: HostRuntime) -> Result<(), Fail> {
+    expect_run(
+        &rt,
+        &(
+            &["s", "diff", "pool", "w"],
+            Status::Found,
+            "changed Data Mask 1000\nadded Font Attributes 200\nadded Number Variable 201\nadded Output String 300\n",
+            false,
+        ),
+    )?;
+    expect_run(&rt, &(&["s", "diff", "w", "w"], Status::Clean, "", false))?;
+    expect_run(
+        &rt,
+        &(
+            &["s", "diff", "pool", "cut"],
+            Status::NotJudged,
+            "removed Container 100\nchanged Data Mask 1000\n",
+            true,
+        ),
+    )
+}
+
+#[test]
+fn a_pool_fits_or_does_not(rt: HostRuntime) -> Result<(), Fail> {
+    expect_run(
+        &rt,
+        &(
+            &["s", "needs", "pool", "--size", "60x25"],
+            Status::Clean,
+            "objects 3, bytes 34\nmask at least 60x25, key at least 0x0, soft keys 0\ncolours 2\nfont sizes\n\
+            kind 0 Working Set\nkind 1 Data Mask\nkind 3 Container\nlongest chain 1 inclusions\ndearest event 0 steps\n\
+            fits a terminal of 60x25 with 64 soft keys\n",
+            false,
+        ),
+    )?;
+    expect_run(
+        &rt,
+        &(
+            &["s", "needs", "pool", "--size", "59x25", "--keys", "0"],
+            Status::Found,
+            "objects 3, bytes 34\nmask at least 60x25, key at least 0x0, soft keys 0\ncolours 2\nfont sizes\n\
+            kind 0 Working Set\nkind 1 Data Mask\nkind 3 Container\nlongest chain 1 inclusions\ndearest event 0 steps\n\
+            does not fit: the terminal's mask is 59x25\n",
+            false,
+        ),
+    )
+}

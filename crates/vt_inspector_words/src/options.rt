@@ -1,0 +1,205 @@
+//! The options that the words give.
+
+use crate::words::command;
+use clap::error::ErrorKind;
+use clap::{ArgMatches, Error};
+use std::alloc::{AllocError, Global};
+use std::convert::AsStr;
+use std::fmt;
+use vt_needs::{Area, Sizes, TERMINAL_SIZES};
+
+/// The options that the words give, by the subcommand.
+#[derive(Drop)]
+pub enum Options<'a> {
+    /// `check`.
+    Check(CheckOptions<'a>),
+    /// `needs`.
+    Needs(NeedsOptions<'a>),
+    /// `diff`.
+    Diff(DiffOptions<'a>),
+}
+
+/// The form of the output.
+#[derive(Clone, Copy, Debug, PartialEq, Eq)]
+pub enum Format {
+    /// Lines for people.
+    Text,
+    /// Lines of JSON.
+    Json,
+    /// A GitHub workflow's commands.
+    Github,
+}
+
+/// The options of `check`.
+#[derive(Drop)]
+pub struct CheckOptions<'a> {
+    /// The files of the pools.
+    pub pools: Vec<&'a str>,
+    /// The files of names.
+    pub names: Vec<&'a str>,
+    /// The form of the output.
+    pub format: Format,
+    /// The most lines for a pool, or `None` for all.
+    pub most: Option<u32>,
+    /// Whether a warning ends with status 1.
+    pub denies_warnings: bool,
+}
+
+/// The options of `needs`.
+#[derive(Drop)]
+pub struct NeedsOptions<'a> {
+    /// The file of the pool.
+    pub pool: &'a str,
+    /// The files of names.
+    pub names: Vec<&'a str>,
+    /// The sizes of the terminal.
+    pub sizes: Sizes,
+}
+
+/// The options of `diff`.
+#[derive(Drop)]
+pub struct DiffOptions<'a> {
+    /// The file of the old pool.
+    pub old: &'a str,
+    /// The file of the new pool.
+    pub new: &'a str,
+    /// The files of names.
+    pub names: Vec<&'a str>,
+}
+
+/// A refusal of the words, or a request for help or the version.
+#[derive(Drop)]
+pub enum UsageError<'a> {
+    /// An error of `clap`: a fault of the words, or a request for help or the version.
+    Words(Error),
+    /// The value of `--size` is no width and height.
+    Size(&'a str),
+    /// An allocation was refused.
+    Memory,
+}
+
+impl UsageError<'_> {
+    /// Whether help or the version is asked for.
+    pub fn is_help(&self) -> bool {
+        match self {
+            UsageError::Words(error) => !error.use_stderr(),
+            UsageError::Size(_) | UsageError::Memory => false,
+        }
+    }
+}
+
+impl fmt::Display for UsageError<'_> {
+    fn fmt<W: fmt::Write>(&self, f: &mut fmt::Formatter<W>) -> fmt::Result {
+        match self {
+            UsageError::Words(error) => write!(f, "{error}"),
+            UsageError::Size(value) => {
+                writeln!(
+                    f,
+                    "error: --size {value}: a width and a height are wanted, as 480x480"
+                )
+            }
+            UsageError::Memory => writeln!(f, "segyolant: out of memory"),
+        }
+    }
+}
+
+impl From<Error> for UsageError<'_> {
+    fn from(error: Error) -> Self {
+        match error.kind() {
+            ErrorKind::OutOfMemory => UsageError::Memory,
+            _ => UsageError::Words(error),
+        }
+    }
+}
+
+impl From<AllocError> for UsageError<'_> {
+    fn from(_error: AllocError) -> Self {
+        UsageError::Memory
+    }
+}
+
+impl<'a> Options<'a> {
+    /// Reads the words, of which the first is the program's name.
+    pub fn parse<S: AsStr>(alloc: Global, words: &'a [S]) -> Result<Options<'a>, UsageError<'a>> {
+        let matches = command(alloc)?.try_get_matches_from(words)?;
+        match matches.subcommand() {
+            Some(("needs", matches)) => Ok(Options::Needs(needs_options(alloc, matches)?)),
+            Some(("diff", matches)) => Ok(Options::Diff(diff_options(alloc, matches)?)),
+            Some((_, matches)) => Ok(Options::Check(check_options(alloc, matches)?)),
+            // The command requires a subcommand.
+            None => Err(UsageError::Memory),
+        }
+    }
+}
+
+fn check_options<'a>(
+    alloc: Global,
+    matches: &ArgMatches<'a>,
+) -> Result<CheckOptions<'a>, AllocError> {
+    let format = match matches.get_str("format") {
+        Some("json") => Format::Json,
+        Some("github") => Format::Github,
+        _ => Format::Text,
+    };
+    Ok(CheckOptions {
+        pools: all_of(alloc, matches, "POOL")?,
+        names: all_of(alloc, matches, "names")?,
+        format,
+        most: matches.get_one::<u32>("most"),
+        denies_warnings: matches.contains_id("deny"),
+    })
+}
+
+fn needs_options<'a>(
+    alloc: Global,
+    matches: &ArgMatches<'a>,
+) -> Result<NeedsOptions<'a>, UsageError<'a>> {
+    let mask = match matches.get_str("size") {
+        None => TERMINAL_SIZES.mask,
+        Some(value) => match area(value) {
+            Some(area) => area,
+            None => return Err(UsageError::Size(value)),
+        },
+    };
+    let keys = matches.get_one::<u8>("keys").unwrap_or(TERMINAL_SIZES.keys);
+    Ok(NeedsOptions {
+        pool: matches.get_str("POOL").unwrap_or(""),
+        names: all_of(alloc, matches, "names")?,
+        sizes: Sizes {
+            mask,
+            keys,
+            ..TERMINAL_SIZES
+        },
+    })
+}
+
+/// The area of a text such as `480x480`.
+fn area(text: &str) -> Option<Area> {
+    let (width, height) = text.split_once('x')?;
+    let width = width.parse::<u16>().ok()?;
+    let height = height.parse::<u16>().ok()?;
+    Some(Area { width, height })
+}
+
+fn diff_options<'a>(
+    alloc: Global,
+    matches: &ArgMatches<'a>,
+) -> Result<DiffOptions<'a>, AllocError> {
+    Ok(DiffOptions {
+        old: matches.get_str("OLD").unwrap_or(""),
+        new: matches.get_str("NEW").unwrap_or(""),
+        names: all_of(alloc, matches, "names")?,
+    })
+}
+
+/// The values of an option, in their order.
+fn all_of<'a>(
+    alloc: Global,
+    matches: &ArgMatches<'a>,
+    option: &str,
+) -> Result<Vec<&'a str>, AllocError> {
+    match matches.get_strs(option) {
+        Some(values) => Vec::from_slice(alloc, values),
+        None => Ok(Vec::new(alloc)),
+    }
+}

@@ -1,0 +1,139 @@
+//! The command line of the program, for `clap`.
+
+use clap::{Arg, ArgAction, Command, value_parser};
+use std::alloc::{AllocError, Global};
+
+/// The text of help after the subcommands.
+const AFTER_HELP: &str = "\
+Status: 0 nothing found, 1 something found, 2 not judged (words, file, memory)
+
+  segyolant check my.iop                                every fault, and warnings
+  segyolant check my.iop --names my.h --format github   the same, by names, for a workflow
+  segyolant check *.iop --format json --most 100        at most 100 lines of JSON a pool
+  segyolant needs my.iop --size 240x240 --keys 6        whether the pool fits a terminal
+  segyolant diff old.iop new.iop                        what is removed, changed and added
+
+docs/POOLS.md has the codes.";
+
+/// The text of help after the options of `check`.
+const AFTER_CHECK: &str = "\
+A line for each finding, FILE:OFFSET: SEVERITY[CODE NAME] SENTENCE:
+
+  my.iop:598: error[R03 Missing] Output Number 341 `tank_value`: font names object 104, which is not there
+
+  segyolant check my.iop --deny warnings
+  cat my.iop | segyolant check -";
+
+/// The command line.
+pub(crate) fn command<'a>(alloc: Global) -> Result<Command<'a>, AllocError> {
+    Command::new(alloc, "segyolant")
+        .version("0.1.0")
+        .about(
+            "Checks object pools for makers of ISOBUS implements: every fault at once, with its place and its cause",
+        )
+        .after_help(AFTER_HELP)
+        .subcommand_required(true)
+        .arg_required_else_help(true)
+        .subcommand(check(alloc)?)?
+        .subcommand(needs(alloc)?)?
+        .subcommand(diff(alloc)?)
+}
+
+fn check<'a>(alloc: Global) -> Result<Command<'a>, AllocError> {
+    Command::new(alloc, "check")
+        .about("Prints every fault of object pools, and warnings")
+        .after_help(AFTER_CHECK)
+        .arg(
+            Arg::new(alloc, "POOL")
+                .help("The files of the pools; - is the standard input")
+                .action(ArgAction::Append)
+                .num_args(1..)
+                .required(true),
+        )?
+        .arg(names(alloc))?
+        .arg(
+            Arg::new(alloc, "format")
+                .long("format")
+                .value_name("FORMAT")
+                .help(
+                    "Lines for people, lines of JSON, or a GitHub workflow's commands [default: text]",
+                )
+                .action(ArgAction::Set)
+                .value_parser(FORMATS),
+        )?
+        .arg(
+            Arg::new(alloc, "most")
+                .long("most")
+                .value_name("N")
+                .help("Print at most N lines a pool; the counts stay whole")
+                .action(ArgAction::Set)
+                .value_parser(value_parser!(u32)),
+        )?
+        .arg(
+            Arg::new(alloc, "deny")
+                .long("deny")
+                .value_name("WHAT")
+                .help("End with status 1 at a warning too")
+                .action(ArgAction::Set)
+                .value_parser(DENIED),
+        )
+}
+
+fn needs<'a>(alloc: Global) -> Result<Command<'a>, AllocError> {
+    Command::new(alloc, "needs")
+        .about("Prints what an object pool needs of a terminal, and whether a terminal has it")
+        .arg(
+            Arg::new(alloc, "POOL")
+                .help("The file of the pool; - is the standard input")
+                .action(ArgAction::Set)
+                .required(true),
+        )?
+        .arg(names(alloc))?
+        .arg(
+            Arg::new(alloc, "size")
+                .long("size")
+                .value_name("WxH")
+                .help("The terminal's area of a mask, in pixels [default: 480x480]")
+                .action(ArgAction::Set),
+        )?
+        .arg(
+            Arg::new(alloc, "keys")
+                .long("keys")
+                .value_name("N")
+                .help("The terminal's soft keys [default: 64]")
+                .action(ArgAction::Set)
+                .value_parser(value_parser!(u8)),
+        )
+}
+
+fn diff<'a>(alloc: Global) -> Result<Command<'a>, AllocError> {
+    Command::new(alloc, "diff")
+        .about("Compares two object pools by the IDs of their objects")
+        .arg(
+            Arg::new(alloc, "OLD")
+                .help("The file of the old pool")
+                .action(ArgAction::Set)
+                .required(true),
+        )?
+        .arg(
+            Arg::new(alloc, "NEW")
+                .help("The file of the new pool")
+                .action(ArgAction::Set)
+                .required(true),
+        )?
+        .arg(names(alloc))
+}
+
+/// The formats of output.
+const FORMATS: &[&str] = &["text", "json", "github"];
+
+/// What may be denied.
+const DENIED: &[&str] = &["warnings"];
+
+fn names<'a>(alloc: Global) -> Arg<'a> {
+    Arg::new(alloc, "names")
+        .long("names")
+        .value_name("FILE")
+        .help("A file of names: lines ID,NAME or #define NAME ID; may be given again")
+        .action(ArgAction::Append)
+}

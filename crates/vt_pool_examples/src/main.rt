@@ -1,0 +1,110 @@
+//! Runs `segyolant` on the example pools and on the file `stdin`, and prints its output, its messages and its status. The gate compares
+//! this with the file `stdout`.
+#![tactic(auto)]
+
+use std::io::{self, BufWriter, Write};
+use vt_inspector::{Files, run};
+
+/// The words of each run, the program's name first.
+const RUNS: [&[&str]; 19] = [
+    &["segyolant", "check", "sprayer.iop", "--names", "sprayer.h"],
+    &[
+        "segyolant",
+        "check",
+        "sprayer.iop",
+        "--deny",
+        "warnings",
+        "--most",
+        "0",
+    ],
+    &[
+        "segyolant",
+        "check",
+        "fault-1-truncated.iop",
+        "fault-2-unknown-type.iop",
+        "fault-3-left-out-type.iop",
+        "fault-4-scale.iop",
+        "fault-5-decimals.iop",
+        "fault-7-null-id.iop",
+    ],
+    &[
+        "segyolant",
+        "check",
+        "refusal-01-no-working-set.iop",
+        "refusal-02-two-working-sets.iop",
+        "refusal-03-missing.iop",
+        "refusal-04-wrong-kind.iop",
+        "refusal-05-too-deep.iop",
+        "refusal-06-macro-bytes.iop",
+        "refusal-07-macro-command.iop",
+        "refusal-08-macro-missing.iop",
+        "refusal-09-macro-kind.iop",
+        "refusal-10-macro-value.iop",
+        "refusal-11-macro-circle.iop",
+        "refusal-12-over-budget.iop",
+    ],
+    &[
+        "segyolant",
+        "check",
+        "refusal-03-missing.iop",
+        "--format",
+        "json",
+    ],
+    &[
+        "segyolant",
+        "check",
+        "sprayer.iop",
+        "--format",
+        "json",
+        "--names",
+        "sprayer.h",
+    ],
+    &[
+        "segyolant",
+        "check",
+        "refusal-11-macro-circle.iop",
+        "--format",
+        "github",
+    ],
+    &["segyolant", "check", "-"],
+    &["segyolant", "check", "missing.iop", "pool.iop"],
+    &["segyolant", "needs", "sprayer.iop", "--names", "sprayer.h"],
+    &[
+        "segyolant",
+        "needs",
+        "sprayer.iop",
+        "--size",
+        "240x240",
+        "--keys",
+        "2",
+    ],
+    &["segyolant", "needs", "refusal-11-macro-circle.iop"],
+    &["segyolant", "needs", "sprayer.iop", "--size", "240"],
+    &["segyolant", "diff", "pool.iop", "pool.iop"],
+    &["segyolant", "diff", "pool.iop", "refusal-03-missing.iop"],
+    &["segyolant", "diff", "pool.iop", "fault-1-truncated.iop"],
+    &["segyolant"],
+    &["segyolant", "check", "--format", "xml", "pool.iop"],
+    &["segyolant", "--help"],
+];
+
+fn main(rt: HostRuntime) -> io::Result<()> {
+    let mut out = BufWriter::new(rt.alloc(), io::writer(&rt))?;
+    for words in &RUNS {
+        run_words(&rt, words, &mut out)?;
+    }
+    out.flush()
+}
+
+/// Prints a run as a command line shows it: its words, its output, its messages and its status.
+fn run_words<W: Write>(rt: &HostRuntime, words: &[&str], out: &mut W) -> io::Result<()> {
+    let mut messages = Vec::new(rt.alloc());
+    write!(out, "$")?;
+    for word in words {
+        write!(out, " {word}")?;
+    }
+    writeln!(out)?;
+    let status = run(rt.alloc(), words, &mut Files::new(rt), out, &mut messages)?;
+    out.write_all(&messages)?;
+    writeln!(out, "status {}", status.code())
+}
