@@ -19,12 +19,12 @@ AreOnce ids = (a b id : ℕ) → IsIdAt ids a id → IsIdAt ids b id → a ≡ b
 -- ---- depths prove that no chain is too long
 
 shorter_chain : (ids : List ℕ) (included : ℕ → List ℕ) (most : ℕ) (depths : List ℕ) → AreDepths ids included most depths
-    → (a place : ℕ) (rest : List ℕ) → IsIdAt ids place a → IsChain included (a ∷ rest) → length rest ≤ slice_index depths place
-shorter_chain ids included most depths are a place [] there chain = omega arith
-shorter_chain ids included most depths are a place (b ∷ rest) there chain =
-    let lower = (are.depth place a there).above b chain.0 in
+    → (a index : ℕ) (rest : List ℕ) → IsIdAt ids index a → IsChain included (a ∷ rest) → length rest ≤ slice_index depths index
+shorter_chain ids included most depths are a index [] there chain = omega arith
+shorter_chain ids included most depths are a index (b ∷ rest) there chain =
+    let lower = (are.depth index a there).above b chain.0 in
     let less = lower.less in
-    let rest_fits = shorter_chain ids included most depths are b lower.place rest lower.there chain.1 in
+    let rest_fits = shorter_chain ids included most depths are b lower.index rest lower.there chain.1 in
     omega arith
 
 pub show_shallow : (ids : List ℕ) (included : ℕ → List ℕ) (most : ℕ) (depths : List ℕ) → IsSourced ids included → AreDepths ids included most depths
@@ -39,17 +39,17 @@ show_shallow ids included most depths sourced are (a ∷ b ∷ rest) chain =
 
 -- ---- found depths stay
 
-kept : (old new : List ℕ) (place depth : ℕ) → KeepsDepths old new → slice_index old place ≡ depth → depth < unset → slice_index new place ≡ depth
-kept old new place depth keeps is lt = keeps place (λ e. absurd (omega (arith, e, is, lt))) ∙ is
+kept : (old new : List ℕ) (index depth : ℕ) → KeepsDepths old new → slice_index old index ≡ depth → depth < unset → slice_index new index ≡ depth
+kept old new index depth keeps is lt = keeps index (λ e. absurd (omega (arith, e, is, lt))) ∙ is
 
 pub still_at : (ids old new : List ℕ) (id depth : ℕ) → KeepsDepths old new → depth < unset → IsAtDepth ids old id depth → IsAtDepth ids new id depth
-still_at ids old new id depth keeps lt at = record { place = at.place; there = at.there; is = kept old new at.place depth keeps at.is lt }
+still_at ids old new id depth keeps lt at = record { index = at.index; there = at.there; is = kept old new at.index depth keeps at.is lt }
 
 pub still_below : (ids old new : List ℕ) (id most more : ℕ) → KeepsDepths old new → most ≤ unset → most ≤ more → IsBelow ids old id most → IsBelow ids new id more
 still_below ids old new id most more keeps le greater lower =
     let less = lower.less in
-    let same = kept old new lower.place (slice_index old lower.place) keeps refl (omega arith) in
-    record { place = lower.place; there = lower.there; less = omega (arith, same) }
+    let same = kept old new lower.index (slice_index old lower.index) keeps refl (omega arith) in
+    record { index = lower.index; there = lower.there; less = omega (arith, same) }
 
 still_depth : (ids : List ℕ) (included : ℕ → List ℕ) (old new : List ℕ) (id depth : ℕ) → KeepsDepths old new → depth ≤ unset → IsDepth ids included old id depth
     → IsDepth ids included new id depth
@@ -59,7 +59,7 @@ still_depth ids included old new id depth keeps le is = record {
 }
 
 pub KeepsDepths-trans : (a b c : List ℕ) → KeepsDepths a b → KeepsDepths b c → KeepsDepths a c
-KeepsDepths-trans a b c first second place found = second place (λ e. found (sym (first place found) ∙ e)) ∙ first place found
+KeepsDepths-trans a b c first second index found = second index (λ e. found (sym (first index found) ∙ e)) ∙ first index found
 
 -- ---- the depth of an ID is unique
 
@@ -72,7 +72,7 @@ module _ (ids : List ℕ) (included : ℕ → List ℕ) (depths : List ℕ) (onc
       let lt = high.less in
       let at = low.2 in
       let is = at.is in
-      let same = once at.place high.place low.0 at.there high.there in
+      let same = once at.index high.index low.0 at.there high.there in
       let alike = ap (slice_index depths) same in
       omega (arith, alike)
 
@@ -85,41 +85,41 @@ module _ (ids : List ℕ) (included : ℕ → List ℕ) (depths : List ℕ) (onc
 -- ---- one more depth
 
 module _ (ids : List ℕ) (included : ℕ → List ℕ) (depths : List ℕ) (once : AreOnce ids) (found : AreDepthsSoFar ids included depths)
-    (place id depth : ℕ) (there : IsIdAt ids place id) (low : depth < unset) (is : IsDepth ids included depths id depth) where
+    (index id depth : ℕ) (there : IsIdAt ids index id) (low : depth < unset) (is : IsDepth ids included depths id depth) where
   abbrev after : List ℕ
-  after = set depths place depth
+  after = set depths index depth
 
-  inside : place < length depths
+  inside : index < length depths
   inside =
-      let lt = within ids place id there in
+      let lt = within ids index id there in
       let each = found.each in
       omega arith
 
-  index_here : slice_index after place ≡ depth
-  index_here = get_or-set_same depths place depth 0 inside
+  index_here : slice_index after index ≡ depth
+  index_here = get_or-set_same depths index depth 0 inside
 
-  index_there : (other : ℕ) → other ≢ place → slice_index after other ≡ slice_index depths other
-  index_there other apart = get_or-set_other depths place other depth 0 apart
+  index_there : (other : ℕ) → other ≢ index → slice_index after other ≡ slice_index depths other
+  index_there other apart = get_or-set_other depths index other depth 0 apart
 
   pub put_keeps : KeepsDepths depths after
-  put_keeps other settled = elim (cases_eq other place) [
+  put_keeps other settled = elim (cases_eq other index) [
     | inl same ↦
         let at = subst (λ (k : ℕ). slice_index depths k ≢ unset) same settled in
-        let one = same_depth ids included depths once id (slice_index depths place) depth (found.found place id there at) is in
+        let one = same_depth ids included depths once id (slice_index depths index) depth (found.found index id there at) is in
         ap (slice_index after) same ∙ index_here ∙ sym one ∙ sym (ap (slice_index depths) same)
     | inr apart ↦ index_there other apart
   ]
 
   put_within : (other : ℕ) → slice_index after other ≤ unset
-  put_within other = elim (cases_eq other place) [
+  put_within other = elim (cases_eq other index) [
     | inl same ↦ let here = ap (slice_index after) same ∙ index_here in omega (arith, here)
     | inr apart ↦ let stays = index_there other apart in let le = found.within other in omega (arith, stays)
   ]
 
   put_found : (at other : ℕ) → IsIdAt ids at other → slice_index after at ≢ unset → IsDepth ids included after other (slice_index after at)
-  put_found at other stands settled = elim (cases_eq at place) [
+  put_found at other stands settled = elim (cases_eq at index) [
     | inl same ↦
-        let one : id ≡ other = same_id ids place id other there (subst (λ (k : ℕ). IsIdAt ids k other) same stands) in
+        let one : id ≡ other = same_id ids index id other there (subst (λ (k : ℕ). IsIdAt ids k other) same stands) in
         let here = ap (slice_index after) same ∙ index_here in
         subst (IsDepth ids included after other) (sym here)
         (subst (λ (k : ℕ). IsDepth ids included after k depth) one (still_depth ids included depths after id depth put_keeps (omega arith) is))
@@ -131,7 +131,7 @@ module _ (ids : List ℕ) (included : ℕ → List ℕ) (depths : List ℕ) (onc
   ]
 
   pub put_depth : AreDepthsSoFar ids included after
-  put_depth = record { each = length-set depths place depth ∙ found.each; within = put_within; found = put_found }
+  put_depth = record { each = length-set depths index depth ∙ found.each; within = put_within; found = put_found }
 
 -- ---- the loop over the slots of an object
 
@@ -148,7 +148,7 @@ pub search_begins : (ids : List ℕ) (included : ℕ → List ℕ) (depths : Lis
 search_begins ids included depths id most slots found are = record {
   among = λ other h. subst (λ (l : List ℕ). Contains l other) (sym are) h;
   found = found;
-  keeps = λ place settled. refl;
+  keeps = λ index settled. refl;
   done = λ other h. inr (subst (λ (l : List ℕ). Contains l other) are h);
   reached = λ less e. absurd (omega (arith, e));
   within = omega arith;
@@ -188,7 +188,7 @@ search_goes_on ids included first now next id deepest most slot left depth high 
       done = λ other h. elim (search.done other h) as (λ _. IsBelow ids next other (max deepest (depth + 1)) ⊎ Contains (included_in left) other) [
         | inl lower ↦ inl (still_below ids now next other deepest (max deepest (depth + 1)) keeps (omega arith) (omega arith) lower)
         | inr there ↦ slot_case (IsBelow ids next other (max deepest (depth + 1)) ⊎ Contains (included_in left) other) slot left other there
-            (λ one same. inl (subst (λ (k : ℕ). IsBelow ids next k (max deepest (depth + 1))) same (record { place = at.place; there = at.there; less = omega (arith, is_at) })))
+            (λ one same. inl (subst (λ (k : ℕ). IsBelow ids next k (max deepest (depth + 1))) same (record { index = at.index; there = at.there; less = omega (arith, is_at) })))
             (λ later. inr later)
       ];
       reached = max_case (λ (n : ℕ). (less : ℕ) → n ≡ suc less → (other : ℕ) × Contains (included id) other × IsAtDepth ids next other less) deepest (depth + 1)
@@ -236,44 +236,44 @@ chain_push included (x ∷ y ∷ xs) a b chain h = (chain.0, chain_push included
 
 -- an ID is at no index with less than this depth
 abbrev pub IsDeep : List ℕ → List ℕ → ℕ → ℕ → Type 0
-IsDeep ids depths id depth = (place : ℕ) → IsIdAt ids place id → depth ≤ slice_index depths place
+IsDeep ids depths id depth = (index : ℕ) → IsIdAt ids index id → depth ≤ slice_index depths index
 
-pub deep_next : (ids : List ℕ) (included : ℕ → List ℕ) (depths : List ℕ) → AreOnce ids → AreDepthsSoFar ids included depths → (place id depth : ℕ) → IsIdAt ids place id
-    → slice_index depths place ≢ unset → depth < slice_index depths place → (other : ℕ) × Contains (included id) other × IsDeep ids depths other depth
-deep_next ids included depths once found place id depth there settled deep = from (slice_index depths place) refl (found.found place id there settled)
+pub deep_next : (ids : List ℕ) (included : ℕ → List ℕ) (depths : List ℕ) → AreOnce ids → AreDepthsSoFar ids included depths → (index id depth : ℕ) → IsIdAt ids index id
+    → slice_index depths index ≢ unset → depth < slice_index depths index → (other : ℕ) × Contains (included id) other × IsDeep ids depths other depth
+deep_next ids included depths once found index id depth there settled deep = from (slice_index depths index) refl (found.found index id there settled)
   where
-    from : (d : ℕ) → slice_index depths place ≡ d → IsDepth ids included depths id d → (other : ℕ) × Contains (included id) other × IsDeep ids depths other depth
+    from : (d : ℕ) → slice_index depths index ≡ d → IsDepth ids included depths id d → (other : ℕ) × Contains (included id) other × IsDeep ids depths other depth
     from zero e is = absurd (omega (arith, e))
     from (suc less) e is =
         let one = is.reached less refl in
-        (one.0, one.1, λ at stands. let same = ap (slice_index depths) (once at one.2.place one.0 stands one.2.there) in let here = one.2.is in omega (arith, e, same))
+        (one.0, one.1, λ at stands. let same = ap (slice_index depths) (once at one.2.index one.0 stands one.2.there) in let here = one.2.is in omega (arith, e, same))
 
 -- an object included by one with a found depth has a found depth too
-pub next_is_found : (ids : List ℕ) (included : ℕ → List ℕ) (depths : List ℕ) → AreOnce ids → AreDepthsSoFar ids included depths → (place id other at : ℕ) → IsIdAt ids place id
-    → slice_index depths place ≢ unset → Contains (included id) other → IsIdAt ids at other → slice_index depths at ≢ unset
-next_is_found ids included depths once found place id other at there settled h stands e =
-    let lower = (found.found place id there settled).above other h in
+pub next_is_found : (ids : List ℕ) (included : ℕ → List ℕ) (depths : List ℕ) → AreOnce ids → AreDepthsSoFar ids included depths → (index id other at : ℕ) → IsIdAt ids index id
+    → slice_index depths index ≢ unset → Contains (included id) other → IsIdAt ids at other → slice_index depths at ≢ unset
+next_is_found ids included depths once found index id other at there settled h stands e =
+    let lower = (found.found index id there settled).above other h in
     let less = lower.less in
-    let le = found.within place in
-    let same = ap (slice_index depths) (once at lower.place other stands lower.there) in
+    let le = found.within index in
+    let same = ap (slice_index depths) (once at lower.index other stands lower.there) in
     absurd (omega (arith, e, same))
 
 -- ---- a chain that grows
 
-pub record IsGrowing (ids : List ℕ) (included : ℕ → List ℕ) (depths : List ℕ) (first place step count : ℕ) (chain : List ℕ) : Type 0 where
+pub record IsGrowing (ids : List ℕ) (included : ℕ → List ℕ) (depths : List ℕ) (first index step count : ℕ) (chain : List ℕ) : Type 0 where
   pub is : IsChain included chain
   pub head : (id : ℕ) → IsIdAt ids first id → slice_get chain 0 ≡ Some id
-  pub last : (front : List ℕ) × (id : ℕ) × (chain ≡ front ++ id ∷ []) × IsIdAt ids place id
+  pub last : (front : List ℕ) × (id : ℕ) × (chain ≡ front ++ id ∷ []) × IsIdAt ids index id
   pub long : length chain ≡ step + 1
-  pub inside : place < length depths
-  pub settled : slice_index depths place ≢ unset
-  pub deep : count ≤ slice_index depths place + step
+  pub inside : index < length depths
+  pub settled : slice_index depths index ≢ unset
+  pub deep : count ≤ slice_index depths index + step
 
-pub growing_begins : (ids : List ℕ) (included : ℕ → List ℕ) (depths : List ℕ) (place count id : ℕ) → place < length depths → slice_index depths place ≢ unset
-    → count ≤ slice_index depths place → IsIdAt ids place id → IsGrowing ids included depths place place 0 count (id ∷ [])
-growing_begins ids included depths place count id inside settled deep stands = record {
+pub growing_begins : (ids : List ℕ) (included : ℕ → List ℕ) (depths : List ℕ) (index count id : ℕ) → index < length depths → slice_index depths index ≢ unset
+    → count ≤ slice_index depths index → IsIdAt ids index id → IsGrowing ids included depths index index 0 count (id ∷ [])
+growing_begins ids included depths index count id inside settled deep stands = record {
   is = tt;
-  head = λ other at. ap Some (same_id ids place id other stands at);
+  head = λ other at. ap Some (same_id ids index id other stands at);
   last = ([], id, refl, stands);
   long = refl;
   inside = inside;
@@ -285,11 +285,11 @@ head_stays : (xs : List ℕ) (y id : ℕ) → slice_get xs 0 ≡ Some id → sli
 head_stays [] y id is = absurd cc
 head_stays (x ∷ xs) y id is = is
 
-pub growing_more : (ids : List ℕ) (included : ℕ → List ℕ) (depths : List ℕ) (first place next step count id : ℕ) (chain : List ℕ) → step < count
-    → ((id : ℕ) → IsIdAt ids place id → (other : ℕ) × Contains (included id) other × IsIdAt ids next other) → count ≤ (slice_index depths next + step) + 1
+pub growing_more : (ids : List ℕ) (included : ℕ → List ℕ) (depths : List ℕ) (first index next step count id : ℕ) (chain : List ℕ) → step < count
+    → ((id : ℕ) → IsIdAt ids index id → (other : ℕ) × Contains (included id) other × IsIdAt ids next other) → count ≤ (slice_index depths next + step) + 1
     → next < length depths → slice_index depths next ≢ unset → IsIdAt ids next id
-    → IsGrowing ids included depths first place step count chain → IsGrowing ids included depths first next (step + 1) count (chain ++ id ∷ [])
-growing_more ids included depths first place next step count id chain lt goes deep inside settled stands grows =
+    → IsGrowing ids included depths first index step count chain → IsGrowing ids included depths first next (step + 1) count (chain ++ id ∷ [])
+growing_more ids included depths first index next step count id chain lt goes deep inside settled stands grows =
     let last = grows.last in
     let one = goes last.1 last.3 in
     let same = same_id ids next one.0 id one.2 stands in
@@ -306,9 +306,9 @@ growing_more ids included depths first place next step count id chain lt goes de
       deep = omega arith;
     }
 
-pub growing_ends : (ids : List ℕ) (included : ℕ → List ℕ) (depths : List ℕ) (first place step count : ℕ) (chain : List ℕ) → step ≡ count
-    → IsGrowing ids included depths first place step count chain → (id : ℕ) → IsIdAt ids first id → BeginsChain included id count chain
-growing_ends ids included depths first place step count chain end grows id stands = record {
+pub growing_ends : (ids : List ℕ) (included : ℕ → List ℕ) (depths : List ℕ) (first index step count : ℕ) (chain : List ℕ) → step ≡ count
+    → IsGrowing ids included depths first index step count chain → (id : ℕ) → IsIdAt ids first id → BeginsChain included id count chain
+growing_ends ids included depths first index step count chain end grows id stands = record {
   is = grows.is;
   first = grows.head id stands;
   long = grows.long ∙ ap (λ (n : ℕ). n + 1) end;
@@ -316,30 +316,30 @@ growing_ends ids included depths first place step count chain end grows id stand
 
 -- ---- the start and the end of the search
 
-pub none_found : (ids : List ℕ) (included : ℕ → List ℕ) (depths : List ℕ) → length depths ≡ length ids → ((place : ℕ) → place < length depths → slice_index depths place ≡ unset)
+pub none_found : (ids : List ℕ) (included : ℕ → List ℕ) (depths : List ℕ) → length depths ≡ length ids → ((index : ℕ) → index < length depths → slice_index depths index ≡ unset)
     → AreDepthsSoFar ids included depths
 none_found ids included depths each are = record {
   each = each;
-  within = λ place. elim (cases_lt place (length depths)) [
-    | inl lt ↦ let is = are place lt in omega (arith, is)
-    | inr ge ↦ let past = get_or_past depths place 0 ge in omega (arith, past)
+  within = λ index. elim (cases_lt index (length depths)) [
+    | inl lt ↦ let is = are index lt in omega (arith, is)
+    | inr ge ↦ let past = get_or_past depths index 0 ge in omega (arith, past)
   ];
-  found = λ place id stands settled. let lt = within ids place id stands in absurd (settled (are place (omega (arith, lt, each))));
+  found = λ index id stands settled. let lt = within ids index id stands in absurd (settled (are index (omega (arith, lt, each))));
 }
 
 pub all_found : (ids : List ℕ) (included : ℕ → List ℕ) (depths : List ℕ) (most : ℕ) → most < unset → AreDepthsSoFar ids included depths
-    → ((place : ℕ) → place < length depths → slice_index depths place ≤ most) → AreDepths ids included most depths
+    → ((index : ℕ) → index < length depths → slice_index depths index ≤ most) → AreDepths ids included most depths
 all_found ids included depths most lt found settled = record {
   each = found.each;
-  within = λ place. elim (cases_lt place (length depths)) [
-    | inl inside ↦ settled place inside
-    | inr ge ↦ let past = get_or_past depths place 0 ge in omega (arith, past)
+  within = λ index. elim (cases_lt index (length depths)) [
+    | inl inside ↦ settled index inside
+    | inr ge ↦ let past = get_or_past depths index 0 ge in omega (arith, past)
   ];
-  depth = λ place id stands.
-      let inside = within ids place id stands in
+  depth = λ index id stands.
+      let inside = within ids index id stands in
       let each = found.each in
-      let le = settled place (omega (arith, inside, each)) in
-      found.found place id stands (λ e. absurd (omega (arith, e, le)));
+      let le = settled index (omega (arith, inside, each)) in
+      found.found index id stands (λ e. absurd (omega (arith, e, le)));
 }
 
 pub too_deep : (ids : List ℕ) (included : ℕ → List ℕ) (most id : ℕ) (chain : List ℕ) → BeginsChain included id (most + 1) chain → IsTooDeep most included chain

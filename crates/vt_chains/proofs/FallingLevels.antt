@@ -12,12 +12,12 @@ use Rattle.vt_chains.specs.declared.levels.Levels.{Levels}
 use Rattle.vt_chains.specs.Certificates.{IsCertificate, IsCertificateBut, AreLevels, AreLevelsBut}
 
 shorter_chain : (ids : List ℕ) (included : ℕ → List ℕ) (levels : List ℕ) → IsCertificate ids included levels
-    → (a place : ℕ) (rest : List ℕ) → IsIdAt ids place a → IsChain included (a ∷ rest) → length rest ≤ slice_index levels place
-shorter_chain ids included levels is a place [] there chain = omega arith
-shorter_chain ids included levels is a place (b ∷ rest) there chain =
-    let lower = is.falls place a there b chain.0 in
+    → (a index : ℕ) (rest : List ℕ) → IsIdAt ids index a → IsChain included (a ∷ rest) → length rest ≤ slice_index levels index
+shorter_chain ids included levels is a index [] there chain = omega arith
+shorter_chain ids included levels is a index (b ∷ rest) there chain =
+    let lower = is.falls index a there b chain.0 in
     let less = lower.less in
-    let rest_fits = shorter_chain ids included levels is b lower.place rest lower.there chain.1 in
+    let rest_fits = shorter_chain ids included levels is b lower.index rest lower.there chain.1 in
     omega arith
 
 pub certified_shallow : (ids : List ℕ) (included : ℕ → List ℕ) (levels : List ℕ) → IsSourced ids included → IsCertificate ids included levels
@@ -39,20 +39,20 @@ never_shallow included most chain deep shallow = omega (arith, shallow chain dee
 
 pub depths_fall : (ids : List ℕ) (included : ℕ → List ℕ) (levels : List ℕ) → AreDepths ids included terminal.inclusions levels → IsCertificate ids included levels
 depths_fall ids included levels are =
-    record { each = are.each; within = are.within; falls = λ place id there other h. (are.depth place id there).above other h }
+    record { each = are.each; within = are.within; falls = λ index id there other h. (are.depth index id there).above other h }
 
 -- a certificate except for one inclusion that also falls is a certificate
 pub one_more : (ids : List ℕ) (included : ℕ → List ℕ) (levels : List ℕ) (from to : ℕ) → IsCertificateBut ids included levels from to
-    → ((place : ℕ) → IsIdAt ids place from → Contains (included from) to → IsBelow ids levels to (slice_index levels place)) → IsCertificate ids included levels
+    → ((index : ℕ) → IsIdAt ids index from → Contains (included from) to → IsBelow ids levels to (slice_index levels index)) → IsCertificate ids included levels
 one_more ids included levels from to but falls = record { each = but.each; within = but.within; falls = all }
   where
-    all : (place id : ℕ) → IsIdAt ids place id → (other : ℕ) → Contains (included id) other → IsBelow ids levels other (slice_index levels place)
-    all place id there other h =
-        elim (but.falls place id there other h) as (λ _. IsBelow ids levels other (slice_index levels place)) [
+    all : (index id : ℕ) → IsIdAt ids index id → (other : ℕ) → Contains (included id) other → IsBelow ids levels other (slice_index levels index)
+    all index id there other h =
+        elim (but.falls index id there other h) as (λ _. IsBelow ids levels other (slice_index levels index)) [
           | inl lower ↦ lower
           | inr is ↦
-              subst (λ (k : ℕ). IsBelow ids levels k (slice_index levels place)) (sym is.1)
-              (falls place (subst (λ (k : ℕ). IsIdAt ids place k) is.0 there)
+              subst (λ (k : ℕ). IsBelow ids levels k (slice_index levels index)) (sym is.1)
+              (falls index (subst (λ (k : ℕ). IsIdAt ids index k) is.0 there)
               (subst (λ (k : ℕ). Contains (included k) to) is.0 (subst (λ (k : ℕ). Contains (included id) k) is.1 h)))
         ]
 
@@ -61,29 +61,29 @@ pub never_included : (m : ObjectMap) (from to : ℕ) → IsClosed (ids_of m) (in
 never_included m from to closed none h = let at = closed from to h in missing_nowhere m at.0 to at.1 none
 
 -- within its length, a list's element does not depend on the default
-same_or : (xs : List ℕ) (place d : ℕ) → place < length xs → slice_index_or xs place d ≡ slice_index xs place
-same_or [] place d lt = absurd (omega (arith, lt))
+same_or : (xs : List ℕ) (index d : ℕ) → index < length xs → slice_index_or xs index d ≡ slice_index xs index
+same_or [] index d lt = absurd (omega (arith, lt))
 same_or (x ∷ xs) zero d lt = refl
-same_or (x ∷ xs) (suc place) d lt = same_or xs place d (omega (arith, lt))
+same_or (x ∷ xs) (suc index) d lt = same_or xs index d (omega (arith, lt))
 
-pub place_within : (m : ObjectMap) (levels : List ℕ) (id place : ℕ) → length levels ≡ length (ids_of m) → IsPlace (finite.entries m) id place → place < length levels
-place_within m levels id place long at =
-    let lt = within (ids_of m) place id (stands_of (finite.entries m) place id at.object at.there) in
+pub index_within : (m : ObjectMap) (levels : List ℕ) (id index : ℕ) → length levels ≡ length (ids_of m) → IsPlace (finite.entries m) id index → index < length levels
+index_within m levels id index long at =
+    let lt = within (ids_of m) index id (stands_of (finite.entries m) index id at.object at.there) in
     omega (arith, lt, long)
 
-pub level_is : (m : ObjectMap) (levels : List ℕ) (id place level d : ℕ) → length levels ≡ length (ids_of m) → IsPlace (finite.entries m) id place
-    → level ≡ slice_index_or levels place d → level ≡ slice_index levels place
-level_is m levels id place level d long at is = is ∙ same_or levels place d (place_within m levels id place long at)
+pub level_is : (m : ObjectMap) (levels : List ℕ) (id index level d : ℕ) → length levels ≡ length (ids_of m) → IsPlace (finite.entries m) id index
+    → level ≡ slice_index_or levels index d → level ≡ slice_index levels index
+level_is m levels id index level d long at is = is ∙ same_or levels index d (index_within m levels id index long at)
 
 pub falling_there : (m : ObjectMap) (levels : Levels) (from to above below : ℕ) → AreLevelsBut m levels from to → IsPlace (finite.entries m) from above
     → IsPlace (finite.entries m) to below → slice_index levels.levels.items below < slice_index levels.levels.items above → AreLevels m levels
 falling_there m levels from to above below but one other less =
     record {
       certificate = one_more (ids_of m) (inclusions_of m) levels.levels.items from to but.certificate
-          (λ place there h.
-          let at : place ≡ above = once m place above from there (stands_of (finite.entries m) above from one.object one.there) in
+          (λ index there h.
+          let at : index ≡ above = once m index above from there (stands_of (finite.entries m) above from one.object one.there) in
           record {
-            place = below;
+            index = below;
             there = stands_of (finite.entries m) below to other.object other.there;
             less = subst (λ (p : ℕ). slice_index levels.levels.items below < slice_index levels.levels.items p) (sym at) less;
           });
@@ -94,7 +94,7 @@ pub falling_nowhere : (m : ObjectMap) (levels : Levels) (from to : ℕ) → AreL
 falling_nowhere m levels from to but none =
     record {
       certificate = one_more (ids_of m) (inclusions_of m) levels.levels.items from to but.certificate
-          (λ place there h. absurd (never_included m from to but.certificate.closed none h));
+          (λ index there h. absurd (never_included m from to but.certificate.closed none h));
       spare_length = but.spare_length;
     }
 
@@ -102,6 +102,6 @@ pub falling_from_nowhere : (m : ObjectMap) (levels : Levels) (from to : ℕ) →
 falling_from_nowhere m levels from to but none =
     record {
       certificate = one_more (ids_of m) (inclusions_of m) levels.levels.items from to but.certificate
-          (λ place there h. absurd (missing_nowhere m place from there none));
+          (λ index there h. absurd (missing_nowhere m index from there none));
       spare_length = but.spare_length;
     }

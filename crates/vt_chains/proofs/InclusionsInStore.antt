@@ -15,7 +15,7 @@ use Rattle.vt_chains.proofs.Elements.{Contains-nil, unsome, option_case}
 
 -- each ID with an inclusion is at an index
 abbrev pub IsSourced : List ℕ → (ℕ → List ℕ) → Type 0
-IsSourced ids included = (id other : ℕ) → Contains (included id) other → (place : ℕ) × IsIdAt ids place id
+IsSourced ids included = (id other : ℕ) → Contains (included id) other → (index : ℕ) × IsIdAt ids index id
 
 -- ---- an ID among the entries
 
@@ -35,10 +35,10 @@ entry_case P e objects id o is here later =
     (λ same is_o. here (is_equal id e.0 (three id e.0) (equal_by (nat_cmp id e.0) same)) is_o) later
 
 -- the ID of an object is at an index
-pub stands : (objects : Objects) (id : ℕ) (o : Seen) → object_at objects id ≡ Some o → (place : ℕ) × IsIdAt (ids objects) place id
+pub stands : (objects : Objects) (id : ℕ) (o : Seen) → object_at objects id ≡ Some o → (index : ℕ) × IsIdAt (ids objects) index id
 stands [] id o is = absurd cc
 stands (e ∷ objects) id o is =
-    entry_case ((place : ℕ) × IsIdAt (ids (e ∷ objects)) place id) e objects id o is
+    entry_case ((index : ℕ) × IsIdAt (ids (e ∷ objects)) index id) e objects id o is
     (λ same is_o. (0, ap Some (sym same)))
     (λ rest. let at = stands objects id o rest in (suc at.0, at.1))
 
@@ -49,11 +49,11 @@ object_of objects id next h =
     (λ none. absurd (Contains-nil next (subst (λ (o : Option Seen). Contains (included_by o) next) none h)))
     (λ o some. (o, some))
 
-pub place_of : (objects : Objects) (id next : ℕ) → Contains (included objects id) next → (place : ℕ) × IsIdAt (ids objects) place id
-place_of objects id next h = let o = object_of objects id next h in stands objects id o.0 o.1
+pub index_of : (objects : Objects) (id next : ℕ) → Contains (included objects id) next → (index : ℕ) × IsIdAt (ids objects) index id
+index_of objects id next h = let o = object_of objects id next h in stands objects id o.0 o.1
 
 pub sourced : (objects : Objects) → IsSourced (ids objects) (included objects)
-sourced objects id other h = place_of objects id other h
+sourced objects id other h = index_of objects id other h
 
 pub same_ids : (objects : Objects) → IsRising objects → ids_of (map_of objects) ≡ ids objects
 same_ids objects rising = ap ids (entries_from objects rising)

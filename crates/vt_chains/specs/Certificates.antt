@@ -10,15 +10,15 @@ use Rattle.vt_chains.specs.declared.levels.Levels.{Levels}
 -- Each included object exists at a lower level, and no level is above the limit of inclusions in a chain.
 pub record IsCertificate (ids : List ℕ) (included : ℕ → List ℕ) (levels : List ℕ) : Type 0 where
   pub each : length levels ≡ length ids
-  pub within : (place : ℕ) → slice_index levels place ≤ terminal.inclusions
-  pub falls : (place id : ℕ) → IsIdAt ids place id → (other : ℕ) → Contains (included id) other → IsBelow ids levels other (slice_index levels place)
+  pub within : (index : ℕ) → slice_index levels index ≤ terminal.inclusions
+  pub falls : (index id : ℕ) → IsIdAt ids index id → (other : ℕ) → Contains (included id) other → IsBelow ids levels other (slice_index levels index)
 
 -- a certificate except that the level may not fall with one inclusion
 pub record IsCertificateBut (ids : List ℕ) (included : ℕ → List ℕ) (levels : List ℕ) (from to : ℕ) : Type 0 where
   pub each : length levels ≡ length ids
-  pub within : (place : ℕ) → slice_index levels place ≤ terminal.inclusions
-  pub falls : (place id : ℕ) → IsIdAt ids place id → (other : ℕ) → Contains (included id) other
-      → IsBelow ids levels other (slice_index levels place) ⊎ ((id ≡ from) × (other ≡ to))
+  pub within : (index : ℕ) → slice_index levels index ≤ terminal.inclusions
+  pub falls : (index id : ℕ) → IsIdAt ids index id → (other : ℕ) → Contains (included id) other
+      → IsBelow ids levels other (slice_index levels index) ⊎ ((id ≡ from) × (other ≡ to))
   pub closed : IsClosed ids included
 
 -- a chain has more inclusions than the limit of this terminal

@@ -14,23 +14,23 @@ inclusions_of store = included (finite.entries store)
 
 -- an ID is at an index
 abbrev pub IsIdAt : List ℕ → ℕ → ℕ → Type 0
-IsIdAt ids place id = slice_get ids place ≡ Some id
+IsIdAt ids index id = slice_get ids index ≡ Some id
 
 -- an ID is at an index with this depth
 pub record IsAtDepth (ids depths : List ℕ) (id depth : ℕ) : Type 0 where
-  pub place : ℕ
-  pub there : IsIdAt ids place id
-  pub is : slice_index depths place ≡ depth
+  pub index : ℕ
+  pub there : IsIdAt ids index id
+  pub is : slice_index depths index ≡ depth
 
 -- an ID is at an index with less than this depth
 pub record IsBelow (ids depths : List ℕ) (id most : ℕ) : Type 0 where
-  pub place : ℕ
-  pub there : IsIdAt ids place id
-  pub less : slice_index depths place < most
+  pub index : ℕ
+  pub there : IsIdAt ids index id
+  pub less : slice_index depths index < most
 
 -- each included ID is at an index
 abbrev pub IsClosed : List ℕ → (ℕ → List ℕ) → Type 0
-IsClosed ids included = (id other : ℕ) → Contains (included id) other → (place : ℕ) × IsIdAt ids place other
+IsClosed ids included = (id other : ℕ) → Contains (included id) other → (index : ℕ) × IsIdAt ids index other
 
 -- the depth of an ID: one more than the greatest depth of its inclusions
 pub record IsDepth (ids : List ℕ) (included : ℕ → List ℕ) (depths : List ℕ) (id depth : ℕ) : Type 0 where
@@ -40,8 +40,8 @@ pub record IsDepth (ids : List ℕ) (included : ℕ → List ℕ) (depths : List
 -- the depths of all IDs, at most this
 pub record AreDepths (ids : List ℕ) (included : ℕ → List ℕ) (most : ℕ) (depths : List ℕ) : Type 0 where
   pub each : length depths ≡ length ids
-  pub within : (place : ℕ) → slice_index depths place ≤ most
-  pub depth : (place id : ℕ) → IsIdAt ids place id → IsDepth ids included depths id (slice_index depths place)
+  pub within : (index : ℕ) → slice_index depths index ≤ most
+  pub depth : (index id : ℕ) → IsIdAt ids index id → IsDepth ids included depths id (slice_index depths index)
 
 -- the depths of objects by rising ID, within the limit of inclusions in a chain
 abbrev pub HasDepths : Limits → Objects → List ℕ → Type 0
@@ -56,12 +56,12 @@ unset = 255
 -- the depths found so far
 pub record AreDepthsSoFar (ids : List ℕ) (included : ℕ → List ℕ) (depths : List ℕ) : Type 0 where
   pub each : length depths ≡ length ids
-  pub within : (place : ℕ) → slice_index depths place ≤ unset
-  pub found : (place id : ℕ) → IsIdAt ids place id → slice_index depths place ≢ unset → IsDepth ids included depths id (slice_index depths place)
+  pub within : (index : ℕ) → slice_index depths index ≤ unset
+  pub found : (index id : ℕ) → IsIdAt ids index id → slice_index depths index ≢ unset → IsDepth ids included depths id (slice_index depths index)
 
 -- found depths are unchanged
 abbrev pub KeepsDepths : List ℕ → List ℕ → Type 0
-KeepsDepths old new = (place : ℕ) → slice_index old place ≢ unset → slice_index new place ≡ slice_index old place
+KeepsDepths old new = (index : ℕ) → slice_index old index ≢ unset → slice_index new index ≡ slice_index old index
 
 -- a chain of `count` inclusions that begins with an ID
 pub record BeginsChain (included : ℕ → List ℕ) (id count : ℕ) (chain : List ℕ) : Type 0 where

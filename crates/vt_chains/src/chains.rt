@@ -29,53 +29,58 @@ pub fn find_depths<S: Store>(store: &S, depths: &mut [u8], most: u8) -> Result<(
     ensures err { IfErr result (λ chain. IsTooDeep most (inclusions_of (S.contents store.now)) chain.items) }
 {
     depths.fill(UNSET);
-    for place in 0..depths.len() {
-        settle(store, depths, place, most)?;
+    for index in 0..depths.len() {
+        depth_at(store, depths, index, most)?;
     }
     Ok(())
 }
 
 /// Finds the depth of the object at an index, or a chain of `most` + 1 inclusions that begins with it.
-#[cycle(settle)]
+#[cycle(depth)]
 #[inline(never)]
-fn settle<S: Store>(store: &S, depths: &mut [u8], place: usize, most: u8) -> Result<u8, Chain>
+fn depth_at<S: Store>(store: &S, depths: &mut [u8], index: usize, most: u8) -> Result<u8, Chain>
     requires found { AreDepthsSoFar (ids_of (S.contents store.now)) (inclusions_of (S.contents store.now)) depths.old }
     requires closed { IsClosed (ids_of (S.contents store.now)) (inclusions_of (S.contents store.now)) }
-    requires place { place < length depths.old }
+    requires index { index < length depths.old }
     requires most { most ≤ 32 }
     ensures found { AreDepthsSoFar (ids_of (S.contents store.now)) (inclusions_of (S.contents store.now)) depths.new }
     ensures keeps { KeepsDepths depths.old depths.new }
     ensures within { IfOk result (λ depth. depth ≤ most) }
-    ensures ok { IfOk result (λ depth. slice_index depths.new place ≡ depth) }
-    ensures err { IfErr result (λ chain. (id : ℕ) → IsIdAt (ids_of (S.contents store.now)) place id → BeginsChain (inclusions_of (S.contents store.now)) id (most + 1) chain.items) }
+    ensures ok { IfOk result (λ depth. slice_index depths.new index ≡ depth) }
+    ensures err { IfErr result (λ chain. (id : ℕ) → IsIdAt (ids_of (S.contents store.now)) index id → BeginsChain (inclusions_of (S.contents store.now)) id (most + 1) chain.items) }
 {
-    let depth = depths[place];
+    let depth = depths[index];
     if depth == UNSET {
-        return settle_entry(store, depths, place, most);
+        return depth_of_entry(store, depths, index, most);
     }
     if depth > most {
-        return Err(chain_from(store, depths, place, most + 1));
+        return Err(chain_from(store, depths, index, most + 1));
     }
     Ok(depth)
 }
 
 /// Finds the depth of the object at an index from the depths of its inclusions.
-#[cycle(settle)]
-fn settle_entry<S: Store>(store: &S, depths: &mut [u8], place: usize, most: u8) -> Result<u8, Chain>
+#[cycle(depth)]
+fn depth_of_entry<S: Store>(
+    store: &S,
+    depths: &mut [u8],
+    index: usize,
+    most: u8,
+) -> Result<u8, Chain>
     requires found { AreDepthsSoFar (ids_of (S.contents store.now)) (inclusions_of (S.contents store.now)) depths.old }
     requires closed { IsClosed (ids_of (S.contents store.now)) (inclusions_of (S.contents store.now)) }
-    requires place { place < length depths.old }
+    requires index { index < length depths.old }
     requires most { most ≤ 32 }
     ensures found { AreDepthsSoFar (ids_of (S.contents store.now)) (inclusions_of (S.contents store.now)) depths.new }
     ensures keeps { KeepsDepths depths.old depths.new }
     ensures within { IfOk result (λ depth. depth ≤ most) }
-    ensures ok { IfOk result (λ depth. slice_index depths.new place ≡ depth) }
-    ensures err { IfErr result (λ chain. (id : ℕ) → IsIdAt (ids_of (S.contents store.now)) place id → BeginsChain (inclusions_of (S.contents store.now)) id (most + 1) chain.items) }
+    ensures ok { IfOk result (λ depth. slice_index depths.new index ≡ depth) }
+    ensures err { IfErr result (λ chain. (id : ℕ) → IsIdAt (ids_of (S.contents store.now)) index id → BeginsChain (inclusions_of (S.contents store.now)) id (most + 1) chain.items) }
 {
-    let (id, object) = entry(store, place);
+    let (id, object) = entry(store, index);
     match deepest(store, depths, id, object, most) {
         Ok(depth) => {
-            depths[place] = depth;
+            depths[index] = depth;
             Ok(depth)
         }
         Err(mut chain) => {
@@ -87,7 +92,7 @@ fn settle_entry<S: Store>(store: &S, depths: &mut [u8], place: usize, most: u8) 
 
 /// One more than the greatest depth of an object's inclusions, or a chain of `most` inclusions that begins with one of
 /// them.
-#[cycle(settle)]
+#[cycle(depth)]
 fn deepest<S: Store>(
     store: &S,
     depths: &mut [u8],
@@ -108,7 +113,7 @@ fn deepest<S: Store>(
     let mut deepest = 0;
     for slot in slots(object) {
         if includes(&slot) {
-            let depth = settle_included(store, depths, slot.id, most)?;
+            let depth = depth_of_included(store, depths, slot.id, most)?;
             deepest = deepest.max(depth + 1);
         }
     }
@@ -117,15 +122,15 @@ fn deepest<S: Store>(
 
 /// Finds the depth of an included ID, less than `most`, or a chain of `most` inclusions that begins with it. Most depths
 /// are known already; one not yet found is 255, above every `most`.
-#[cycle(settle)]
+#[cycle(depth)]
 #[inline]
-fn settle_included<S: Store>(
+fn depth_of_included<S: Store>(
     store: &S,
     depths: &mut [u8],
     id: ObjectId,
     most: u8,
 ) -> Result<u8, Chain>
-    requires there { (place : ℕ) × IsIdAt (ids_of (S.contents store.now)) place id }
+    requires there { (index : ℕ) × IsIdAt (ids_of (S.contents store.now)) index id }
     requires found { AreDepthsSoFar (ids_of (S.contents store.now)) (inclusions_of (S.contents store.now)) depths.old }
     requires closed { IsClosed (ids_of (S.contents store.now)) (inclusions_of (S.contents store.now)) }
     requires most { most ≤ 32 }
@@ -135,8 +140,8 @@ fn settle_included<S: Store>(
     ensures ok { IfOk result (λ depth. IsAtDepth (ids_of (S.contents store.now)) depths.new id depth) }
     ensures err { IfErr result (λ chain. BeginsChain (inclusions_of (S.contents store.now)) id most chain.items) }
 {
-    let place = place_of(store, id);
-    let depth = depths[place];
+    let index = index_of(store, id);
+    let depth = depths[index];
     if depth < most {
         return Ok(depth);
     }
@@ -145,67 +150,67 @@ fn settle_included<S: Store>(
         chain.push(id);
         return Err(chain);
     }
-    settle(store, depths, place, most - 1)
+    depth_at(store, depths, index, most - 1)
 }
 
 /// The index of an ID in the store.
-fn place_of<S: Store>(store: &S, id: ObjectId) -> usize
-    requires { (place : ℕ) × IsIdAt (ids_of (S.contents store.now)) place id }
+fn index_of<S: Store>(store: &S, id: ObjectId) -> usize
+    requires { (index : ℕ) × IsIdAt (ids_of (S.contents store.now)) index id }
     ensures { IsIdAt (ids_of (S.contents store.now)) result id }
 {
     match store.place(id) {
-        Some(place) => place,
+        Some(index) => index,
         None => unreachable!(),
     }
 }
 
 /// The object at an index, and its ID.
-pub fn entry<S: Store>(store: &S, place: usize) -> (ObjectId, &Object<Vec<u8>>)
-    requires { place < length (ids_of (S.contents store.now)) }
-    ensures stands { IsIdAt (ids_of (S.contents store.now)) place result.0 }
+pub fn entry<S: Store>(store: &S, index: usize) -> (ObjectId, &Object<Vec<u8>>)
+    requires { index < length (ids_of (S.contents store.now)) }
+    ensures stands { IsIdAt (ids_of (S.contents store.now)) index result.0 }
     ensures object { finite.get (S.contents store.now) result.0 ≡ Some (seen result.1.now) }
 {
-    match store.entry_at(place) {
+    match store.entry_at(index) {
         Some(entry) => entry,
         None => unreachable!(),
     }
 }
 
 /// The chain of `count` inclusions that begins with the object at an index, whose depth is at least `count`.
-fn chain_from<S: Store>(store: &S, depths: &[u8], place: usize, count: u8) -> Chain
+fn chain_from<S: Store>(store: &S, depths: &[u8], index: usize, count: u8) -> Chain
     requires found { AreDepthsSoFar (ids_of (S.contents store.now)) (inclusions_of (S.contents store.now)) depths.now }
     requires closed { IsClosed (ids_of (S.contents store.now)) (inclusions_of (S.contents store.now)) }
-    requires place { place < length depths.now }
-    requires is_found { slice_index depths.now place ≢ unset }
-    requires deep { count ≤ slice_index depths.now place }
+    requires index { index < length depths.now }
+    requires is_found { slice_index depths.now index ≢ unset }
+    requires deep { count ≤ slice_index depths.now index }
     requires count { count ≤ 33 }
-    ensures { (id : ℕ) → IsIdAt (ids_of (S.contents store.now)) place id → BeginsChain (inclusions_of (S.contents store.now)) id count result.items }
+    ensures { (id : ℕ) → IsIdAt (ids_of (S.contents store.now)) index id → BeginsChain (inclusions_of (S.contents store.now)) id count result.items }
 {
     let mut chain = ArrayVec::new();
-    let mut place = place;
-    chain.push(entry(store, place).0);
+    let mut index = index;
+    chain.push(entry(store, index).0);
     for step in 0..count {
-        place = next(store, depths, place, count - 1 - step);
-        chain.push(entry(store, place).0);
+        index = next(store, depths, index, count - 1 - step);
+        chain.push(entry(store, index).0);
     }
     chain
 }
 
 /// The index of an inclusion of the object at an index, with at least this depth.
-fn next<S: Store>(store: &S, depths: &[u8], place: usize, depth: u8) -> usize
+fn next<S: Store>(store: &S, depths: &[u8], index: usize, depth: u8) -> usize
     requires found { AreDepthsSoFar (ids_of (S.contents store.now)) (inclusions_of (S.contents store.now)) depths.now }
     requires closed { IsClosed (ids_of (S.contents store.now)) (inclusions_of (S.contents store.now)) }
-    requires place { place < length depths.now }
-    requires is_found { slice_index depths.now place ≢ unset }
-    requires deep { depth < slice_index depths.now place }
-    ensures next { (id : ℕ) → IsIdAt (ids_of (S.contents store.now)) place id → (other : ℕ) × Contains (inclusions_of (S.contents store.now) id) other × IsIdAt (ids_of (S.contents store.now)) result other }
+    requires index { index < length depths.now }
+    requires is_found { slice_index depths.now index ≢ unset }
+    requires deep { depth < slice_index depths.now index }
+    ensures next { (id : ℕ) → IsIdAt (ids_of (S.contents store.now)) index id → (other : ℕ) × Contains (inclusions_of (S.contents store.now) id) other × IsIdAt (ids_of (S.contents store.now)) result other }
     ensures deep { depth ≤ slice_index depths.now result }
     ensures found { slice_index depths.now result ≢ unset }
 {
-    let (_, object) = entry(store, place);
+    let (_, object) = entry(store, index);
     for slot in slots(object) {
         if includes(&slot) {
-            let next = place_of(store, slot.id);
+            let next = index_of(store, slot.id);
             if depths[next] >= depth {
                 return next;
             }

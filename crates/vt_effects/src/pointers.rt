@@ -59,18 +59,18 @@ fn has_that_kind<S: Store>(store: &S, pointed: &Pointed) -> bool
 fn all_allow<S: Store>(store: &S, pointed: &Pointed) -> bool
     ensures { result ≡ list_all (replacements.slot_allows pointed.now) (effects.all_slots (S.contents store.now)) }
 {
-    for place in 0..store.count() {
-        if !entry_allows(store, place, pointed) {
+    for index in 0..store.count() {
+        if !entry_allows(store, index, pointed) {
             return false;
         }
     }
     true
 }
 
-fn entry_allows<S: Store>(store: &S, place: usize, pointed: &Pointed) -> bool
-    ensures { result ≡ list_all (replacements.slot_allows pointed.now) (flat_map (λ e. slots_of e.1) (option_to_list (slice_get (finite.entries (S.contents store.now)) place))) }
+fn entry_allows<S: Store>(store: &S, index: usize, pointed: &Pointed) -> bool
+    ensures { result ≡ list_all (replacements.slot_allows pointed.now) (flat_map (λ e. slots_of e.1) (option_to_list (slice_get (finite.entries (S.contents store.now)) index))) }
 {
-    match store.entry_at(place) {
+    match store.entry_at(index) {
         Some((_, object)) => slots_allow(object, pointed),
         None => true,
     }

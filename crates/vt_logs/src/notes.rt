@@ -117,8 +117,8 @@ impl Notes {
     }
 
     fn add_refusal(&mut self, line: u64, fault: OperatorFault) {
-        for place in &mut self.refused {
-            match place {
+        for slot in &mut self.refused {
+            match slot {
                 Some(refused) if refused.fault == fault => {
                     refused.count = refused.count.saturating_add(1);
                     return;
@@ -126,7 +126,7 @@ impl Notes {
                 Some(_) => {}
                 None => {
                     let count = 1;
-                    *place = Some(RefusedActions { line, fault, count });
+                    *slot = Some(RefusedActions { line, fault, count });
                     return;
                 }
             }

@@ -305,6 +305,6 @@ impl Progress {
 fn cut_line(text: &[u8]) -> Option<(&[u8], &[u8])>
     ensures { MatchOption result (HasNoNewline text.now) (λ p. HasNoNewline p.0.now × (text.now ≡ p.0.now ++ 10 ∷ p.1.now)) }
 {
-    let place = memchr(b'\n', text)?;
-    Some((&text[..place], &text[place + 1..]))
+    let index = memchr(b'\n', text)?;
+    Some((&text[..index], &text[index + 1..]))
 }

@@ -154,10 +154,10 @@ named_falls m levels place id other certificate null stands named =
     behind_case (IsBelow (ids_of m) levels other (slice_index levels place)) m name other (finite.get m name) null named.stands
     (λ same. subst (λ (k : ℕ). IsBelow (ids_of m) levels k (slice_index levels place)) same lower)
     (λ value.
-    let last = certificate.falls lower.place name lower.there other (included_at m name other value) in
+    let last = certificate.falls lower.index name lower.there other (included_at m name other value) in
     let one = lower.less in
     let two = last.less in
-    record { place = last.place; there = last.there; less = omega (arith, one, two) })
+    record { index = last.index; there = last.there; less = omega (arith, one, two) })
 
 -- NULL is not the ID of an object
 pub null_nowhere : (m : ObjectMap) → All (λ id. id < null_id) (ids_of m) → finite.get m null_id ≡ None

@@ -278,7 +278,7 @@ all_ids (x ∷ names) zero le = absurd (omega (arith, le))
 all_ids (x ∷ names) (suc i) le = ap (λ (xs : List ℕ). x ∷ xs) (all_ids names i (omega (arith, le)))
 
 pub level_of : (m : ObjectMap) (levels : List ℕ) (index id level : ℕ) → IsIdAt (ids_of m) index id → IsBelow (ids_of m) levels id level → slice_index levels index < level
-level_of m levels index id level there below = subst (λ (p : ℕ). slice_index levels p < level) (once m below.place index id below.there there) below.less
+level_of m levels index id level there below = subst (λ (p : ℕ). slice_index levels p < level) (once m below.index index id below.there there) below.less
 
 -- the level of each element is less than 33
 pub below_all : (m : ObjectMap) (levels : List ℕ) (name id : ℕ) → IsCertificate (ids_of m) (inclusions_of m) levels → IsNamed m (name ∷ []) id → IsBelow (ids_of m) levels id 33
@@ -289,4 +289,4 @@ below_all m levels name id certificate named = from (finite.get m id) refl named
     from (Some o) at element =
         let there = stands (finite.entries m) id o (sym (finite.get-entries m id) ∙ at) in
         let most = certificate.within there.0 in
-        record { place = there.0; there = there.1; less = omega (arith, most) }
+        record { index = there.0; there = there.1; less = omega (arith, most) }

@@ -8,9 +8,9 @@ pub loop-step-preserved : goal.loop-step-preserved
 loop-step-preserved g c =
     let m = g.S.Store.contents c.args.store.now in
     let lt = c.loop-step-test.true in
-    let deep = c.next-place.ensures.deep in
+    let deep = c.next-index.ensures.deep in
     let each = c.requires.found.each in
-    let inside = within (ids_of m) c.next-place.result _ c.entry-in-loop-step.ensures.stands in
-    subst (IsGrowing (ids_of m) (inclusions_of m) c.args.depths.now c.args.place c.next-place.result (c.loop-step.step + 1) c.args.count) (sym c.push-in-loop-step.ensures.items)
-    (growing_more (ids_of m) (inclusions_of m) c.args.depths.now c.args.place c.loop-step.place c.next-place.result c.loop-step.step c.args.count _ c.loop-step.chain.items lt
-    c.next-place.ensures.next (omega (arith, deep, lt)) (omega (arith, inside, each)) c.next-place.ensures.found c.entry-in-loop-step.ensures.stands c.loop-step.invariant)
+    let inside = within (ids_of m) c.next-index.result _ c.entry-in-loop-step.ensures.stands in
+    subst (IsGrowing (ids_of m) (inclusions_of m) c.args.depths.now c.args.index c.next-index.result (c.loop-step.step + 1) c.args.count) (sym c.push-in-loop-step.ensures.items)
+    (growing_more (ids_of m) (inclusions_of m) c.args.depths.now c.args.index c.loop-step.index c.next-index.result c.loop-step.step c.args.count _ c.loop-step.chain.items lt
+    c.next-index.ensures.next (omega (arith, deep, lt)) (omega (arith, inside, each)) c.next-index.ensures.found c.entry-in-loop-step.ensures.stands c.loop-step.invariant)

@@ -4,4 +4,4 @@ use Rattle.vt_chains.proofs.chains.chain_from.Given as goal
 
 abbrev pub invariant-loop-step : goal.invariant-loop-step
 invariant-loop-step g l =
-    IsGrowing (ids_of (g.S.Store.contents l.store)) (inclusions_of (g.S.Store.contents l.store)) l.depths l.fn.place l.place l.step l.count l.chain.items
+    IsGrowing (ids_of (g.S.Store.contents l.store)) (inclusions_of (g.S.Store.contents l.store)) l.depths l.fn.index l.index l.step l.count l.chain.items

@@ -9,13 +9,13 @@ pub returns-clause-ok : goal.returns-clause-ok
 returns-clause-ok g c =
     let m = g.S.Store.contents c.args.store.now in
     let most = c.requires.most in
-    let end = c.loop-place-test.false in
-    let len = c.loop-place.auto.depths in
-    let all = c.loop-place.auto.place-end in
-    all_found (ids_of m) (inclusions_of m) c.loop-place.depths c.args.most (omega (arith, most)) c.loop-place.invariant.0
-    (λ place lt. c.loop-place.invariant.1 place (omega (arith, lt, end, len, all)))
+    let end = c.loop-index-test.false in
+    let len = c.loop-index.auto.depths in
+    let all = c.loop-index.auto.index-end in
+    all_found (ids_of m) (inclusions_of m) c.loop-index.depths c.args.most (omega (arith, most)) c.loop-index.invariant.0
+    (λ index lt. c.loop-index.invariant.1 index (omega (arith, lt, end, len, all)))
 
 pub returns-clause-shallow : goal.returns-clause-shallow
 returns-clause-shallow g c =
     let m = g.S.Store.contents c.args.store.now in
-    show_shallow (ids_of m) (inclusions_of m) c.args.most c.loop-place.depths (sourced (finite.entries m)) (returns-clause-ok g c)
+    show_shallow (ids_of m) (inclusions_of m) c.args.most c.loop-index.depths (sourced (finite.entries m)) (returns-clause-ok g c)

@@ -14,21 +14,21 @@ loop-slot-init g c = (
   tt,
   λ id stands.
       let m = g.S.Store.contents c.args.store.now in
-      let same = same_id (ids_of m) c.args.place c.entry.result.0 id c.entry.ensures.stands stands in
+      let same = same_id (ids_of m) c.args.index c.entry.result.0 id c.entry.ensures.stands stands in
       let is = ap (inclusions_of m) (sym same) ∙ inclusions_are m c.entry.result.0 c.entry.result.1.now c.entry.ensures.object
       ∙ ap included_in (sym (c.into_iter-slot-iterator.ensures.into_iter_gives ∙ c.slots-slot-items.ensures)) in
-      let deep = deep_next (ids_of m) (inclusions_of m) c.args.depths.now (once m) c.requires.found c.args.place id c.args.depth stands c.requires.is_found c.requires.deep in (
+      let deep = deep_next (ids_of m) (inclusions_of m) c.args.depths.now (once m) c.requires.found c.args.index id c.args.depth stands c.requires.is_found c.requires.deep in (
         λ other h. subst (λ (l : List ℕ). Contains l other) (sym is) h,
         (deep.0, subst (λ (l : List ℕ). Contains l deep.0) is deep.1, deep.2),
       ),
 )
 
-pub place_of-next-requires : goal.place_of-next-requires
-place_of-next-requires g c =
+pub index_of-next-requires : goal.index_of-next-requires
+index_of-next-requires g c =
     let m = g.S.Store.contents c.args.store.now in
-    let place = c.requires.place in
+    let index = c.requires.index in
     let each = c.requires.found.each in
-    let one = someone (ids_of m) c.args.place (omega (arith, place, each)) in
+    let one = someone (ids_of m) c.args.index (omega (arith, index, each)) in
     let here = in_first c.in-Some.slot c.next.new.self (sym c.includes.ensures ∙ c.if-includes.true) in
     c.requires.closed one.0 c.in-Some.slot.id
     ((c.loop-slot.invariant.2 one.0 one.1).0 c.in-Some.slot.id (subst (λ (l : List Slot). Contains (included_in l) c.in-Some.slot.id) (sym c.in-Some.ensures.steps) here))
@@ -36,7 +36,7 @@ place_of-next-requires g c =
 pub bounds-depths-next : goal.bounds-depths-next
 bounds-depths-next g c =
     let m = g.S.Store.contents c.args.store.now in
-    let inside = within (ids_of m) c.place_of-next.result c.in-Some.slot.id c.place_of-next.ensures in
+    let inside = within (ids_of m) c.index_of-next.result c.in-Some.slot.id c.index_of-next.ensures in
     let each = c.requires.found.each in
     omega (arith, inside, each)
 
@@ -45,19 +45,19 @@ returns-then-depths-next-clause-next g c id stands =
     let here = in_first c.in-Some.slot c.next.new.self (sym c.includes.ensures ∙ c.if-includes.true) in (
       c.in-Some.slot.id,
       (c.loop-slot.invariant.2 id stands).0 c.in-Some.slot.id (subst (λ (l : List Slot). Contains (included_in l) c.in-Some.slot.id) (sym c.in-Some.ensures.steps) here),
-      c.place_of-next.ensures,
+      c.index_of-next.ensures,
     )
 
 pub returns-then-depths-next-clause-found : goal.returns-then-depths-next-clause-found
 returns-then-depths-next-clause-found g c =
     let m = g.S.Store.contents c.args.store.now in
-    let place = c.requires.place in
+    let index = c.requires.index in
     let each = c.requires.found.each in
-    let one = someone (ids_of m) c.args.place (omega (arith, place, each)) in
+    let one = someone (ids_of m) c.args.index (omega (arith, index, each)) in
     let here = in_first c.in-Some.slot c.next.new.self (sym c.includes.ensures ∙ c.if-includes.true) in
-    next_is_found (ids_of m) (inclusions_of m) c.args.depths.now (once m) c.requires.found c.args.place one.0 c.in-Some.slot.id c.place_of-next.result one.1 c.requires.is_found
+    next_is_found (ids_of m) (inclusions_of m) c.args.depths.now (once m) c.requires.found c.args.index one.0 c.in-Some.slot.id c.index_of-next.result one.1 c.requires.is_found
     ((c.loop-slot.invariant.2 one.0 one.1).0 c.in-Some.slot.id (subst (λ (l : List Slot). Contains (included_in l) c.in-Some.slot.id) (sym c.in-Some.ensures.steps) here))
-    c.place_of-next.ensures
+    c.index_of-next.ensures
 
 pub loop-slot-preserved-else-depths-next : goal.loop-slot-preserved-else-depths-next
 loop-slot-preserved-else-depths-next g c = (
@@ -72,7 +72,7 @@ loop-slot-preserved-else-depths-next g c = (
         slot_case ((other : ℕ) × Contains (included_in left) other × IsDeep (ids_of m) c.args.depths.now other c.args.depth) c.in-Some.slot left before.1.0
             (subst (λ (l : List Slot). Contains (included_in l) before.1.0) c.in-Some.ensures.steps before.1.1)
             (λ is same.
-            let deep = before.1.2 c.place_of-next.result (subst (λ (k : ℕ). IsIdAt (ids_of m) c.place_of-next.result k) same c.place_of-next.ensures) in
+            let deep = before.1.2 c.index_of-next.result (subst (λ (k : ℕ). IsIdAt (ids_of m) c.index_of-next.result k) same c.index_of-next.ensures) in
             absurd (omega (arith, deep, lt)))
             (λ later. (before.1.0, later, before.1.2)),
       ),
@@ -97,8 +97,8 @@ loop-slot-preserved g c = (
 pub unreachable-requires : goal.unreachable-requires
 unreachable-requires g c =
     let m = g.S.Store.contents c.args.store.now in
-    let place = c.requires.place in
+    let index = c.requires.index in
     let each = c.requires.found.each in
-    let one = someone (ids_of m) c.args.place (omega (arith, place, each)) in
+    let one = someone (ids_of m) c.args.index (omega (arith, index, each)) in
     let deep = (c.loop-slot.invariant.2 one.0 one.1).1 in
     Contains-nil deep.0 (subst (λ (l : List Slot). Contains (included_in l) deep.0) c.in-None.ensures.steps.0 deep.1)

@@ -9,6 +9,6 @@ abbrev pub invariant-loop-slot : goal.invariant-loop-slot
 invariant-loop-slot g l =
     (goal.iterator-loop-slot g).can_next l.slot-iterator
     × (goal.iterator-loop-slot g).is_finite l.slot-iterator
-    × ((id : ℕ) → IsIdAt (ids_of (g.S.Store.contents l.store)) l.place id
+    × ((id : ℕ) → IsIdAt (ids_of (g.S.Store.contents l.store)) l.index id
     → ((other : ℕ) → Contains (included_in l.slot-iterator) other → Contains (inclusions_of (g.S.Store.contents l.store) id) other)
     × ((other : ℕ) × Contains (included_in l.slot-iterator) other × IsDeep (ids_of (g.S.Store.contents l.store)) l.depths other l.depth))

@@ -28,12 +28,12 @@ levels_kept m id old new command levels c none are =
       spare_length = are.spare_length ∙ sym (ap length (ids_stay m id old new command c));
     }
   where
-    falls : (place q : ℕ) → IsIdAt (ids_of m) place q → (x : ℕ) → Contains (inclusions_of (finite.insert m id new) q) x
-        → IsBelow (ids_of m) levels.levels.items x (slice_index levels.levels.items place)
-    falls place q there x h =
-        ⊎_elim (are.certificate.falls place q there x) (λ more. absurd (none x more.1)) (inclusions_after m id old new command c q x h)
+    falls : (index q : ℕ) → IsIdAt (ids_of m) index q → (x : ℕ) → Contains (inclusions_of (finite.insert m id new) q) x
+        → IsBelow (ids_of m) levels.levels.items x (slice_index levels.levels.items index)
+    falls index q there x h =
+        ⊎_elim (are.certificate.falls index q there x) (λ more. absurd (none x more.1)) (inclusions_after m id old new command c q x h)
 
-found : (m : ObjectMap) (x : ℕ) (o : Option Seen) → finite.get m x ≡ o → is_some (option_map kind_of o) ≡ true → (place : ℕ) × IsIdAt (ids_of m) place x
+found : (m : ObjectMap) (x : ℕ) (o : Option Seen) → finite.get m x ≡ o → is_some (option_map kind_of o) ≡ true → (index : ℕ) × IsIdAt (ids_of m) index x
 found m x None is some = absurd cc
 found m x (Some y) is some = stands (finite.entries m) x y (sym (finite.get-entries m x) ∙ is)
 
@@ -46,13 +46,13 @@ levels_but m id after old new command levels c names are =
       spare_length = are.spare_length ∙ sym (ap length (ids_stay m id old new command c));
     }
   where
-    falls : (place q : ℕ) → IsIdAt (ids_of m) place q → (x : ℕ) → Contains (inclusions_of (finite.insert m id new) q) x
-        → IsBelow (ids_of m) levels.levels.items x (slice_index levels.levels.items place) ⊎ ((q ≡ id) × (x ≡ after))
-    falls place q there x h =
-        ⊎_elim (λ before. inl (are.certificate.falls place q there x before)) (λ more. inr (more.0, same_Some x after (sym more.1.other ∙ names)))
+    falls : (index q : ℕ) → IsIdAt (ids_of m) index q → (x : ℕ) → Contains (inclusions_of (finite.insert m id new) q) x
+        → IsBelow (ids_of m) levels.levels.items x (slice_index levels.levels.items index) ⊎ ((q ≡ id) × (x ≡ after))
+    falls index q there x h =
+        ⊎_elim (λ before. inl (are.certificate.falls index q there x before)) (λ more. inr (more.0, same_Some x after (sym more.1.other ∙ names)))
         (inclusions_after m id old new command c q x h)
 
     closed : IsClosed (ids_of m) (inclusions_of (finite.insert m id new))
     closed q x h =
-        ⊎_elim (λ before. let at = sourced (finite.entries m) q x before in let lower = are.certificate.falls at.0 q at.1 x before in (lower.place, lower.there))
+        ⊎_elim (λ before. let at = sourced (finite.entries m) q x before in let lower = are.certificate.falls at.0 q at.1 x before in (lower.index, lower.there))
         (λ more. found m x (finite.get m x) refl more.1.there) (inclusions_after m id old new command c q x h)

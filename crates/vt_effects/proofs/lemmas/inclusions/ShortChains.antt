@@ -13,7 +13,7 @@ use Rattle.vt_chains.specs.Inclusions.{IsChain, IsShallow}
 use Rattle.vt_chains.specs.Limits.{terminal}
 use Rattle.vt_chains.specs.Depths.{ids_of, inclusions_of}
 use Rattle.vt_chains.proofs.Elements.{Contains-nil}
-use Rattle.vt_chains.proofs.InclusionsInStore.{place_of}
+use Rattle.vt_chains.proofs.InclusionsInStore.{index_of}
 use Rattle.vt_effects.specs.declared.replacements.Replacement.{Replacement}
 use Rattle.vt_effects.specs.Effects.{is_short, chains_are_short}
 use Rattle.vt_effects.specs.Replacements.{replacement_by, new_id_fits}
@@ -41,7 +41,7 @@ pub shallow_by_test : (m : ObjectMap) → chains_are_short m ≡ true → IsShal
 shallow_by_test m short [] chain = omega arith
 shallow_by_test m short (id ∷ []) chain = omega arith
 shallow_by_test m short (id ∷ b ∷ rest) chain =
-    let at = place_of (finite.entries m) id b chain.0 in
+    let at = index_of (finite.entries m) id b chain.0 in
     let first : is_short terminal.inclusions (inclusions_of m) id ≡ true =
     subst (λ (i : ℕ). is_short terminal.inclusions (inclusions_of m) i ≡ true) (get_or_from_slice_get (ids_of m) at.0 id id at.1)
     (AllPass-from_list_all (is_short terminal.inclusions (inclusions_of m)) (ids_of m) short at.0 id (slice_get_within (ids_of m) at.0 id at.1)) in

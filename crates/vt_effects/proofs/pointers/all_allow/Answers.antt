@@ -7,17 +7,17 @@ use Rattle.vt_effects.proofs.pointers.all_allow.Goals as goal
 pub returns-then-not-entry_allows : goal.returns-then-not-entry_allows
 returns-then-not-entry_allows g c =
     let m = g.S.Store.contents c.args.store.now in
-    sym (c.loop-place.invariant ∙ entry_failed (slot_allows c.args.pointed.now) (finite.entries m) c.loop-place.place (sym c.if-not-entry_allows.ensures))
+    sym (c.loop-index.invariant ∙ entry_failed (slot_allows c.args.pointed.now) (finite.entries m) c.loop-index.index (sym c.if-not-entry_allows.ensures))
 
-pub loop-place-preserved : goal.loop-place-preserved
-loop-place-preserved g c =
+pub loop-index-preserved : goal.loop-index-preserved
+loop-index-preserved g c =
     let m = g.S.Store.contents c.args.store.now in
-    c.loop-place.invariant ∙ entry_passed (slot_allows c.args.pointed.now) (finite.entries m) c.loop-place.place (sym c.if-not-entry_allows.ensures)
+    c.loop-index.invariant ∙ entry_passed (slot_allows c.args.pointed.now) (finite.entries m) c.loop-index.index (sym c.if-not-entry_allows.ensures)
 
 pub returns : goal.returns
 returns g c =
     let m = g.S.Store.contents c.args.store.now in
-    let count = c.count-place-end.ensures.count in
+    let count = c.count-index-end.ensures.count in
     let long = finite.len-entries m in
-    let past = c.loop-place-test.false in
-    sym (c.loop-place.invariant ∙ none_left (slot_allows c.args.pointed.now) (finite.entries m) c.loop-place.place (omega (arith, count, long, past)))
+    let past = c.loop-index-test.false in
+    sym (c.loop-index.invariant ∙ none_left (slot_allows c.args.pointed.now) (finite.entries m) c.loop-index.index (omega (arith, count, long, past)))

@@ -6,7 +6,7 @@ use Rattle.vt_effects.specs.Effects.{all_slots}
 use Rattle.vt_effects.specs.Replacements.{slot_allows}
 use Rattle.vt_effects.proofs.pointers.all_allow.Given as goal
 
-abbrev pub invariant-loop-place : goal.invariant-loop-place
-invariant-loop-place g l =
+abbrev pub invariant-loop-index : goal.invariant-loop-index
+invariant-loop-index g l =
     list_all (slot_allows l.pointed) (all_slots (g.S.Store.contents l.store))
-    ≡ list_all (slot_allows l.pointed) (flat_map (λ e. slots_of e.1) (drop l.place (finite.entries (g.S.Store.contents l.store))))
+    ≡ list_all (slot_allows l.pointed) (flat_map (λ e. slots_of e.1) (drop l.index (finite.entries (g.S.Store.contents l.store))))

@@ -1,5 +1,5 @@
 use Rattle.std.proofs.Common.{arith, ltb-true}
-use Rattle.vt_chains.proofs.FallingLevels.{falling_there, falling_nowhere, falling_from_nowhere, place_within, level_is}
+use Rattle.vt_chains.proofs.FallingLevels.{falling_there, falling_nowhere, falling_from_nowhere, index_within, level_is}
 use Rattle.vt_chains.proofs.levels.Levels.falls.Goals as goal
 
 pub returns-in_default : goal.returns-in_default
@@ -12,13 +12,13 @@ returns-in_default-place g c same =
 
 pub index-requires : goal.index-requires
 index-requires g c =
-    let lt = place_within (g.S.Store.contents c.args.store.now) c.args.self.now.levels.items c.args.to c.in-Some-place.below c.requires.certificate.each c.in-Some-place.ensures.some in
+    let lt = index_within (g.S.Store.contents c.args.store.now) c.args.self.now.levels.items c.args.to c.in-Some-place.below c.requires.certificate.each c.in-Some-place.ensures.some in
     let len = c.args.self.now.levels.ok.0 in
     omega (arith, lt, len)
 
 pub index-requires-2 : goal.index-requires-2
 index-requires-2 g c =
-    let lt = place_within (g.S.Store.contents c.args.store.now) c.args.self.now.levels.items c.args.from c.in-Some.above c.requires.certificate.each c.in-Some.ensures.some in
+    let lt = index_within (g.S.Store.contents c.args.store.now) c.args.self.now.levels.items c.args.from c.in-Some.above c.requires.certificate.each c.in-Some.ensures.some in
     let len = c.args.self.now.levels.ok.0 in
     omega (arith, lt, len)
 

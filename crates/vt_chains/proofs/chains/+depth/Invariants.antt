@@ -1,19 +1,19 @@
 use Rattle.std.proofs.Common.{◌+◌, ◌*◌}
 use Rattle.vt_chains.specs.Depths.{ids_of, inclusions_of}
 use Rattle.vt_chains.proofs.DepthSearch.{IsSearch}
-use Rattle.vt_chains.proofs.chains.+settle.Given as goal
+use Rattle.vt_chains.proofs.chains.+depth.Given as goal
 
-abbrev pub decreases-settle : goal.decreases-settle
-decreases-settle g l = 4 * l.most + 3
+abbrev pub decreases-depth_at : goal.decreases-depth_at
+decreases-depth_at g l = 4 * l.most + 3
 
-abbrev pub decreases-settle_entry : goal.decreases-settle_entry
-decreases-settle_entry g l = 4 * l.most + 2
+abbrev pub decreases-depth_of_entry : goal.decreases-depth_of_entry
+decreases-depth_of_entry g l = 4 * l.most + 2
 
 abbrev pub decreases-deepest : goal.decreases-deepest
 decreases-deepest g l = 4 * l.most + 1
 
-abbrev pub decreases-settle_included : goal.decreases-settle_included
-decreases-settle_included g l = 4 * l.most
+abbrev pub decreases-depth_of_included : goal.decreases-depth_of_included
+decreases-depth_of_included g l = 4 * l.most
 
 abbrev pub invariant-deepest-loop-slot : goal.invariant-deepest-loop-slot
 invariant-deepest-loop-slot g l =

@@ -6,7 +6,7 @@ use Rattle.vt_chains.proofs.IdIndices.{once}
 use Rattle.vt_chains.proofs.Slots.{included_in, inclusions_are, in_first}
 use Rattle.vt_chains.proofs.Maximum.{max_is}
 use Rattle.vt_chains.proofs.DepthSearch.{IsSearch, search_begins, search_goes_on, put_depth, put_keeps, KeepsDepths-trans}
-use Rattle.vt_chains.proofs.chains.+settle.Goals as goal
+use Rattle.vt_chains.proofs.chains.+depth.Goals as goal
 
 pub deepest-loop-slot-init : goal.deepest-loop-slot-init
 deepest-loop-slot-init g t c =
@@ -18,8 +18,8 @@ deepest-loop-slot-init g t c =
           ∙ ap included_in (sym (c.into_iter-slot-iterator.ensures.into_iter_gives ∙ c.slots-slot-items.ensures))),
     )
 
-pub deepest-settle_included-requires : goal.deepest-settle_included-requires
-deepest-settle_included-requires g t c κs within =
+pub deepest-depth_of_included-requires : goal.deepest-depth_of_included-requires
+deepest-depth_of_included-requires g t c κs within =
     let m = g.S.Store.contents c.args.store.now in
     let here = in_first c.in-Some.slot c.next.new.self (sym c.includes.ensures ∙ c.if-includes.true) in
     let among = c.loop-slot.invariant.2.among c.in-Some.slot.id (subst (λ (l : List Slot). Contains (included_in l) c.in-Some.slot.id) (sym c.in-Some.ensures.steps) here) in
@@ -31,24 +31,24 @@ deepest-loop-slot-preserved-then-includes g t c =
     let lt = c.in_ok-depth.ensures.within in (
       tt,
       tt,
-      subst (λ (n : ℕ). IsSearch (ids_of m) (inclusions_of m) c.args.depths.now c.settle_included.new.depths c.args.id n c.args.most c.next.new.self) (sym (c.max-deepest.ensures ∙ max_is c.loop-slot.deepest (c.in_ok-depth.depth + 1)))
-          (search_goes_on (ids_of m) (inclusions_of m) c.args.depths.now c.loop-slot.depths c.settle_included.new.depths c.args.id c.loop-slot.deepest c.args.most c.in-Some.slot
-          c.next.new.self _ c.requires.most (sym c.includes.ensures ∙ c.if-includes.true) c.settle_included.ensures.found c.settle_included.ensures.keeps
+      subst (λ (n : ℕ). IsSearch (ids_of m) (inclusions_of m) c.args.depths.now c.depth_of_included.new.depths c.args.id n c.args.most c.next.new.self) (sym (c.max-deepest.ensures ∙ max_is c.loop-slot.deepest (c.in_ok-depth.depth + 1)))
+          (search_goes_on (ids_of m) (inclusions_of m) c.args.depths.now c.loop-slot.depths c.depth_of_included.new.depths c.args.id c.loop-slot.deepest c.args.most c.in-Some.slot
+          c.next.new.self _ c.requires.most (sym c.includes.ensures ∙ c.if-includes.true) c.depth_of_included.ensures.found c.depth_of_included.ensures.keeps
           c.in_ok-depth.ensures.ok lt
           (subst (IsSearch (ids_of m) (inclusions_of m) c.args.depths.now c.loop-slot.depths c.args.id c.loop-slot.deepest c.args.most) c.in-Some.ensures.steps c.loop-slot.invariant.2)),
     )
 
-pub settle_entry-returns-in-Ok-clause-found : goal.settle_entry-returns-in-Ok-clause-found
-settle_entry-returns-in-Ok-clause-found g t c =
+pub depth_of_entry-returns-in-Ok-clause-found : goal.depth_of_entry-returns-in-Ok-clause-found
+depth_of_entry-returns-in-Ok-clause-found g t c =
     let m = g.S.Store.contents c.args.store.now in
     let le = c.in-Ok.ensures.within in
     let most = c.requires.most in
-    put_depth (ids_of m) (inclusions_of m) c.deepest.new.depths (once m) c.deepest.ensures.found c.args.place _ c.in-Ok.depth c.entry-id.ensures.stands (omega (arith, le, most)) c.in-Ok.ensures.ok
+    put_depth (ids_of m) (inclusions_of m) c.deepest.new.depths (once m) c.deepest.ensures.found c.args.index _ c.in-Ok.depth c.entry-id.ensures.stands (omega (arith, le, most)) c.in-Ok.ensures.ok
 
-pub settle_entry-returns-in-Ok-clause-keeps : goal.settle_entry-returns-in-Ok-clause-keeps
-settle_entry-returns-in-Ok-clause-keeps g t c =
+pub depth_of_entry-returns-in-Ok-clause-keeps : goal.depth_of_entry-returns-in-Ok-clause-keeps
+depth_of_entry-returns-in-Ok-clause-keeps g t c =
     let m = g.S.Store.contents c.args.store.now in
     let le = c.in-Ok.ensures.within in
     let most = c.requires.most in
     KeepsDepths-trans c.args.depths.now c.deepest.new.depths _ c.deepest.ensures.keeps
-    (put_keeps (ids_of m) (inclusions_of m) c.deepest.new.depths (once m) c.deepest.ensures.found c.args.place _ c.in-Ok.depth c.entry-id.ensures.stands (omega (arith, le, most)) c.in-Ok.ensures.ok)
+    (put_keeps (ids_of m) (inclusions_of m) c.deepest.new.depths (once m) c.deepest.ensures.found c.args.index _ c.in-Ok.depth c.entry-id.ensures.stands (omega (arith, le, most)) c.in-Ok.ensures.ok)
