@@ -19,7 +19,7 @@ use Rattle.vt_kinds.specs.Ids.{null_id}
 use Rattle.vt_kinds.specs.Records.{Seen, seen}
 use Rattle.vt_stores.specs.Stores.{ObjectMap}
 use Rattle.vt_machine.specs.SetStates.{IsActive}
-use Rattle.vt_shown.specs.ShownElements.{stands_for, keys_of, soft_key_mask_of}
+use Rattle.vt_shown.specs.ShownElements.{resolves_to, keys_of, soft_key_mask_of}
 use Rattle.vt_effects.specs.Soundness.{IsSound}
 use Rattle.vt_layout.specs.declared.element.Element.{Element}
 use Rattle.vt_layout.specs.declared.element.Position.{Position}
@@ -32,7 +32,7 @@ use Rattle.vt_layout.proofs.PageLines.{elements_append, full_stays, longer, next
 
 -- the elements of an entry at an index
 abbrev of_entry : Draws → ObjectMap → ℕ → Position → Child → List Element
-of_entry draws store place from entry = with_drawn draws store (element store place (shifted from entry) (stands_for store entry.id))
+of_entry draws store place from entry = with_drawn draws store (element store place (shifted from entry) (resolves_to store entry.id))
 
 -- drawing the entries from an index on makes the goal page of the present one
 abbrev pub Becomes : Draws → ObjectMap → List Child → Position → ℕ → Sheet → Sheet → Type 0
@@ -170,7 +170,7 @@ gains address store mask old new text sound null active is gained = record { tex
 
 pub keys_next : (store : ObjectMap) (keys : List ℕ) (place key default : ℕ) (now new goal : Sheet) → place < length keys → get_or keys place default ≡ key
     → Becomes (elements 31 store) store (map unmoved keys) origin place now goal
-    → new ≡ with_elements store (with_drawn (elements 31 store) store (element store place origin (stands_for store key))) now
+    → new ≡ with_elements store (with_drawn (elements 31 store) store (element store place origin (resolves_to store key))) now
     → Becomes (elements 31 store) store (map unmoved keys) origin (place + 1) new goal
 keys_next store keys place key default now new goal lt is becomes drawn =
     let long = length-map keys unmoved in

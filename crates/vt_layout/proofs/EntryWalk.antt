@@ -7,7 +7,7 @@ use Rattle.std.specs.FinMap as finite
 use Rattle.vt_kinds.specs.declared.entries.Child.{Child}
 use Rattle.vt_stores.specs.Stores.{ObjectMap}
 use Rattle.vt_chains.proofs.Elements.{Contains-nil, Contains-head, Contains-tail, cons_case}
-use Rattle.vt_shown.specs.ShownElements.{stands_for}
+use Rattle.vt_shown.specs.ShownElements.{resolves_to}
 use Rattle.vt_layout.specs.declared.element.Element.{Element}
 use Rattle.vt_layout.specs.declared.element.Position.{Position}
 use Rattle.vt_layout.specs.Drawings.{Placed, shifted, element, entered, along, at_path, entries_in}
@@ -31,7 +31,7 @@ placed_with inner store place (Some e) = placed (place ∷ []) e ∷ map (under 
 abbrev pub placed_from : Places → ObjectMap → ℕ → List Child → Position → List Placed
 placed_from inner store place [] from = []
 placed_from inner store place (entry ∷ entries) from =
-    placed_with inner store place (element store place (shifted from entry) (stands_for store entry.id)) ++ placed_from inner store (suc place) entries from
+    placed_with inner store place (element store place (shifted from entry) (resolves_to store entry.id)) ++ placed_from inner store (suc place) entries from
 
 abbrev pub all_placed : ℕ → ObjectMap → Places
 all_placed zero store entries from = []
@@ -61,7 +61,7 @@ bare_from : (inner : Places) (draws : Draws) (store : ObjectMap) → ((entries :
     → (place : ℕ) (entries : List Child) (from : Position) → bare (placed_from inner store place entries from) ≡ each_from draws store place entries from
 bare_from inner draws store same place [] from = refl
 bare_from inner draws store same place (entry ∷ entries) from =
-    let first = element store place (shifted from entry) (stands_for store entry.id) in
+    let first = element store place (shifted from entry) (resolves_to store entry.id) in
     bare_append (placed_with inner store place first) (placed_from inner store (suc place) entries from)
     ∙ ap (λ es. es ++ bare (placed_from inner store (suc place) entries from)) (bare_with inner draws store same place first)
     ∙ ap (λ es. with_drawn draws store first ++ es) (bare_from inner draws store same (suc place) entries from)
@@ -122,7 +122,7 @@ from_at : (inner : Places) (store : ObjectMap) → ((entries : List Child) (from
     → (all : List Child) (place : ℕ) (entries : List Child) (from : Position) → IsFrom all place entries → AreAt store all from (placed_from inner store place entries from)
 from_at inner store are all place [] from is p h = absurd (Contains-nil p h)
 from_at inner store are all place (entry ∷ entries) from is p h =
-    let first = element store place (shifted from entry) (stands_for store entry.id) in
+    let first = element store place (shifted from entry) (resolves_to store entry.id) in
     elim (Contains-append_cases (placed_with inner store place first) (placed_from inner store (suc place) entries from) p h) as (λ _. at_path store all from p.path ≡ Some p.element) [
       | inl here ↦ with_at inner store are place first p here (at_path store all from p.path ≡ Some p.element)
           (λ rest path leads. ap (at_path store all from) path ∙ ap (λ o. along store rest (entered store from place o)) (first_is all entries place entry is) ∙ leads)
@@ -165,13 +165,13 @@ from_met : (depth : ℕ) (inner : Places) (store : ObjectMap) → AreMet depth s
     → Contains (placed_from inner store place entries from) (placed ((place + i) ∷ path) e)
 from_met depth inner store met place i [] from path e leads short = absurd cc
 from_met depth inner store met place zero (entry ∷ entries) from path e leads short =
-    let first = element store place (shifted from entry) (stands_for store entry.id) in
+    let first = element store place (shifted from entry) (resolves_to store entry.id) in
     let same : place + 0 ≡ place = omega arith in
     Contains-append_left (placed_with inner store place first) (placed_from inner store (suc place) entries from) (placed ((place + 0) ∷ path) e)
     (subst (λ (k : ℕ). Contains (placed_with inner store place first) (placed (k ∷ path) e)) (sym same)
     (with_met depth inner store met place first path e (subst (λ (k : ℕ). along store path (entered store from k (Some entry)) ≡ Some e) same leads) short))
 from_met depth inner store met place (suc i) (entry ∷ entries) from path e leads short =
-    let first = element store place (shifted from entry) (stands_for store entry.id) in
+    let first = element store place (shifted from entry) (resolves_to store entry.id) in
     let same : place + suc i ≡ suc place + i = omega arith in
     Contains-append_right (placed_with inner store place first) (placed_from inner store (suc place) entries from) (placed ((place + suc i) ∷ path) e)
     (subst (λ (k : ℕ). Contains (placed_from inner store (suc place) entries from) (placed (k ∷ path) e)) (sym same)

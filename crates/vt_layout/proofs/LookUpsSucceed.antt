@@ -29,7 +29,7 @@ use Rattle.vt_shown.proofs.DrawnElements.{shown_element}
 use Rattle.vt_layout.specs.Drawings.{entries_in, key_entries}
 use Rattle.vt_layout.specs.Lines.{variable_text}
 use Rattle.vt_layout.specs.LookUps.{kinds_listed, null_listed, Resolves, AllResolveIn, HasNumber, HasText, HasLineValues, DrawingsFindAll}
-use Rattle.vt_layout.specs.LookUps.Resolves.{Null, NullPointer, StandsFor}
+use Rattle.vt_layout.specs.LookUps.Resolves.{Null, NullPointer, ResolvesTo}
 use Rattle.vt_layout.proofs.ShownAreDrawn.{names_of, names_of_keys}
 
 -- a slot that is in order
@@ -68,7 +68,7 @@ value_found store s p at fits right =
         → Resolves store s.kinds s.null s.id
     there None is fits other = absurd cc
     there (Some o) is fits other =
-        StandsFor p.value (kind_of o) (ap (behind store s.id) at ∙ ap (option_map (λ value. p.value)) is) (ap (option_map kind_of) is) fits (not_pointer (kind_of o) other)
+        ResolvesTo p.value (kind_of o) (ap (behind store s.id) at ∙ ap (option_map (λ value. p.value)) is) (ap (option_map kind_of) is) fits (not_pointer (kind_of o) other)
 
 -- the ID of a slot is found
 slot_found : (store : ObjectMap) (s : Slot) → IsSound store → IsRight store s → Resolves store s.kinds s.null s.id
@@ -79,25 +79,25 @@ slot_found store s sound right =
         → Resolves store s.kinds s.null s.id
     named None at is fits = absurd cc
     named (Some (objects.ObjectPointer p)) at is fits = value_found store s p at fits (sound.slots s.id (objects.ObjectPointer p) at).0
-    named (Some o) at is fits = StandsFor s.id (kind_of o) (ap (behind store s.id) at) (ap (option_map kind_of) at) is refl
+    named (Some o) at is fits = ResolvesTo s.id (kind_of o) (ap (behind store s.id) at) (ap (option_map kind_of) at) is refl
 
 -- ---- lists of IDs
 
 -- each ID of a list of slots is found
-listed_found : (store : ObjectMap) (kind : Kind) (place : ℕ → Place) (may_stand : Kinds) (null : Bool) (index : ℕ) (names : List ℕ) → IsSound store
-    → ((i : ℕ) → allowed kind (place i) ≡ may_stand) → ((i : ℕ) → may_be_null (place i) ≡ null) → AllByRecursion (IsRight store) (slots_listed kind place index names)
-    → AllByRecursion (Resolves store may_stand null) names
-listed_found store kind place may_stand null index [] sound are nulls right = tt
-listed_found store kind place may_stand null index (name ∷ names) sound are nulls right = (
+listed_found : (store : ObjectMap) (kind : Kind) (place : ℕ → Place) (fitting : Kinds) (null : Bool) (index : ℕ) (names : List ℕ) → IsSound store
+    → ((i : ℕ) → allowed kind (place i) ≡ fitting) → ((i : ℕ) → may_be_null (place i) ≡ null) → AllByRecursion (IsRight store) (slots_listed kind place index names)
+    → AllByRecursion (Resolves store fitting null) names
+listed_found store kind place fitting null index [] sound are nulls right = tt
+listed_found store kind place fitting null index (name ∷ names) sound are nulls right = (
   subst (λ (k : Kinds). Resolves store k null name) (are index)
       (subst (λ (b : Bool). Resolves store (allowed kind (place index)) b name) (nulls index) (slot_found store (slot kind (place index) name) sound right.0)),
-  listed_found store kind place may_stand null (suc index) names sound are nulls right.1,
+  listed_found store kind place fitting null (suc index) names sound are nulls right.1,
 )
 
 -- each child is found
-children_found : (store : ObjectMap) (kind : Kind) (may_stand : Kinds) (children : List Child) → IsSound store → ((i : ℕ) → allowed kind (places.Child i) ≡ may_stand)
-    → AllByRecursion (IsRight store) (children_of kind children) → AllByRecursion (Resolves store may_stand false) (ids_in children)
-children_found store kind may_stand children sound are right = listed_found store kind places.Child may_stand false 0 (ids_in children) sound are (λ i. refl) right
+children_found : (store : ObjectMap) (kind : Kind) (fitting : Kinds) (children : List Child) → IsSound store → ((i : ℕ) → allowed kind (places.Child i) ≡ fitting)
+    → AllByRecursion (IsRight store) (children_of kind children) → AllByRecursion (Resolves store fitting false) (ids_in children)
+children_found store kind fitting children sound are right = listed_found store kind places.Child fitting false 0 (ids_in children) sound are (λ i. refl) right
 
 -- the item at an index is one of the items
 item_all : (P : ℕ → Type 0) (items : List ℕ) (index : Option ℕ) → AllByRecursion P items → AllByRecursion P (item_of items index)

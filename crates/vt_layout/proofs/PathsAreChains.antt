@@ -17,7 +17,7 @@ use Rattle.vt_stores.specs.Stores.{ObjectMap}
 use Rattle.vt_chains.specs.Depths.{inclusions_of}
 use Rattle.vt_chains.specs.Inclusions.{IsChain, included_by}
 use Rattle.vt_chains.proofs.Elements.{Contains-nil, cons_case}
-use Rattle.vt_shown.specs.ShownElements.{ids_in, keys_of, soft_key_mask_of, behind, stands_for, is_element}
+use Rattle.vt_shown.specs.ShownElements.{ids_in, keys_of, soft_key_mask_of, behind, resolves_to, is_element}
 use Rattle.vt_effects.specs.Soundness.{IsSound, is_in_order}
 use Rattle.vt_shown.proofs.DrawnElements.{listed_included, drawn_included, is_there, behind_case, included_at}
 use Rattle.vt_layout.specs.declared.element.Element.{Element}
@@ -44,7 +44,7 @@ no_pointer : (store : ObjectMap) (next : ℕ) (p : ObjectPointer) → finite.get
 no_pointer store next p at shows = let never = subst (λ (o : Option Seen). IsTrue (is_element o)) at shows in absurd cc
 
 -- a chain with one more element in front
-way_more : (store : ObjectMap) (id name next : ℕ) (rest : List ℕ) (least to : ℕ) → finite.get store null_id ≡ None → Contains (inclusions_of store id) name → stands_for store name ≡ Some next
+way_more : (store : ObjectMap) (id name next : ℕ) (rest : List ℕ) (least to : ℕ) → finite.get store null_id ≡ None → Contains (inclusions_of store id) name → resolves_to store name ≡ Some next
     → IsTrue (is_element (finite.get store next)) → IsWay store next rest least to → IsWay store id (led_through name (finite.get store name) ++ rest) (suc least) to
 way_more store id name next rest least to null first stands shows way = by (finite.get store name) refl stands
   where

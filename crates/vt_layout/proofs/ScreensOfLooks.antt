@@ -14,11 +14,11 @@ use Rattle.vt_effects.specs.Looks.{look, HaveSameLook}
 use Rattle.vt_machine.specs.OperatorActions.{is_enabled}
 use Rattle.vt_machine.specs.SetStates.{IsActive}
 use Rattle.vt_machine.proofs.SameLookShows.{by_look, same_active, same_element, same_number, same_object, same_soft_keys}
-use Rattle.vt_shown.specs.ShownElements.{stands_for, number_shown, item_of}
+use Rattle.vt_shown.specs.ShownElements.{resolves_to, number_shown, item_of}
 use Rattle.vt_layout.specs.declared.element.Element.{Element}
 use Rattle.vt_layout.specs.declared.element.Position.{Position}
 use Rattle.vt_layout.specs.Drawings.{Placed, origin, shifted, unmoved, entries_in, key_entries, element, entered, along, at_path, AreAll, IsDrawing}
-use Rattle.vt_layout.specs.Lines.{standing, size_text, valued, decided, scaled_text, quoted, variable_text, text_shown, switched, described, line_of, line}
+use Rattle.vt_layout.specs.Lines.{positioned, size_text, valued, decided, scaled_text, quoted, variable_text, text_shown, switched, described, line_of, line}
 use Rattle.vt_layout.specs.Screens.{heading, shortened, IsScreen, ScreensShowLooks}
 
 -- ---- an object and its look have the same parts in a drawing
@@ -64,7 +64,7 @@ module _ (old new : ObjectMap) (same : HaveSameLook old new) where
   entered_is : (from : Position) (place : ℕ) (entry : Option Child) → entered new from place entry ≡ entered old from place entry
   entered_is from place None = refl
   entered_is from place (Some entry) =
-      element_is place (shifted from entry) (stands_for new entry.id) ∙ ap (element old place (shifted from entry)) (same_object old new same entry.id)
+      element_is place (shifted from entry) (resolves_to new entry.id) ∙ ap (element old place (shifted from entry)) (same_object old new same entry.id)
 
   along_is : (path : List ℕ) (e : Option Element) → along new path e ≡ along old path e
   along_is [] None = refl
@@ -101,24 +101,24 @@ module _ (old new : ObjectMap) (same : HaveSameLook old new) where
 
   described_is : (e : Element) (o : Option Seen) → described new e o ≡ described old e o
   described_is e None = refl
-  described_is e (Some (objects.InputBoolean o)) = ap (λ (n : Option ℕ). standing (codes "boolean") e ++ decided n) (same_number old new same o.variable o.value)
-  described_is e (Some (objects.InputString o)) = ap (λ (t : Option (List ℕ)). standing (codes "input") e ++ quoted t) (texts o.variable o.text)
+  described_is e (Some (objects.InputBoolean o)) = ap (λ (n : Option ℕ). positioned (codes "boolean") e ++ decided n) (same_number old new same o.variable o.value)
+  described_is e (Some (objects.InputString o)) = ap (λ (t : Option (List ℕ)). positioned (codes "input") e ++ quoted t) (texts o.variable o.text)
   described_is e (Some (objects.InputNumber o)) =
-      ap (λ (n : Option ℕ). standing (codes "number") e ++ scaled_text o.offset (scale_places o.scale) o.decimals n) (same_number old new same o.variable o.value)
-  described_is e (Some (objects.InputList o)) = ap (λ (n : Option ℕ). standing (codes "list") e ++ valued n) (same_number old new same o.variable o.value)
-  described_is e (Some (objects.OutputString o)) = ap (λ (t : Option (List ℕ)). standing (codes "text") e ++ quoted t) (texts o.variable o.text)
+      ap (λ (n : Option ℕ). positioned (codes "number") e ++ scaled_text o.offset (scale_places o.scale) o.decimals n) (same_number old new same o.variable o.value)
+  described_is e (Some (objects.InputList o)) = ap (λ (n : Option ℕ). positioned (codes "list") e ++ valued n) (same_number old new same o.variable o.value)
+  described_is e (Some (objects.OutputString o)) = ap (λ (t : Option (List ℕ)). positioned (codes "text") e ++ quoted t) (texts o.variable o.text)
   described_is e (Some (objects.OutputNumber o)) =
-      ap (λ (n : Option ℕ). standing (codes "value") e ++ scaled_text o.offset (scale_places o.scale) o.decimals n) (same_number old new same o.variable o.value)
-  described_is e (Some (objects.Meter o)) = ap (λ (n : Option ℕ). standing (codes "meter") e ++ valued n) (same_number old new same o.variable o.value)
+      ap (λ (n : Option ℕ). positioned (codes "value") e ++ scaled_text o.offset (scale_places o.scale) o.decimals n) (same_number old new same o.variable o.value)
+  described_is e (Some (objects.Meter o)) = ap (λ (n : Option ℕ). positioned (codes "meter") e ++ valued n) (same_number old new same o.variable o.value)
   described_is e (Some (objects.LinearBar o)) =
-      ap (λ (n : Option ℕ). standing (codes "bar") e ++ (size_text o.width o.height ++ (valued n ++ valued (number_shown new o.target_variable o.target))))
+      ap (λ (n : Option ℕ). positioned (codes "bar") e ++ (size_text o.width o.height ++ (valued n ++ valued (number_shown new o.target_variable o.target))))
       (same_number old new same o.variable o.value)
-      ∙ ap (λ (n : Option ℕ). standing (codes "bar") e ++ (size_text o.width o.height ++ (valued (number_shown old o.variable o.value) ++ valued n)))
+      ∙ ap (λ (n : Option ℕ). positioned (codes "bar") e ++ (size_text o.width o.height ++ (valued (number_shown old o.variable o.value) ++ valued n)))
       (same_number old new same o.target_variable o.target)
   described_is e (Some (objects.ArchedBar o)) =
-      ap (λ (n : Option ℕ). standing (codes "arch") e ++ (size_text o.width o.height ++ (valued n ++ valued (number_shown new o.target_variable o.target))))
+      ap (λ (n : Option ℕ). positioned (codes "arch") e ++ (size_text o.width o.height ++ (valued n ++ valued (number_shown new o.target_variable o.target))))
       (same_number old new same o.variable o.value)
-      ∙ ap (λ (n : Option ℕ). standing (codes "arch") e ++ (size_text o.width o.height ++ (valued (number_shown old o.variable o.value) ++ valued n)))
+      ∙ ap (λ (n : Option ℕ). positioned (codes "arch") e ++ (size_text o.width o.height ++ (valued (number_shown old o.variable o.value) ++ valued n)))
       (same_number old new same o.target_variable o.target)
   described_is e (Some _) = refl
 

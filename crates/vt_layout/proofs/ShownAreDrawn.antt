@@ -8,7 +8,7 @@ use Rattle.vt_kinds.specs.declared.object.Object.TheVariants as objects
 use Rattle.vt_kinds.specs.Records.{Seen}
 use Rattle.vt_stores.specs.Stores.{ObjectMap}
 use Rattle.vt_chains.proofs.Elements.{Contains-nil, Contains-head, Contains-tail, cons_case}
-use Rattle.vt_shown.specs.ShownElements.{stands_for, is_element, ids_in, drawn_in, soft_keys, IsNamed, IsShown}
+use Rattle.vt_shown.specs.ShownElements.{resolves_to, is_element, ids_in, drawn_in, soft_keys, IsResolved, IsShown}
 use Rattle.vt_shown.specs.ShownElements.IsShown.{InMask, AmongKeys, Within}
 use Rattle.vt_layout.specs.declared.element.Element.{Element}
 use Rattle.vt_layout.specs.declared.element.Position.{Position}
@@ -67,22 +67,22 @@ element_is store place id at is = by (record { place = place; id = id; at = at }
     by e false is = absurd cc
 
 -- an entry that resolves to an element
-entered_is : (store : ObjectMap) (entries : List Child) (from : Position) (place id : ℕ) (entry : Child) → slice_get entries place ≡ Some entry → stands_for store entry.id ≡ Some id
+entered_is : (store : ObjectMap) (entries : List Child) (from : Position) (place id : ℕ) (entry : Child) → slice_get entries place ≡ Some entry → resolves_to store entry.id ≡ Some id
     → IsTrue (is_element (finite.get store id)) → entered store from place (slice_get entries place) ≡ Some (record { place = place; id = id; at = shifted from entry })
 entered_is store entries from place id entry there stands is =
     ap (entered store from place) there ∙ ap (element store place (shifted from entry)) stands ∙ element_is store place id (shifted from entry) is
 
 -- the element that an entry resolves to is met
-named_met : (P : Type 0) (store : ObjectMap) (entries : List Child) (from : Position) (id : ℕ) → IsNamed store (ids_in entries) id
+resolved_met : (P : Type 0) (store : ObjectMap) (entries : List Child) (from : Position) (id : ℕ) → IsResolved store (ids_in entries) id
     → ((place : ℕ) (at : Position) → entered store from place (slice_get entries place) ≡ Some (record { place = place; id = id; at = at }) → P) → P
-named_met P store entries from id named then =
-    entry_of P entries named.name named.among
+resolved_met P store entries from id resolved then =
+    entry_of P entries resolved.id resolved.among
     (λ place entry there is. then place (shifted from entry)
-    (entered_is store entries from place id entry there (ap (stands_for store) is ∙ named.stands) named.element))
+    (entered_is store entries from place id entry there (ap (resolves_to store) is ∙ resolved.resolves) resolved.is_element))
 
-met_first : (store : ObjectMap) (entries : List Child) (id : ℕ) → IsNamed store (ids_in entries) id → IsMetFrom store entries id
-met_first store entries id named =
-    named_met (IsMetFrom store entries id) store entries origin id named
+met_first : (store : ObjectMap) (entries : List Child) (id : ℕ) → IsResolved store (ids_in entries) id → IsMetFrom store entries id
+met_first store entries id resolved =
+    resolved_met (IsMetFrom store entries id) store entries origin id resolved
     (λ place at is. record { path = place ∷ []; to = record { place = place; id = id; at = at }; leads = ap (along store []) is; is = refl })
 
 -- a path with one more index
@@ -104,12 +104,12 @@ path_more : (store : ObjectMap) (entries : List Child) (path : List ℕ) (place 
 path_more store entries [] place e leads = absurd cc
 path_more store entries (q ∷ path) place e leads = along_more store path place (entered store origin q (slice_get entries q)) e leads
 
-met_within : (store : ObjectMap) (entries : List Child) (id other : ℕ) → IsMetFrom store entries id → IsNamed store (drawn_in store (finite.get store id)) other → IsMetFrom store entries other
-met_within store entries id other met named =
+met_within : (store : ObjectMap) (entries : List Child) (id other : ℕ) → IsMetFrom store entries id → IsResolved store (drawn_in store (finite.get store id)) other → IsMetFrom store entries other
+met_within store entries id other met resolved =
     let within = entries_in store (finite.get store met.to.id) in
-    named_met (IsMetFrom store entries other) store within met.to.at other
-    (subst (λ (names : List ℕ). IsNamed store names other) (sym (names_of store (finite.get store met.to.id)))
-    (subst (λ (k : ℕ). IsNamed store (drawn_in store (finite.get store k)) other) (sym met.is) named))
+    resolved_met (IsMetFrom store entries other) store within met.to.at other
+    (subst (λ (ids : List ℕ). IsResolved store ids other) (sym (names_of store (finite.get store met.to.id)))
+    (subst (λ (k : ℕ). IsResolved store (drawn_in store (finite.get store k)) other) (sym met.is) resolved))
     (λ place at is. record {
       path = met.path ++ place ∷ [];
       to = record { place = place; id = other; at = at };
@@ -118,44 +118,44 @@ met_within store entries id other met named =
     })
 
 shown_met : (store : ObjectMap) (mask id : ℕ) → IsShown store mask id → IsMetFrom store (mask_entries store mask) id ⊎ IsMetFrom store (key_entries store mask) id
-shown_met store mask id (InMask _ named) =
-    inl (met_first store (mask_entries store mask) id (subst (λ (names : List ℕ). IsNamed store names id) (sym (names_of store (finite.get store mask))) named))
-shown_met store mask id (AmongKeys _ named) =
-    inr (met_first store (key_entries store mask) id (subst (λ (names : List ℕ). IsNamed store names id) (sym (names_of_keys store mask)) named))
-shown_met store mask other (Within id _ shown named) =
+shown_met store mask id (InMask _ resolved) =
+    inl (met_first store (mask_entries store mask) id (subst (λ (ids : List ℕ). IsResolved store ids id) (sym (names_of store (finite.get store mask))) resolved))
+shown_met store mask id (AmongKeys _ resolved) =
+    inr (met_first store (key_entries store mask) id (subst (λ (ids : List ℕ). IsResolved store ids id) (sym (names_of_keys store mask)) resolved))
+shown_met store mask other (Within id _ shown resolved) =
     elim (shown_met store mask id shown) as (λ _. IsMetFrom store (mask_entries store mask) other ⊎ IsMetFrom store (key_entries store mask) other) [
-      | inl met ↦ inl (met_within store (mask_entries store mask) id other met named)
-      | inr met ↦ inr (met_within store (key_entries store mask) id other met named)
+      | inl met ↦ inl (met_within store (mask_entries store mask) id other met resolved)
+      | inr met ↦ inr (met_within store (key_entries store mask) id other met resolved)
     ]
 
 -- ---- met objects are shown
 
 -- the entry that resolves to an element
 pub entered_entry : (P : Type 0) (store : ObjectMap) (entries : List Child) (from : Position) (place : ℕ) (e : Element) → entered store from place (slice_get entries place) ≡ Some e
-    → ((entry : Child) → slice_get entries place ≡ Some entry → stands_for store entry.id ≡ Some e.id → IsTrue (is_element (finite.get store e.id)) → P) → P
+    → ((entry : Child) → slice_get entries place ≡ Some entry → resolves_to store entry.id ≡ Some e.id → IsTrue (is_element (finite.get store e.id)) → P) → P
 entered_entry P store entries from place e is then = by (slice_get entries place) refl is
   where
-    by_element : (entry : Child) → slice_get entries place ≡ Some entry → (id : ℕ) → stands_for store entry.id ≡ Some id → (b : Bool) → is_element (finite.get store id) ≡ b
+    by_element : (entry : Child) → slice_get entries place ≡ Some entry → (id : ℕ) → resolves_to store entry.id ≡ Some id → (b : Bool) → is_element (finite.get store id) ≡ b
         → (k : Element) → k.id ≡ id → cond b (Some k) None ≡ Some e → P
     by_element entry there id stands true shows k is same =
         let id_is : id ≡ e.id = sym is ∙ ap (λ (k : Element). k.id) (same_Some k e same) in
         then entry there (stands ∙ ap Some id_is) (subst (λ (n : ℕ). IsTrue (is_element (finite.get store n))) id_is (subst IsTrue (sym shows) refl))
     by_element entry there id stands false shows k is same = absurd cc
 
-    by_entry : (entry : Child) → slice_get entries place ≡ Some entry → (o : Option ℕ) → stands_for store entry.id ≡ o → element store place (shifted from entry) o ≡ Some e → P
+    by_entry : (entry : Child) → slice_get entries place ≡ Some entry → (o : Option ℕ) → resolves_to store entry.id ≡ o → element store place (shifted from entry) o ≡ Some e → P
     by_entry entry there None stands same = absurd cc
     by_entry entry there (Some id) stands same = by_element entry there id stands (is_element (finite.get store id)) refl (record { place = place; id = id; at = shifted from entry }) refl same
 
     by : (o : Option Child) → slice_get entries place ≡ o → entered store from place o ≡ Some e → P
     by None there same = absurd cc
-    by (Some entry) there same = by_entry entry there (stands_for store entry.id) refl same
+    by (Some entry) there same = by_entry entry there (resolves_to store entry.id) refl same
 
 -- the IDs of the entries resolve to the element
-entered_named : (P : Type 0) (store : ObjectMap) (entries : List Child) (from : Position) (place : ℕ) (e : Element) → entered store from place (slice_get entries place) ≡ Some e
-    → (IsNamed store (ids_in entries) e.id → P) → P
-entered_named P store entries from place e is so =
+entered_resolved : (P : Type 0) (store : ObjectMap) (entries : List Child) (from : Position) (place : ℕ) (e : Element) → entered store from place (slice_get entries place) ≡ Some e
+    → (IsResolved store (ids_in entries) e.id → P) → P
+entered_resolved P store entries from place e is so =
     entered_entry P store entries from place e is
-    (λ entry there stands shows. so (record { name = entry.id; among = name_of entries place entry there; stands = stands; element = shows }))
+    (λ entry there stands shows. so (record { id = entry.id; among = name_of entries place entry there; resolves = stands; is_element = shows }))
 
 along_shown : (store : ObjectMap) (mask : ℕ) (path : List ℕ) (o : Option Element) (e : Element) → ((first : Element) → o ≡ Some first → IsShown store mask first.id)
     → along store path o ≡ Some e → IsShown store mask e.id
@@ -164,23 +164,23 @@ along_shown store mask [] (Some o) e first leads = subst (λ (k : Element). IsSh
 along_shown store mask (place ∷ path) (Some o) e first leads =
     let within = entries_in store (finite.get store o.id) in
     along_shown store mask path (entered store o.at place (slice_get within place)) e
-    (λ next is. entered_named (IsShown store mask next.id) store within o.at place next is
-    (λ named. Within o.id next.id (first o refl)
-    (subst (λ (names : List ℕ). IsNamed store names next.id) (names_of store (finite.get store o.id)) named)))
+    (λ next is. entered_resolved (IsShown store mask next.id) store within o.at place next is
+    (λ resolved. Within o.id next.id (first o refl)
+    (subst (λ (ids : List ℕ). IsResolved store ids next.id) (names_of store (finite.get store o.id)) resolved)))
     leads
 
-path_shown : (store : ObjectMap) (mask : ℕ) (entries : List Child) (path : List ℕ) (e : Element) → ((id : ℕ) → IsNamed store (ids_in entries) id → IsShown store mask id)
+path_shown : (store : ObjectMap) (mask : ℕ) (entries : List Child) (path : List ℕ) (e : Element) → ((id : ℕ) → IsResolved store (ids_in entries) id → IsShown store mask id)
     → at_path store entries origin path ≡ Some e → IsShown store mask e.id
 path_shown store mask entries [] e names leads = absurd cc
 path_shown store mask entries (place ∷ path) e names leads =
     along_shown store mask path (entered store origin place (slice_get entries place)) e
-    (λ first is. entered_named (IsShown store mask first.id) store entries origin place first is (names first.id)) leads
+    (λ first is. entered_resolved (IsShown store mask first.id) store entries origin place first is (names first.id)) leads
 
-in_mask : (store : ObjectMap) (mask : ℕ) (id : ℕ) → IsNamed store (ids_in (mask_entries store mask)) id → IsShown store mask id
-in_mask store mask id named = InMask id (subst (λ (names : List ℕ). IsNamed store names id) (names_of store (finite.get store mask)) named)
+in_mask : (store : ObjectMap) (mask : ℕ) (id : ℕ) → IsResolved store (ids_in (mask_entries store mask)) id → IsShown store mask id
+in_mask store mask id resolved = InMask id (subst (λ (ids : List ℕ). IsResolved store ids id) (names_of store (finite.get store mask)) resolved)
 
-among_keys : (store : ObjectMap) (mask : ℕ) (id : ℕ) → IsNamed store (ids_in (key_entries store mask)) id → IsShown store mask id
-among_keys store mask id named = AmongKeys id (subst (λ (names : List ℕ). IsNamed store names id) (names_of_keys store mask) named)
+among_keys : (store : ObjectMap) (mask : ℕ) (id : ℕ) → IsResolved store (ids_in (key_entries store mask)) id → IsShown store mask id
+among_keys store mask id resolved = AmongKeys id (subst (λ (ids : List ℕ). IsResolved store ids id) (names_of_keys store mask) resolved)
 
 -- ---- shown objects are drawn, and drawn ones shown
 

@@ -6,7 +6,7 @@ use Rattle.std.specs.FinMap as finite
 use Rattle.vt_kinds.specs.declared.entries.Child.{Child}
 use Rattle.vt_stores.specs.Stores.{ObjectMap}
 use Rattle.vt_chains.proofs.Elements.{Contains-nil, Contains-head, Contains-tail, cons_case}
-use Rattle.vt_shown.specs.ShownElements.{stands_for}
+use Rattle.vt_shown.specs.ShownElements.{resolves_to}
 use Rattle.vt_layout.specs.declared.element.Element.{Element}
 use Rattle.vt_layout.specs.declared.element.Position.{Position}
 use Rattle.vt_layout.specs.Drawings.{Placed, shifted, element, entries_in, IsBefore, IsInDrawingOrder, AreAll, IsDrawing, mask_entries, key_entries}
@@ -145,7 +145,7 @@ at_from place least ps le at = all_more (λ p. (rest : List ℕ) × (p.path ≡ 
 from_starts : (inner : Places) (store : ObjectMap) (least place : ℕ) (entries : List Child) (from : Position) → least ≤ place → StartFrom least (placed_from inner store place entries from)
 from_starts inner store least place [] from le = tt
 from_starts inner store least place (entry ∷ entries) from le =
-    let first = element store place (shifted from entry) (stands_for store entry.id) in
+    let first = element store place (shifted from entry) (resolves_to store entry.id) in
     all_append (λ p. StartsFrom least p.path) (placed_with inner store place first) (placed_from inner store (suc place) entries from)
     (at_from place least (placed_with inner store place first) le (with_starts inner store place first))
     (from_starts inner store least (suc place) entries from (omega (arith, le)))
@@ -153,7 +153,7 @@ from_starts inner store least place (entry ∷ entries) from le =
 from_in_order : (inner : Places) (store : ObjectMap) → GoesInOrder inner → (place : ℕ) (entries : List Child) (from : Position) → IsInDrawingOrder (placed_from inner store place entries from)
 from_in_order inner store goes place [] from = tt
 from_in_order inner store goes place (entry ∷ entries) from =
-    let first = element store place (shifted from entry) (stands_for store entry.id) in
+    let first = element store place (shifted from entry) (resolves_to store entry.id) in
     joined_in_order place (placed_with inner store place first) (placed_from inner store (suc place) entries from)
     (with_in_order inner store goes place first) (with_starts inner store place first) (from_in_order inner store goes (suc place) entries from)
     (from_starts inner store (suc place) (suc place) entries from (omega arith))

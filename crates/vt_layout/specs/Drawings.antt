@@ -16,7 +16,7 @@ use Rattle.vt_chains.specs.Limits.{terminal}
 use Rattle.vt_layout.specs.declared.element.Element.{Element}
 use Rattle.vt_layout.specs.declared.element.Position.{Position}
 use Rattle.vt_effects.specs.Effects.{kind_in}
-use Rattle.vt_shown.specs.ShownElements.{stands_for, is_element, number_shown, item_of, soft_key_mask_of, soft_keys, drawn_in, IsShown}
+use Rattle.vt_shown.specs.ShownElements.{resolves_to, is_element, number_shown, item_of, soft_key_mask_of, soft_keys, drawn_in, IsShown}
 use Rattle.vt_effects.specs.Soundness.{IsSound, is_in_order}
 
 -- ---- lists of entries
@@ -61,7 +61,7 @@ element store place at (Some id) = if is_element (finite.get store id) then Some
 -- the element of an entry at an index, for a pointer that of its value
 abbrev pub entered : ObjectMap → Position → ℕ → Option Child → Option Element
 entered store from place None = None
-entered store from place (Some entry) = element store place (shifted from entry) (stands_for store entry.id)
+entered store from place (Some entry) = element store place (shifted from entry) (resolves_to store entry.id)
 
 -- the element at the end of indices, each into the entries of the element before it
 abbrev pub along : ObjectMap → List ℕ → Option Element → Option Element
@@ -119,9 +119,9 @@ ShownAreDrawn = (store : ObjectMap) (mask : ℕ) (drawing : List Placed) → IsD
 
 -- the ID is in a drawn list
 abbrev pub IsListed : ObjectMap → ℕ → ℕ → Type 0
-IsListed store mask name =
-    Contains (drawn_in store (finite.get store mask)) name ⊎ Contains (soft_keys store mask) name
-    ⊎ ((id : ℕ) × IsShown store mask id × Contains (drawn_in store (finite.get store id)) name)
+IsListed store mask id =
+    Contains (drawn_in store (finite.get store mask)) id ⊎ Contains (soft_keys store mask) id
+    ⊎ ((element : ℕ) × IsShown store mask element × Contains (drawn_in store (finite.get store element)) id)
 
 -- the IDs met by a drawing: the working set, the mask, its soft key mask, the IDs in drawn lists, and the elements
 abbrev pub IsMet : ObjectMap → ℕ → ℕ → Type 0
@@ -146,8 +146,8 @@ DrawingsNeverStick = (store : ObjectMap) (mask : ℕ) → IsSound store → Stic
 
 -- a listed ID, followed by its value if it is a pointer
 abbrev pub led_through : ℕ → Option Seen → List ℕ
-led_through name (Some (objects.ObjectPointer o)) = name ∷ o.value ∷ []
-led_through name _ = name ∷ []
+led_through id (Some (objects.ObjectPointer o)) = id ∷ o.value ∷ []
+led_through id _ = id ∷ []
 
 abbrev pub through : ObjectMap → Option Child → List ℕ
 through store None = []

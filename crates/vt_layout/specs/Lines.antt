@@ -17,8 +17,8 @@ use Rattle.vt_layout.specs.declared.element.Element.{Element}
 -- ---- parts of lines
 
 -- the name of the kind, the ID and the position of an element
-abbrev pub standing : List ℕ → Element → List ℕ
-standing name e =
+abbrev pub positioned : List ℕ → Element → List ℕ
+positioned name e =
     name ++ (codes " " ++ (decimal e.id ++ (codes " " ++ (signed_decimal e.at.x ++ (codes " " ++ signed_decimal e.at.y)))))
 
 -- a size as text
@@ -76,30 +76,30 @@ switched _ = []
 -- ---- the line of each kind, without `off`; empty for an object that is no element
 
 abbrev pub described : ObjectMap → Element → Option Seen → List ℕ
-described store e (Some (objects.WorkingSet o)) = standing (codes "workset") e
-described store e (Some (objects.Container o)) = standing (codes "container") e ++ size_text o.width o.height
+described store e (Some (objects.WorkingSet o)) = positioned (codes "workset") e
+described store e (Some (objects.Container o)) = positioned (codes "container") e ++ size_text o.width o.height
 described store e (Some (objects.Key o)) = codes "key " ++ (decimal e.id ++ (number_text e.place ++ coded o.key_code))
-described store e (Some (objects.Button o)) = standing (codes "button") e ++ (size_text o.width o.height ++ coded o.key_code)
-described store e (Some (objects.InputBoolean o)) = standing (codes "boolean") e ++ decided (number_shown store o.variable o.value)
-described store e (Some (objects.InputString o)) = standing (codes "input") e ++ quoted (text_shown store o.variable o.text)
+described store e (Some (objects.Button o)) = positioned (codes "button") e ++ (size_text o.width o.height ++ coded o.key_code)
+described store e (Some (objects.InputBoolean o)) = positioned (codes "boolean") e ++ decided (number_shown store o.variable o.value)
+described store e (Some (objects.InputString o)) = positioned (codes "input") e ++ quoted (text_shown store o.variable o.text)
 described store e (Some (objects.InputNumber o)) =
-    standing (codes "number") e ++ scaled_text o.offset (scale_places o.scale) o.decimals (number_shown store o.variable o.value)
-described store e (Some (objects.InputList o)) = standing (codes "list") e ++ valued (number_shown store o.variable o.value)
-described store e (Some (objects.OutputString o)) = standing (codes "text") e ++ quoted (text_shown store o.variable o.text)
+    positioned (codes "number") e ++ scaled_text o.offset (scale_places o.scale) o.decimals (number_shown store o.variable o.value)
+described store e (Some (objects.InputList o)) = positioned (codes "list") e ++ valued (number_shown store o.variable o.value)
+described store e (Some (objects.OutputString o)) = positioned (codes "text") e ++ quoted (text_shown store o.variable o.text)
 described store e (Some (objects.OutputNumber o)) =
-    standing (codes "value") e ++ scaled_text o.offset (scale_places o.scale) o.decimals (number_shown store o.variable o.value)
-described store e (Some (objects.Line o)) = standing (codes "line") e ++ (size_text o.width o.height ++ number_text o.direction)
-described store e (Some (objects.Rectangle o)) = standing (codes "rectangle") e ++ size_text o.width o.height
-described store e (Some (objects.Ellipse o)) = standing (codes "ellipse") e ++ size_text o.width o.height
-described store e (Some (objects.Polygon o)) = standing (codes "polygon") e ++ size_text o.width o.height
-described store e (Some (objects.Meter o)) = standing (codes "meter") e ++ valued (number_shown store o.variable o.value)
+    positioned (codes "value") e ++ scaled_text o.offset (scale_places o.scale) o.decimals (number_shown store o.variable o.value)
+described store e (Some (objects.Line o)) = positioned (codes "line") e ++ (size_text o.width o.height ++ number_text o.direction)
+described store e (Some (objects.Rectangle o)) = positioned (codes "rectangle") e ++ size_text o.width o.height
+described store e (Some (objects.Ellipse o)) = positioned (codes "ellipse") e ++ size_text o.width o.height
+described store e (Some (objects.Polygon o)) = positioned (codes "polygon") e ++ size_text o.width o.height
+described store e (Some (objects.Meter o)) = positioned (codes "meter") e ++ valued (number_shown store o.variable o.value)
 described store e (Some (objects.LinearBar o)) =
-    standing (codes "bar") e ++ (size_text o.width o.height
+    positioned (codes "bar") e ++ (size_text o.width o.height
     ++ (valued (number_shown store o.variable o.value) ++ valued (number_shown store o.target_variable o.target)))
 described store e (Some (objects.ArchedBar o)) =
-    standing (codes "arch") e ++ (size_text o.width o.height
+    positioned (codes "arch") e ++ (size_text o.width o.height
     ++ (valued (number_shown store o.variable o.value) ++ valued (number_shown store o.target_variable o.target)))
-described store e (Some (objects.Picture o)) = standing (codes "picture") e ++ number_text o.width
+described store e (Some (objects.Picture o)) = positioned (codes "picture") e ++ number_text o.width
 described store e _ = []
 
 -- the line of an element, with its newline

@@ -16,7 +16,7 @@ use Rattle.vt_effects.specs.Changes.{is_one_of}
 use Rattle.vt_effects.specs.Effects.{kind_in, pointer_value}
 use Rattle.vt_effects.specs.Soundness.{IsSound}
 use Rattle.vt_machine.specs.SetStates.{IsActive}
-use Rattle.vt_shown.specs.ShownElements.{stands_for, number_shown, soft_key_mask_of, IsShown}
+use Rattle.vt_shown.specs.ShownElements.{resolves_to, number_shown, soft_key_mask_of, IsShown}
 use Rattle.vt_layout.specs.Drawings.{entries_in, key_entries}
 use Rattle.vt_layout.specs.Lines.{text_shown}
 
@@ -33,11 +33,11 @@ null_listed (Some kinds.InputList) = true
 null_listed _ = false
 
 -- A listed ID resolves to an object of these kinds, or is NULL, where NULL is allowed, or a pointer with NULL.
-pub data Resolves (store : ObjectMap) (allowed : Kinds) (null : Bool) (name : ℕ) : Type 0 where
-  Null : name ≡ null_id → null ≡ true → Resolves store allowed null name
-  NullPointer : pointer_value (finite.get store name) ≡ Some null_id → Resolves store allowed null name
-  StandsFor : (id : ℕ) (kind : Kind) → stands_for store name ≡ Some id → kind_in store id ≡ Some kind
-      → is_member allowed kind ≡ true → is_pointer kind ≡ false → Resolves store allowed null name
+pub data Resolves (store : ObjectMap) (allowed : Kinds) (null : Bool) (id : ℕ) : Type 0 where
+  Null : id ≡ null_id → null ≡ true → Resolves store allowed null id
+  NullPointer : pointer_value (finite.get store id) ≡ Some null_id → Resolves store allowed null id
+  ResolvesTo : (element : ℕ) (kind : Kind) → resolves_to store id ≡ Some element → kind_in store element ≡ Some kind
+      → is_member allowed kind ≡ true → is_pointer kind ≡ false → Resolves store allowed null id
 
 -- all IDs that an object draws within itself are found
 abbrev pub AllResolveIn : ObjectMap → ℕ → Type 0

@@ -4,7 +4,7 @@ use Rattle.std.specs.FinMap as finite
 use Rattle.vt_kinds.specs.declared.entries.Child.{Child}
 use Rattle.vt_stores.specs.Stores.{ObjectMap}
 use Rattle.vt_chains.specs.Limits.{terminal}
-use Rattle.vt_shown.specs.ShownElements.{stands_for}
+use Rattle.vt_shown.specs.ShownElements.{resolves_to}
 use Rattle.vt_layout.specs.declared.element.Element.{Element}
 use Rattle.vt_layout.specs.declared.element.Position.{Position}
 use Rattle.vt_layout.specs.Drawings.{origin, shifted, element, entries_in, mask_entries, key_entries}
@@ -22,7 +22,7 @@ with_drawn draws store (Some e) = e ∷ draws (entries_in store (finite.get stor
 abbrev pub each_from : Draws → ObjectMap → ℕ → List Child → Position → List Element
 each_from draws store place [] from = []
 each_from draws store place (entry ∷ entries) from =
-    with_drawn draws store (element store place (shifted from entry) (stands_for store entry.id)) ++ each_from draws store (suc place) entries from
+    with_drawn draws store (element store place (shifted from entry) (resolves_to store entry.id)) ++ each_from draws store (suc place) entries from
 
 unfoldable pub elements : ℕ → ObjectMap → Draws
 elements zero store entries from = []

@@ -7,7 +7,7 @@ ghost use Rattle.std.specs.FinMap as finite;
 ghost use Rattle.vt_kinds.specs.declared.object.Object.TheVariants as objects;
 ghost use Rattle.vt_kinds.specs.Ids.{null_id};
 ghost use Rattle.vt_kinds.specs.Records.{seen};
-ghost use Rattle.vt_shown.specs.ShownElements.{stands_for, item_of, number_shown, keys_of};
+ghost use Rattle.vt_shown.specs.ShownElements.{resolves_to, item_of, number_shown, keys_of};
 ghost use Rattle.vt_layout.specs.Drawings.{element, entries_in, unmoved, origin};
 ghost use Rattle.vt_layout.specs.PageTexts.{with_elements, IsNear};
 ghost use Rattle.vt_layout.specs.Walks.{elements, with_drawn, each_from, drawing};
@@ -17,7 +17,7 @@ use crate::page::Page;
 use std::alloc::AllocError;
 use vt_chains::TERMINAL_LIMITS;
 use vt_objects::{Child, Container, InputList, Object, ObjectId, Store};
-use vt_shown::{is_element, number_shown, soft_key_mask, standing};
+use vt_shown::{is_element, number_shown, resolve, soft_key_mask};
 
 /// The most inclusions in a chain.
 const MOST_INCLUSIONS: u8 = TERMINAL_LIMITS.inclusions;
@@ -103,12 +103,12 @@ fn draw_entry<S: Store>(
     page: &mut Page,
 ) -> Result<(), AllocError>
     requires { IsNear depth at }
-    ensures { OnOk result (page.new ≡ with_elements (S.contents store.now) (with_drawn (elements depth (S.contents store.now)) (S.contents store.now) (element (S.contents store.now) place at (stands_for (S.contents store.now) id))) page.old) }
+    ensures { OnOk result (page.new ≡ with_elements (S.contents store.now) (with_drawn (elements depth (S.contents store.now)) (S.contents store.now) (element (S.contents store.now) place at (resolves_to (S.contents store.now) id))) page.old) }
 {
     if page.is_full() {
         return Ok(());
     }
-    match standing(store, id) {
+    match resolve(store, id) {
         Some(found) if is_element(found.1) => {
             let id = found.0;
             page.put(store, Element { place, id, at }, found.1)?;

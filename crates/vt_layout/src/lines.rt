@@ -4,13 +4,13 @@ ghost use Rattle.std.specs.Prelude.{◌≡◌, ◌++◌, [], if◌then◌else◌
 ghost use Rattle.std.specs.Fmt.{decimal};
 ghost use Rattle.vt_kinds.specs.declared.object.Object.TheVariants as objects;
 ghost use Rattle.vt_kinds.specs.Records.{seen};
-ghost use Rattle.vt_layout.specs.Lines.{line_of, described, switched, standing, size_text, number_text, coded};
+ghost use Rattle.vt_layout.specs.Lines.{line_of, described, switched, positioned, size_text, number_text, coded};
 ghost use Rattle.vt_machine.specs.OperatorActions.{is_enabled};
 
 use crate::element::Element;
 use crate::texts::{
-    write_code, write_decision, write_number, write_quoted, write_shown, write_size,
-    write_standing, write_value,
+    write_code, write_decision, write_number, write_positioned, write_quoted, write_shown,
+    write_size, write_value,
 };
 use crate::values::text_shown;
 use std::alloc::AllocError;
@@ -58,7 +58,7 @@ fn describe<S: Store>(
     ensures { OnOk result (text.new.items ≡ text.old.items ++ described (S.contents store.now) element (Some (seen object.now))) }
 {
     match object {
-        Object::WorkingSet(_) => write_standing(text, b"workset", element),
+        Object::WorkingSet(_) => write_positioned(text, b"workset", element),
         Object::Container(o) => describe_box(text, b"container", element, o.width, o.height),
         Object::Key(o) => describe_key(text, element, o),
         Object::Button(o) => describe_button(text, element, o),
@@ -88,9 +88,9 @@ fn describe_box(
     width: u16,
     height: u16,
 ) -> Result<(), AllocError>
-    ensures { OnOk result (text.new.items ≡ text.old.items ++ (standing name.now element ++ size_text width height)) }
+    ensures { OnOk result (text.new.items ≡ text.old.items ++ (positioned name.now element ++ size_text width height)) }
 {
-    write_standing(text, name, element)?;
+    write_positioned(text, name, element)?;
     write_size(text, width, height)
 }
 
@@ -105,7 +105,7 @@ fn describe_key(text: &mut Vec<u8>, element: Element, o: &Key) -> Result<(), All
 
 /// Writes the line of a button, with its key code.
 fn describe_button(text: &mut Vec<u8>, element: Element, o: &Button) -> Result<(), AllocError>
-    ensures { OnOk result (text.new.items ≡ text.old.items ++ (standing (codes "button") element ++ (size_text o.now.width o.now.height ++ coded o.now.key_code))) }
+    ensures { OnOk result (text.new.items ≡ text.old.items ++ (positioned (codes "button") element ++ (size_text o.now.width o.now.height ++ coded o.now.key_code))) }
 {
     describe_box(text, b"button", element, o.width, o.height)?;
     write_code(text, o.key_code)
@@ -113,7 +113,7 @@ fn describe_button(text: &mut Vec<u8>, element: Element, o: &Button) -> Result<(
 
 /// Writes the line of a Line object, with its direction.
 fn describe_direction(text: &mut Vec<u8>, element: Element, o: &Line) -> Result<(), AllocError>
-    ensures { OnOk result (text.new.items ≡ text.old.items ++ (standing (codes "line") element ++ (size_text o.now.width o.now.height ++ number_text o.now.direction))) }
+    ensures { OnOk result (text.new.items ≡ text.old.items ++ (positioned (codes "line") element ++ (size_text o.now.width o.now.height ++ number_text o.now.direction))) }
 {
     describe_box(text, b"line", element, o.width, o.height)?;
     write_number(text, u32::from(o.direction))
@@ -121,9 +121,9 @@ fn describe_direction(text: &mut Vec<u8>, element: Element, o: &Line) -> Result<
 
 /// Writes the line of a picture, with its displayed width.
 fn describe_picture(text: &mut Vec<u8>, element: Element, width: u16) -> Result<(), AllocError>
-    ensures { OnOk result (text.new.items ≡ text.old.items ++ (standing (codes "picture") element ++ number_text width)) }
+    ensures { OnOk result (text.new.items ≡ text.old.items ++ (positioned (codes "picture") element ++ number_text width)) }
 {
-    write_standing(text, b"picture", element)?;
+    write_positioned(text, b"picture", element)?;
     write_number(text, u32::from(width))
 }
 
@@ -136,7 +136,7 @@ fn describe_boolean<S: Store>(
 ) -> Result<(), AllocError>
     ensures { OnOk result (text.new.items ≡ text.old.items ++ described (S.contents store.now) element (Some (objects.InputBoolean o.now))) }
 {
-    write_standing(text, b"boolean", element)?;
+    write_positioned(text, b"boolean", element)?;
     let value = number_shown(store, o.variable, u32::from(o.value));
     write_decision(text, value)
 }
@@ -150,7 +150,7 @@ fn describe_input<S: Store>(
 ) -> Result<(), AllocError>
     ensures { OnOk result (text.new.items ≡ text.old.items ++ described (S.contents store.now) element (Some (seen (objects.InputString o.now)))) }
 {
-    write_standing(text, b"input", element)?;
+    write_positioned(text, b"input", element)?;
     write_quoted(text, text_shown(store, o.variable, o.text.as_slice()))
 }
 
@@ -163,7 +163,7 @@ fn describe_text<S: Store>(
 ) -> Result<(), AllocError>
     ensures { OnOk result (text.new.items ≡ text.old.items ++ described (S.contents store.now) element (Some (seen (objects.OutputString o.now)))) }
 {
-    write_standing(text, b"text", element)?;
+    write_positioned(text, b"text", element)?;
     write_quoted(text, text_shown(store, o.variable, o.text.as_slice()))
 }
 
@@ -176,7 +176,7 @@ fn describe_input_number<S: Store>(
 ) -> Result<(), AllocError>
     ensures { OnOk result (text.new.items ≡ text.old.items ++ described (S.contents store.now) element (Some (objects.InputNumber o.now))) }
 {
-    write_standing(text, b"number", element)?;
+    write_positioned(text, b"number", element)?;
     let value = number_shown(store, o.variable, o.value);
     write_shown(text, value, o.offset, o.scale, o.decimals)
 }
@@ -190,7 +190,7 @@ fn describe_output_number<S: Store>(
 ) -> Result<(), AllocError>
     ensures { OnOk result (text.new.items ≡ text.old.items ++ described (S.contents store.now) element (Some (objects.OutputNumber o.now))) }
 {
-    write_standing(text, b"value", element)?;
+    write_positioned(text, b"value", element)?;
     let value = number_shown(store, o.variable, o.value);
     write_shown(text, value, o.offset, o.scale, o.decimals)
 }
@@ -204,7 +204,7 @@ fn describe_list<S: Store>(
 ) -> Result<(), AllocError>
     ensures { OnOk result (text.new.items ≡ text.old.items ++ described (S.contents store.now) element (Some (objects.InputList o.now))) }
 {
-    write_standing(text, b"list", element)?;
+    write_positioned(text, b"list", element)?;
     write_value(text, number_shown(store, o.variable, u32::from(o.value)))
 }
 
@@ -217,7 +217,7 @@ fn describe_meter<S: Store>(
 ) -> Result<(), AllocError>
     ensures { OnOk result (text.new.items ≡ text.old.items ++ described (S.contents store.now) element (Some (objects.Meter o.now))) }
 {
-    write_standing(text, b"meter", element)?;
+    write_positioned(text, b"meter", element)?;
     write_value(text, number_shown(store, o.variable, u32::from(o.value)))
 }
 

@@ -14,12 +14,12 @@ use vt_objects::{Decimal, Decimals, Scale, push_number};
 const MOST_OF_TEXT: usize = 64;
 
 /// Writes the name of a kind, the ID and the position of an element.
-pub(crate) fn write_standing(
+pub(crate) fn write_positioned(
     text: &mut Vec<u8>,
     name: &[u8],
     element: Element,
 ) -> Result<(), AllocError>
-    ensures { OnOk result (text.new.items ≡ text.old.items ++ parts.standing name.now element) }
+    ensures { OnOk result (text.new.items ≡ text.old.items ++ parts.positioned name.now element) }
 {
     text.extend_from_slice(name)?;
     push_number(text, b" ", element.id.raw())?;

@@ -31,8 +31,8 @@ use Rattle.vt_machine.proofs.StateBeforeAndAfter.{kind_stays, marks_stay}
 -- the same object is marked in stores with the same IDs
 mark_then : (old new : ObjectMap) (marks : List Bool) (id : ℕ) → shape_in new ≡ shape_in old → IsMarked old marks id → IsMarked new marks id
 mark_then old new marks id shape is = record {
-  place = is.place;
-  there = subst (λ (ids : List ℕ). IsIdAt ids is.place id) (sym (ids_by new old shape)) is.there;
+  index = is.index;
+  there = subst (λ (ids : List ℕ). IsIdAt ids is.index id) (sym (ids_by new old shape)) is.there;
   set = is.set;
 }
 
@@ -100,7 +100,7 @@ mark_at m id index marks mark at each is =
 pub mark_shows : (m : ObjectMap) (id index : ℕ) (marks : List Bool) (mark : Bool) → IsPlace (finite.entries m) id index → AreSomeShown m (active_in m) marks
     → mark ≡ get_or marks index mark → mark ≡ true → IsShown m (active_in m) id
 mark_shows m id index marks mark at are is set =
-    are.shown id (record { place = index; there = stands_of (finite.entries m) index id at.object at.there; set = mark_at m id index marks mark at are.each is ∙ set })
+    are.shown id (record { index = index; there = stands_of (finite.entries m) index id at.object at.there; set = mark_at m id index marks mark at are.each is ∙ set })
 
 -- with all objects marked that are shown, an object without a mark is not shown
 pub mark_hides : (m : ObjectMap) (id index : ℕ) (marks : List Bool) (mark : Bool) → IsPlace (finite.entries m) id index → AreShown m (active_in m) marks

@@ -9,7 +9,7 @@ use Rattle.vt_kinds.specs.Records.{Seen}
 use Rattle.vt_stores.specs.Stores.{ObjectMap}
 use Rattle.vt_effects.specs.Looks.{look, HaveSameLook}
 use Rattle.vt_macros.specs.Machines.{mask_of}
-use Rattle.vt_shown.specs.ShownElements.{behind, stands_for, is_element, number_in, number_shown, item_of, drawn_in, soft_key_mask_of, keys_of, soft_keys, IsNamed, IsShown}
+use Rattle.vt_shown.specs.ShownElements.{behind, resolves_to, is_element, number_in, number_shown, item_of, drawn_in, soft_key_mask_of, keys_of, soft_keys, IsResolved, IsShown}
 use Rattle.vt_shown.specs.ShownElements.IsShown.{InMask, AmongKeys, Within}
 
 -- ---- an object and its look have the same parts in a drawing
@@ -57,7 +57,7 @@ module _ (old new : ObjectMap) (same : HaveSameLook old new) where
   pub same_element : (id : ℕ) → is_element (finite.get new id) ≡ is_element (finite.get old id)
   same_element id = by_look is_element element_look id
 
-  pub same_object : (id : ℕ) → stands_for new id ≡ stands_for old id
+  pub same_object : (id : ℕ) → resolves_to new id ≡ resolves_to old id
   same_object id = through (finite.get new id) ∙ by_look (behind old id) (behind_look old id) id
     where
       through : (o : Option Seen) → behind new id o ≡ behind old id o
@@ -81,19 +81,19 @@ module _ (old new : ObjectMap) (same : HaveSameLook old new) where
   pub same_active : (id : ℕ) → mask_of (finite.get new id) ≡ mask_of (finite.get old id)
   same_active id = by_look mask_of active_look id
 
-  same_named : (names : List ℕ) (id : ℕ) → IsNamed old names id → IsNamed new names id
-  same_named names id named = record {
-    name = named.name;
-    among = named.among;
-    stands = same_object named.name ∙ named.stands;
-    element = subst IsTrue (sym (same_element id)) named.element;
+  same_resolved : (ids : List ℕ) (id : ℕ) → IsResolved old ids id → IsResolved new ids id
+  same_resolved ids id resolved = record {
+    id = resolved.id;
+    among = resolved.among;
+    resolves = same_object resolved.id ∙ resolved.resolves;
+    is_element = subst IsTrue (sym (same_element id)) resolved.is_element;
   }
 
   pub shown_then : (mask id : ℕ) → IsShown old mask id → IsShown new mask id
-  shown_then mask id (InMask _ named) = InMask id (subst (λ (names : List ℕ). IsNamed new names id) (sym (same_drawn mask)) (same_named _ id named))
-  shown_then mask id (AmongKeys _ named) = AmongKeys id (subst (λ (names : List ℕ). IsNamed new names id) (sym (same_soft_keys mask)) (same_named _ id named))
-  shown_then mask other (Within id _ shown named) =
-      Within id other (shown_then mask id shown) (subst (λ (names : List ℕ). IsNamed new names other) (sym (same_drawn id)) (same_named _ other named))
+  shown_then mask id (InMask _ resolved) = InMask id (subst (λ (ids : List ℕ). IsResolved new ids id) (sym (same_drawn mask)) (same_resolved _ id resolved))
+  shown_then mask id (AmongKeys _ resolved) = AmongKeys id (subst (λ (ids : List ℕ). IsResolved new ids id) (sym (same_soft_keys mask)) (same_resolved _ id resolved))
+  shown_then mask other (Within id _ shown resolved) =
+      Within id other (shown_then mask id shown) (subst (λ (ids : List ℕ). IsResolved new ids other) (sym (same_drawn id)) (same_resolved _ other resolved))
 
 pub look_back : (old new : ObjectMap) → HaveSameLook old new → HaveSameLook new old
 look_back old new same id = sym (same id)

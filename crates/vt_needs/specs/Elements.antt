@@ -5,7 +5,7 @@ use Rattle.std.specs.Option.{option_map, option_to_list}
 use Rattle.vt_kinds.specs.declared.entries.Child.{Child}
 use Rattle.vt_kinds.specs.declared.object.Object.TheVariants as object
 use Rattle.vt_kinds.specs.Records.{Seen}
-use Rattle.vt_shown.specs.ShownElements.{stands_for}
+use Rattle.vt_shown.specs.ShownElements.{resolves_to}
 use Rattle.vt_stores.specs.Stores.{Objects, map_of}
 use Rattle.vt_needs.specs.declared.elements.Extent.{Extent}
 use Rattle.vt_needs.specs.declared.sizes.Area.{Area}
@@ -63,7 +63,7 @@ element_for objects parent index child (Some id) = option_map (element_of parent
 
 -- the element of a child: of its object, or of the value of its pointer
 abbrev pub element : Objects → ℕ → ℕ → Child → Option Element
-element objects parent index child = element_for objects parent index child (stands_for (map_of objects) child.id)
+element objects parent index child = element_for objects parent index child (resolves_to (map_of objects) child.id)
 
 -- the elements of children, with their indices
 abbrev pub elements_from : Objects → ℕ → ℕ → List Child → List Element

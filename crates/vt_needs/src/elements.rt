@@ -8,7 +8,7 @@ ghost use Rattle.vt_needs.specs.Elements as elements;
 use crate::sizes::{Area, Sizes};
 use crate::warning::Element;
 use vt_objects::{Child, Object, ObjectId, SortedStore};
-use vt_shown::standing;
+use vt_shown::resolve;
 
 /// The area that an object takes, in pixels.
 #[derive(Clone, Copy, Debug, PartialEq, Eq)]
@@ -64,7 +64,7 @@ pub(crate) fn element(
     ensures element { result ≡ elements.element objects.now parent index child }
     ensures most { IfSome result (λ e. elements.IsSized e.width e.height) }
 {
-    match standing(objects, child.id) {
+    match resolve(objects, child.id) {
         None => None,
         Some(found) => {
             let Extent { width, height } = extent_of(found.1)?;

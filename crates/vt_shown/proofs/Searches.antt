@@ -16,22 +16,22 @@ use Rattle.vt_chains.proofs.Elements.{Contains-nil, Contains-head}
 use Rattle.vt_chains.proofs.InclusionsInStore.{stands}
 use Rattle.vt_chains.proofs.IdIndices.{once, same_id, stands_of, within, missing_nowhere}
 use Rattle.vt_shown.specs.Marks.{IsMarked, AreSomeShown, AreShown, HasDrawingMarked, Searched, MarksShown, children_drawn, item_drawn}
-use Rattle.vt_shown.specs.ShownElements.{stands_for, is_element, ids_in, drawn_in, soft_keys, IsNamed, IsShown}
+use Rattle.vt_shown.specs.ShownElements.{resolves_to, is_element, ids_in, drawn_in, soft_keys, IsResolved, IsShown}
 use Rattle.vt_shown.specs.ShownElements.IsShown.{InMask, AmongKeys, Within}
-use Rattle.vt_shown.proofs.DrawnElements.{drawn_parts, named_case, named_falls, named_left, named_right, only_name}
+use Rattle.vt_shown.proofs.DrawnElements.{drawn_parts, resolved_case, resolved_falls, resolved_left, resolved_right, only_id}
 
 -- ---- one search after another
 
 pub searched_none : (m : ObjectMap) (marks : List Bool) → Searched m [] marks marks
-searched_none m marks = record { kept = λ id is. is; added = λ id is. absurd (Contains-nil is.name is.among); drawn = λ id is. inl is }
+searched_none m marks = record { kept = λ id is. is; added = λ id is. absurd (Contains-nil is.id is.among); drawn = λ id is. inl is }
 
 drawn_kept : (m : ObjectMap) (b c : List Bool) (id : ℕ) → ((other : ℕ) → IsMarked m b other → IsMarked m c other) → HasDrawingMarked m b id → HasDrawingMarked m c id
-drawn_kept m b c id kept drawn other named = kept other (drawn other named)
+drawn_kept m b c id kept drawn other resolved = kept other (drawn other resolved)
 
 pub searched_more : (m : ObjectMap) (xs ys : List ℕ) (a b c : List Bool) → Searched m xs a b → Searched m ys b c → Searched m (xs ++ ys) a c
 searched_more m xs ys a b c one other = record {
   kept = λ id is. other.kept id (one.kept id is);
-  added = λ id is. named_case (IsMarked m c id) m xs ys id is (λ named. other.kept id (one.added id named)) (other.added id);
+  added = λ id is. resolved_case (IsMarked m c id) m xs ys id is (λ resolved. other.kept id (one.added id resolved)) (other.added id);
   drawn = λ id is. elim (other.drawn id is) as (λ _. IsMarked m a id ⊎ HasDrawingMarked m c id) [
     | inl was ↦ elim (one.drawn id was) as (λ _. IsMarked m a id ⊎ HasDrawingMarked m c id) [
       | inl before ↦ inl before
@@ -42,79 +42,79 @@ searched_more m xs ys a b c one other = record {
 }
 
 -- searching one more listed ID
-pub searched_next : (m : ObjectMap) (names : List ℕ) (i name : ℕ) (a b c : List Bool) → i < length names → name ≡ get_or names i 0 → Searched m (take i names) a b
-    → Searched m (name ∷ []) b c → Searched m (take (i + 1) names) a c
-searched_next m names i name a b c lt is before next =
-    subst (λ (xs : List ℕ). Searched m xs a c) (sym (take_more names i 0 lt))
-    (searched_more m (take i names) (get_or names i 0 ∷ []) a b c before (subst (λ (n : ℕ). Searched m (n ∷ []) b c) is next))
+pub searched_next : (m : ObjectMap) (ids : List ℕ) (i listed : ℕ) (a b c : List Bool) → i < length ids → listed ≡ get_or ids i 0 → Searched m (take i ids) a b
+    → Searched m (listed ∷ []) b c → Searched m (take (i + 1) ids) a c
+searched_next m ids i listed a b c lt is before next =
+    subst (λ (xs : List ℕ). Searched m xs a c) (sym (take_more ids i 0 lt))
+    (searched_more m (take i ids) (get_or ids i 0 ∷ []) a b c before (subst (λ (n : ℕ). Searched m (n ∷ []) b c) is next))
 
-pub shown_none : (m : ObjectMap) (names : List ℕ) (marks : List Bool) → MarksShown m names marks marks
-shown_none m names marks mask shown are = are
+pub shown_none : (m : ObjectMap) (ids : List ℕ) (marks : List Bool) → MarksShown m ids marks marks
+shown_none m ids marks mask shown are = are
 
 pub shown_more : (m : ObjectMap) (xs ys : List ℕ) (a b c : List Bool) → MarksShown m xs a b → MarksShown m ys b c → MarksShown m (xs ++ ys) a c
 shown_more m xs ys a b c one other mask shown are =
-    other mask (λ id named. shown id (named_right m xs ys id named)) (one mask (λ id named. shown id (named_left m xs ys id named)) are)
+    other mask (λ id resolved. shown id (resolved_right m xs ys id resolved)) (one mask (λ id resolved. shown id (resolved_left m xs ys id resolved)) are)
 
-pub shown_next : (m : ObjectMap) (names : List ℕ) (i name : ℕ) (a b c : List Bool) → i < length names → name ≡ get_or names i 0 → MarksShown m (take i names) a b
-    → MarksShown m (name ∷ []) b c → MarksShown m (take (i + 1) names) a c
-shown_next m names i name a b c lt is before next =
-    subst (λ (xs : List ℕ). MarksShown m xs a c) (sym (take_more names i 0 lt))
-    (shown_more m (take i names) (get_or names i 0 ∷ []) a b c before (subst (λ (n : ℕ). MarksShown m (n ∷ []) b c) is next))
+pub shown_next : (m : ObjectMap) (ids : List ℕ) (i listed : ℕ) (a b c : List Bool) → i < length ids → listed ≡ get_or ids i 0 → MarksShown m (take i ids) a b
+    → MarksShown m (listed ∷ []) b c → MarksShown m (take (i + 1) ids) a c
+shown_next m ids i listed a b c lt is before next =
+    subst (λ (xs : List ℕ). MarksShown m xs a c) (sym (take_more ids i 0 lt))
+    (shown_more m (take i ids) (get_or ids i 0 ∷ []) a b c before (subst (λ (n : ℕ). MarksShown m (n ∷ []) b c) is next))
 
 -- a search of the first IDs of a list
-pub shown_part : (m : ObjectMap) (names : List ℕ) (i : ℕ) (a b : List Bool) → MarksShown m (take i names) a b → MarksShown m names a b
-shown_part m names i a b part mask shown =
-    part mask (λ id named. shown id (record { name = named.name; among = among_all i names named.name named.among; stands = named.stands; element = named.element }))
+pub shown_part : (m : ObjectMap) (ids : List ℕ) (i : ℕ) (a b : List Bool) → MarksShown m (take i ids) a b → MarksShown m ids a b
+shown_part m ids i a b part mask shown =
+    part mask (λ id resolved. shown id (record { id = resolved.id; among = among_all i ids resolved.id resolved.among; resolves = resolved.resolves; is_element = resolved.is_element }))
   where
-    among_all : (i : ℕ) (names : List ℕ) (name : ℕ) → Contains (take i names) name → Contains names name
-    among_all i names name h = subst (λ (xs : List ℕ). Contains xs name) (take-append-drop i names) (Contains-append_left (take i names) (drop i names) name h)
+    among_all : (i : ℕ) (ids : List ℕ) (listed : ℕ) → Contains (take i ids) listed → Contains ids listed
+    among_all i ids listed h = subst (λ (xs : List ℕ). Contains xs listed) (take-append-drop i ids) (Contains-append_left (take i ids) (drop i ids) listed h)
 
 -- ---- the element that an ID resolves to
 
-pub named_nothing : (m : ObjectMap) (name : ℕ) (marks : List Bool) → ((id : ℕ) → IsNamed m (name ∷ []) id → ⊥) → Searched m (name ∷ []) marks marks
-named_nothing m name marks none = record { kept = λ id is. is; added = λ id is. absurd (none id is); drawn = λ id is. inl is }
+pub resolved_nothing : (m : ObjectMap) (listed : ℕ) (marks : List Bool) → ((id : ℕ) → IsResolved m (listed ∷ []) id → ⊥) → Searched m (listed ∷ []) marks marks
+resolved_nothing m listed marks none = record { kept = λ id is. is; added = λ id is. absurd (none id is); drawn = λ id is. inl is }
 
 -- an ID resolves to one element
-one_named : (m : ObjectMap) (name id other : ℕ) → IsNamed m (name ∷ []) id → IsNamed m (name ∷ []) other → id ≡ other
-one_named m name id other one two =
+one_resolved : (m : ObjectMap) (listed id other : ℕ) → IsResolved m (listed ∷ []) id → IsResolved m (listed ∷ []) other → id ≡ other
+one_resolved m listed id other one two =
     same_Some id other
-    (sym (subst (λ (n : ℕ). stands_for m n ≡ Some id) (sym (only_name name one.name one.among)) one.stands)
-    ∙ subst (λ (n : ℕ). stands_for m n ≡ Some other) (sym (only_name name two.name two.among)) two.stands)
+    (sym (subst (λ (n : ℕ). resolves_to m n ≡ Some id) (sym (only_id listed one.id one.among)) one.resolves)
+    ∙ subst (λ (n : ℕ). resolves_to m n ≡ Some other) (sym (only_id listed two.id two.among)) two.resolves)
 
-pub named_marked : (m : ObjectMap) (name id place : ℕ) (marks : List Bool) → IsIdAt (ids_of m) place id → IsNamed m (name ∷ []) id
-    → slice_index_or marks place false ≡ true → Searched m (name ∷ []) marks marks
-named_marked m name id place marks there named set = record {
+pub resolved_marked : (m : ObjectMap) (listed id index : ℕ) (marks : List Bool) → IsIdAt (ids_of m) index id → IsResolved m (listed ∷ []) id
+    → slice_index_or marks index false ≡ true → Searched m (listed ∷ []) marks marks
+resolved_marked m listed id index marks there resolved set = record {
   kept = λ other is. is;
-  added = λ other is. subst (IsMarked m marks) (one_named m name id other named is) (record { place = place; there = there; set = set });
+  added = λ other is. subst (IsMarked m marks) (one_resolved m listed id other resolved is) (record { index = index; there = there; set = set });
   drawn = λ other is. inl is;
 }
 
-stays : (marks : List Bool) (place at : ℕ) → place < length marks → slice_index_or marks at false ≡ true → slice_index_or (set marks place true) at false ≡ true
-stays marks place at lt was = elim (cases_eq at place) as (λ _. slice_index_or (set marks place true) at false ≡ true) [
-  | inl same ↦ subst (λ (p : ℕ). slice_index_or (set marks place true) p false ≡ true) (sym same) (get_or-set_same marks place true false lt)
-  | inr differs ↦ get_or-set_other marks place at true false differs ∙ was
+stays : (marks : List Bool) (index at : ℕ) → index < length marks → slice_index_or marks at false ≡ true → slice_index_or (set marks index true) at false ≡ true
+stays marks index at lt was = elim (cases_eq at index) as (λ _. slice_index_or (set marks index true) at false ≡ true) [
+  | inl same ↦ subst (λ (p : ℕ). slice_index_or (set marks index true) p false ≡ true) (sym same) (get_or-set_same marks index true false lt)
+  | inr differs ↦ get_or-set_other marks index at true false differs ∙ was
 ]
 
 -- one more mark
-module _ (m : ObjectMap) (id place : ℕ) (marks : List Bool) (lt : place < length marks) (there : IsIdAt (ids_of m) place id) where
-  still_marked : (other : ℕ) → IsMarked m marks other → IsMarked m (set marks place true) other
-  still_marked other was = record { place = was.place; there = was.there; set = stays marks place was.place lt was.set }
+module _ (m : ObjectMap) (id index : ℕ) (marks : List Bool) (lt : index < length marks) (there : IsIdAt (ids_of m) index id) where
+  still_marked : (other : ℕ) → IsMarked m marks other → IsMarked m (set marks index true) other
+  still_marked other was = record { index = was.index; there = was.there; set = stays marks index was.index lt was.set }
 
-  now_marked : IsMarked m (set marks place true) id
-  now_marked = record { place = place; there = there; set = get_or-set_same marks place true false lt }
+  now_marked : IsMarked m (set marks index true) id
+  now_marked = record { index = index; there = there; set = get_or-set_same marks index true false lt }
 
-  mark_case : (other : ℕ) → IsMarked m (set marks place true) other → IsMarked m marks other ⊎ (id ≡ other)
-  mark_case other now = elim (cases_eq now.place place) as (λ _. IsMarked m marks other ⊎ (id ≡ other)) [
-    | inl same ↦ inr (same_id (ids_of m) place id other there (subst (λ (p : ℕ). IsIdAt (ids_of m) p other) same now.there))
-    | inr differs ↦ inl (record { place = now.place; there = now.there; set = sym (get_or-set_other marks place now.place true false differs) ∙ now.set })
+  mark_case : (other : ℕ) → IsMarked m (set marks index true) other → IsMarked m marks other ⊎ (id ≡ other)
+  mark_case other now = elim (cases_eq now.index index) as (λ _. IsMarked m marks other ⊎ (id ≡ other)) [
+    | inl same ↦ inr (same_id (ids_of m) index id other there (subst (λ (p : ℕ). IsIdAt (ids_of m) p other) same now.there))
+    | inr differs ↦ inl (record { index = now.index; there = now.there; set = sym (get_or-set_other marks index now.index true false differs) ∙ now.set })
   ]
 
   -- the element is marked, and then all within it is searched
-  pub searched_within : (name : ℕ) (new : List Bool) → IsNamed m (name ∷ []) id → Searched m (drawn_in m (finite.get m id)) (set marks place true) new
-      → Searched m (name ∷ []) marks new
-  searched_within name new named search = record {
+  pub searched_within : (listed : ℕ) (new : List Bool) → IsResolved m (listed ∷ []) id → Searched m (drawn_in m (finite.get m id)) (set marks index true) new
+      → Searched m (listed ∷ []) marks new
+  searched_within listed new resolved search = record {
     kept = λ other was. search.kept other (still_marked other was);
-    added = λ other is. subst (IsMarked m new) (one_named m name id other named is) (search.kept id now_marked);
+    added = λ other is. subst (IsMarked m new) (one_resolved m listed id other resolved is) (search.kept id now_marked);
     drawn = λ other is. elim (search.drawn other is) as (λ _. IsMarked m marks other ⊎ HasDrawingMarked m new other) [
       | inl was ↦ elim (mark_case other was) as (λ _. IsMarked m marks other ⊎ HasDrawingMarked m new other) [
         | inl before ↦ inl before
@@ -124,25 +124,25 @@ module _ (m : ObjectMap) (id place : ℕ) (marks : List Bool) (lt : place < leng
     ];
   }
 
-  pub shown_one : (name : ℕ) → IsNamed m (name ∷ []) id → MarksShown m (name ∷ []) marks (set marks place true)
-  shown_one name named mask shown are = record {
-    each = length-set marks place true ∙ are.each;
+  pub shown_one : (listed : ℕ) → IsResolved m (listed ∷ []) id → MarksShown m (listed ∷ []) marks (set marks index true)
+  shown_one listed resolved mask shown are = record {
+    each = length-set marks index true ∙ are.each;
     shown = λ other now. elim (mark_case other now) as (λ _. IsShown m mask other) [
       | inl was ↦ are.shown other was
-      | inr same ↦ subst (IsShown m mask) same (shown id named)
+      | inr same ↦ subst (IsShown m mask) same (shown id resolved)
     ];
   }
 
-  pub shown_within : (name : ℕ) (new : List Bool) → IsNamed m (name ∷ []) id → MarksShown m (drawn_in m (finite.get m id)) (set marks place true) new
-      → MarksShown m (name ∷ []) marks new
-  shown_within name new named search mask shown are =
-      search mask (λ other drawn. Within id other (shown id named) drawn) (shown_one name named mask shown are)
+  pub shown_within : (listed : ℕ) (new : List Bool) → IsResolved m (listed ∷ []) id → MarksShown m (drawn_in m (finite.get m id)) (set marks index true) new
+      → MarksShown m (listed ∷ []) marks new
+  shown_within listed new resolved search mask shown are =
+      search mask (λ other drawn. Within id other (shown id resolved) drawn) (shown_one listed resolved mask shown are)
 
 -- ---- the whole search
 
 pub none_shown : (m : ObjectMap) (mask : ℕ) (marks : List Bool) → length marks ≡ length (ids_of m) → ((at : ℕ) → slice_index_or marks at false ≡ false)
     → AreSomeShown m mask marks
-none_shown m mask marks each clear = record { each = each; shown = λ id is. absurd (no_mark (slice_index_or marks is.place false) (clear is.place) is.set) }
+none_shown m mask marks each clear = record { each = each; shown = λ id is. absurd (no_mark (slice_index_or marks is.index false) (clear is.index) is.set) }
   where
     no_mark : (b : Bool) → b ≡ false → b ≡ true → ⊥
     no_mark b off on = cc
@@ -169,45 +169,45 @@ all_shown m mask none drawn new clear first last are = record { each = are.each;
 
     within_too : (id : ℕ) → IsMarked m new id → HasDrawingMarked m new id
     within_too id is = elim (whole.drawn id is) as (λ _. HasDrawingMarked m new id) [
-      | inl never ↦ absurd (no_mark (slice_index_or none never.place false) (clear never.place) never.set)
+      | inl never ↦ absurd (no_mark (slice_index_or none never.index false) (clear never.index) never.set)
       | inr drawn ↦ drawn
     ]
 
     marked : (id : ℕ) → IsShown m mask id → IsMarked m new id
-    marked id (InMask _ named) = whole.added id (named_left m (drawn_in m (finite.get m mask)) (soft_keys m mask) id named)
-    marked id (AmongKeys _ named) = whole.added id (named_right m (drawn_in m (finite.get m mask)) (soft_keys m mask) id named)
-    marked other (Within id _ shown named) = within_too id (marked id shown) other named
+    marked id (InMask _ resolved) = whole.added id (resolved_left m (drawn_in m (finite.get m mask)) (soft_keys m mask) id resolved)
+    marked id (AmongKeys _ resolved) = whole.added id (resolved_right m (drawn_in m (finite.get m mask)) (soft_keys m mask) id resolved)
+    marked other (Within id _ shown resolved) = within_too id (marked id shown) other resolved
 
 -- ---- the index of an object
 
--- the index of the object that an ID stands for is that of an element that it names
-pub behind_index : (m : ObjectMap) (name id : ℕ) (o : Seen) (found : Option ℕ) → IfSome found (IsPlace (finite.entries m) id) → stands_for m name ≡ Some id
-    → finite.get m id ≡ Some o → is_element (Some o) ≡ true → IfSome found (λ index. (x : ℕ) × IsIdAt (ids_of m) index x × IsNamed m (name ∷ []) x)
-behind_index m name id o None at is got element = tt
-behind_index m name id o (Some index) at is got element = (
+-- the index of the object that an ID stands for is that of an element that it ids
+pub behind_index : (m : ObjectMap) (listed id : ℕ) (o : Seen) (found : Option ℕ) → IfSome found (IsPlace (finite.entries m) id) → resolves_to m listed ≡ Some id
+    → finite.get m id ≡ Some o → is_element (Some o) ≡ true → IfSome found (λ index. (x : ℕ) × IsIdAt (ids_of m) index x × IsResolved m (listed ∷ []) x)
+behind_index m listed id o None at is got element = tt
+behind_index m listed id o (Some index) at is got element = (
   id,
   stands_of (finite.entries m) index id at.object at.there,
-  record { name = name; among = Contains-head name []; stands = is; element = subst (λ (s : Option Seen). IsTrue (is_element s)) (sym got) element },
+  record { id = listed; among = Contains-head listed []; resolves = is; is_element = subst (λ (s : Option Seen). IsTrue (is_element s)) (sym got) element },
 )
 
 -- an element that an ID refers to directly
-pub direct_named : (m : ObjectMap) (name index : ℕ) → IsPlace (finite.entries m) name index → IsTrue (is_element (finite.get m name)) → stands_for m name ≡ Some name
-    → (x : ℕ) × IsIdAt (ids_of m) index x × IsNamed m (name ∷ []) x
-direct_named m name index at element is = (
-  name,
-  stands_of (finite.entries m) index name at.object at.there,
-  record { name = name; among = Contains-head name []; stands = is; element = element },
+pub direct_resolved : (m : ObjectMap) (listed index : ℕ) → IsPlace (finite.entries m) listed index → IsTrue (is_element (finite.get m listed)) → resolves_to m listed ≡ Some listed
+    → (x : ℕ) × IsIdAt (ids_of m) index x × IsResolved m (listed ∷ []) x
+direct_resolved m listed index at element is = (
+  listed,
+  stands_of (finite.entries m) index listed at.object at.there,
+  record { id = listed; among = Contains-head listed []; resolves = is; is_element = element },
 )
 
-pub clear_mark : (m : ObjectMap) (id place : ℕ) (marks : List Bool) → IsPlace (finite.entries m) id place → slice_index_or marks place false ≡ false
+pub clear_mark : (m : ObjectMap) (id index : ℕ) (marks : List Bool) → IsPlace (finite.entries m) id index → slice_index_or marks index false ≡ false
     → IsMarked m marks id → ⊥
-clear_mark m id place marks at clear is =
-    let same = once m is.place place id is.there (stands_of (finite.entries m) place id at.object at.there) in
+clear_mark m id index marks at clear is =
+    let same = once m is.index index id is.there (stands_of (finite.entries m) index id at.object at.there) in
     let never = sym is.set ∙ ap (λ (p : ℕ). slice_index_or marks p false) same ∙ clear in
     absurd cc
 
 pub missing_mark : (m : ObjectMap) (id : ℕ) (marks : List Bool) → finite.get m id ≡ None → IsMarked m marks id → ⊥
-missing_mark m id marks none is = missing_nowhere m is.place id is.there none
+missing_mark m id marks none is = missing_nowhere m is.index id is.there none
 
 pub cleared : (n : ℕ) (marks : List Bool) → marks ≡ replicate n false → (at : ℕ) → slice_index_or marks at false ≡ false
 cleared n marks is at = ap (λ (xs : List Bool). slice_index_or xs at false) is ∙ all_clear n at
@@ -226,25 +226,25 @@ parts_of m id o children items got are is =
     ap (drawn_in m) got ∙ drawn_parts m (Some o) ∙ ap (λ (cs : List Child). ids_in cs ++ item_drawn m (Some o)) (sym are) ∙ ap (λ (xs : List ℕ). ids_in children ++ xs) (sym is)
 
 -- an ID in the drawing of an object resolves to an element of a lesser level
-pub name_below : (m : ObjectMap) (levels : List ℕ) (index id name : ℕ) → IsCertificate (ids_of m) (inclusions_of m) levels → finite.get m null_id ≡ None
-    → IsIdAt (ids_of m) index id → Contains (drawn_in m (finite.get m id)) name → (other : ℕ) → IsNamed m (name ∷ []) other
+pub resolved_below : (m : ObjectMap) (levels : List ℕ) (index id listed : ℕ) → IsCertificate (ids_of m) (inclusions_of m) levels → finite.get m null_id ≡ None
+    → IsIdAt (ids_of m) index id → Contains (drawn_in m (finite.get m id)) listed → (other : ℕ) → IsResolved m (listed ∷ []) other
     → IsBelow (ids_of m) levels other (slice_index levels index)
-name_below m levels index id name certificate null there among other named =
-    named_falls m levels index id other certificate null there
-    (record { name = name; among = among; stands = subst (λ (n : ℕ). stands_for m n ≡ Some other) (sym (only_name name named.name named.among)) named.stands; element = named.element })
+resolved_below m levels index id listed certificate null there among other resolved =
+    resolved_falls m levels index id other certificate null there
+    (record { id = listed; among = among; resolves = subst (λ (n : ℕ). resolves_to m n ≡ Some other) (sym (only_id listed resolved.id resolved.among)) resolved.resolves; is_element = resolved.is_element })
 
 -- the ID of a child
 pub child_among : (children : List Child) (i : ℕ) (child : Child) → i < length children → child ≡ get_or children i child → get_or (ids_in children) i 0 ≡ child.id
 child_among children i child lt is = get_or-map (λ (c : Child). c.id) children i child 0 lt ∙ ap (λ (c : Child). c.id) (sym is)
 
-pub child_drawn : (m : ObjectMap) (id i name : ℕ) (children : List Child) (items : List ℕ) → drawn_in m (finite.get m id) ≡ ids_in children ++ items
-    → i < length children → get_or (ids_in children) i 0 ≡ name → Contains (drawn_in m (finite.get m id)) name
-child_drawn m id i name children items parts lt is =
-    subst (λ (xs : List ℕ). Contains xs name) (sym parts)
-    (Contains-append_left (ids_in children) items name
+pub child_drawn : (m : ObjectMap) (id i listed : ℕ) (children : List Child) (items : List ℕ) → drawn_in m (finite.get m id) ≡ ids_in children ++ items
+    → i < length children → get_or (ids_in children) i 0 ≡ listed → Contains (drawn_in m (finite.get m id)) listed
+child_drawn m id i listed children items parts lt is =
+    subst (λ (xs : List ℕ). Contains xs listed) (sym parts)
+    (Contains-append_left (ids_in children) items listed
     (let long = length-map children (λ (c : Child). c.id) in
     let inside : i < length (ids_in children) = omega (arith, lt, long) in
-    (i, inside, get_or_other (ids_in children) i name inside ∙ is)))
+    (i, inside, get_or_other (ids_in children) i listed inside ∙ is)))
   where
     get_or_other : (xs : List ℕ) (i d : ℕ) → i < length xs → get_or xs i d ≡ get_or xs i 0
     get_or_other [] i d lt = absurd (omega (arith, lt))
@@ -271,18 +271,18 @@ module _ (m : ObjectMap) (index id : ℕ) (children : List Child) (items : List 
   drawing_shown a b c one other = at_index (λ xs. MarksShown m xs a c) (shown_more m (ids_in children) items a b c one other)
 
 -- the whole list of IDs
-pub all_ids : (names : List ℕ) (i : ℕ) → length names ≤ i → take i names ≡ names
+pub all_ids : (ids : List ℕ) (i : ℕ) → length ids ≤ i → take i ids ≡ ids
 all_ids [] zero le = refl
 all_ids [] (suc i) le = refl
-all_ids (x ∷ names) zero le = absurd (omega (arith, le))
-all_ids (x ∷ names) (suc i) le = ap (λ (xs : List ℕ). x ∷ xs) (all_ids names i (omega (arith, le)))
+all_ids (x ∷ ids) zero le = absurd (omega (arith, le))
+all_ids (x ∷ ids) (suc i) le = ap (λ (xs : List ℕ). x ∷ xs) (all_ids ids i (omega (arith, le)))
 
 pub level_of : (m : ObjectMap) (levels : List ℕ) (index id level : ℕ) → IsIdAt (ids_of m) index id → IsBelow (ids_of m) levels id level → slice_index levels index < level
 level_of m levels index id level there below = subst (λ (p : ℕ). slice_index levels p < level) (once m below.index index id below.there there) below.less
 
 -- the level of each element is less than 33
-pub below_all : (m : ObjectMap) (levels : List ℕ) (name id : ℕ) → IsCertificate (ids_of m) (inclusions_of m) levels → IsNamed m (name ∷ []) id → IsBelow (ids_of m) levels id 33
-below_all m levels name id certificate named = from (finite.get m id) refl named.element
+pub below_all : (m : ObjectMap) (levels : List ℕ) (listed id : ℕ) → IsCertificate (ids_of m) (inclusions_of m) levels → IsResolved m (listed ∷ []) id → IsBelow (ids_of m) levels id 33
+below_all m levels listed id certificate resolved = from (finite.get m id) refl resolved.is_element
   where
     from : (o : Option Seen) → finite.get m id ≡ o → IsTrue (is_element o) → IsBelow (ids_of m) levels id 33
     from None at element = absurd cc

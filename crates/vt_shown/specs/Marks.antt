@@ -6,13 +6,13 @@ use Rattle.vt_kinds.specs.declared.object.Object.TheVariants as objects
 use Rattle.vt_kinds.specs.Records.{Seen}
 use Rattle.vt_stores.specs.Stores.{ObjectMap}
 use Rattle.vt_chains.specs.Depths.{ids_of, IsIdAt}
-use Rattle.vt_shown.specs.ShownElements.{drawn_in, item_of, number_shown, IsNamed, IsShown}
+use Rattle.vt_shown.specs.ShownElements.{drawn_in, item_of, number_shown, IsResolved, IsShown}
 
 -- the object of an ID is marked
 pub record IsMarked (store : ObjectMap) (marks : List Bool) (id : ℕ) : Type 0 where
-  pub place : ℕ
-  pub there : IsIdAt (ids_of store) place id
-  pub set : slice_index_or marks place false ≡ true
+  pub index : ℕ
+  pub there : IsIdAt (ids_of store) index id
+  pub set : slice_index_or marks index false ≡ true
 
 -- The mask shows each marked object.
 pub record AreSomeShown (store : ObjectMap) (mask : ℕ) (marks : List Bool) : Type 0 where
@@ -29,18 +29,18 @@ pub record AreShown (store : ObjectMap) (mask : ℕ) (marks : List Bool) : Type 
 
 -- the elements that an object draws are marked
 abbrev pub HasDrawingMarked : ObjectMap → List Bool → ℕ → Type 0
-HasDrawingMarked store marks id = (other : ℕ) → IsNamed store (drawn_in store (finite.get store id)) other → IsMarked store marks other
+HasDrawingMarked store marks id = (other : ℕ) → IsResolved store (drawn_in store (finite.get store id)) other → IsMarked store marks other
 
 -- A whole search from listed IDs: it marks the elements that they resolve to, and those that each newly marked object draws.
-pub record Searched (store : ObjectMap) (names : List ℕ) (old new : List Bool) : Type 0 where
+pub record Searched (store : ObjectMap) (ids : List ℕ) (old new : List Bool) : Type 0 where
   pub kept : (id : ℕ) → IsMarked store old id → IsMarked store new id
-  pub added : (id : ℕ) → IsNamed store names id → IsMarked store new id
+  pub added : (element : ℕ) → IsResolved store ids element → IsMarked store new element
   pub drawn : (id : ℕ) → IsMarked store new id → IsMarked store old id ⊎ HasDrawingMarked store new id
 
 -- A search from listed IDs, whole or not, marks only objects that a mask shows, if the mask shows the elements that the IDs
 -- resolve to.
 abbrev pub MarksShown : ObjectMap → List ℕ → List Bool → List Bool → Type 0
-MarksShown store names old new = (mask : ℕ) → ((id : ℕ) → IsNamed store names id → IsShown store mask id) → AreSomeShown store mask old → AreSomeShown store mask new
+MarksShown store ids old new = (mask : ℕ) → ((element : ℕ) → IsResolved store ids element → IsShown store mask element) → AreSomeShown store mask old → AreSomeShown store mask new
 
 -- the children that an object draws; none for a hidden container
 abbrev pub children_drawn : Option Seen → List Child

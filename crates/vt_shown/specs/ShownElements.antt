@@ -16,8 +16,8 @@ behind store id (Some (objects.ObjectPointer o)) = option_map (λ value. o.value
 behind store id (Some o) = Some id
 
 -- the ID that a listed ID resolves to; None if the object is missing, as for NULL
-abbrev pub stands_for : ObjectMap → ℕ → Option ℕ
-stands_for store id = behind store id (finite.get store id)
+abbrev pub resolves_to : ObjectMap → ℕ → Option ℕ
+resolves_to store id = behind store id (finite.get store id)
 
 -- whether an object is neither a pointer nor a hidden container
 abbrev pub is_element : Option Seen → Bool
@@ -74,15 +74,15 @@ soft_keys store mask = keys_of (finite.get store (soft_key_mask_of (finite.get s
 
 -- ---- shown elements
 
--- a listed ID resolves to the element `id`
-pub record IsNamed (store : ObjectMap) (names : List ℕ) (id : ℕ) : Type 0 where
-  pub name : ℕ
-  pub among : Contains names name
-  pub stands : stands_for store name ≡ Some id
-  pub element : IsTrue (is_element (finite.get store id))
+-- a listed ID resolves to an element
+pub record IsResolved (store : ObjectMap) (ids : List ℕ) (element : ℕ) : Type 0 where
+  pub id : ℕ
+  pub among : Contains ids id
+  pub resolves : resolves_to store id ≡ Some element
+  pub is_element : IsTrue (is_element (finite.get store element))
 
 -- an element is shown in the mask, among its soft keys, or within a shown element
 pub data IsShown (store : ObjectMap) (mask : ℕ) : ℕ → Type 0 where
-  InMask : (id : ℕ) → IsNamed store (drawn_in store (finite.get store mask)) id → IsShown store mask id
-  AmongKeys : (id : ℕ) → IsNamed store (soft_keys store mask) id → IsShown store mask id
-  Within : (id other : ℕ) → IsShown store mask id → IsNamed store (drawn_in store (finite.get store id)) other → IsShown store mask other
+  InMask : (id : ℕ) → IsResolved store (drawn_in store (finite.get store mask)) id → IsShown store mask id
+  AmongKeys : (id : ℕ) → IsResolved store (soft_keys store mask) id → IsShown store mask id
+  Within : (id other : ℕ) → IsShown store mask id → IsResolved store (drawn_in store (finite.get store id)) other → IsShown store mask other

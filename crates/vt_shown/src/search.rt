@@ -10,9 +10,9 @@ ghost use Rattle.vt_chains.specs.Depths.{ids_of, inclusions_of, IsBelow, IsIdAt}
 ghost use Rattle.vt_chains.specs.Certificates.{IsCertificate};
 ghost use Rattle.vt_shown.specs.Marks.{AreShown, AreSomeShown, Searched, MarksShown, children_drawn, item_drawn};
 ghost use Rattle.vt_shown.specs.ShownElements as showing;
-ghost use Rattle.vt_shown.specs.ShownElements.{drawn_in, soft_keys, stands_for, keys_of, IsNamed};
+ghost use Rattle.vt_shown.specs.ShownElements.{drawn_in, soft_keys, resolves_to, keys_of, IsResolved};
 
-use crate::showing::{is_element, number_shown, standing};
+use crate::showing::{is_element, number_shown, resolve};
 use crate::soft_keys::soft_key_mask;
 use vt_chains::{TERMINAL_LIMITS, entry};
 use vt_kinds::{Child, InputList, Object, ObjectId};
@@ -110,7 +110,7 @@ fn search_keys<S: Store>(
     ensures all { result ≡ false → Searched (S.contents store.now) keys.now marks.old marks.new }
 {
     for key in keys {
-        if search_named(store, levels, marks, *key, ABOVE_ALL, sought) {
+        if search_id(store, levels, marks, *key, ABOVE_ALL, sought) {
             return true;
         }
     }
@@ -139,36 +139,36 @@ fn search_drawing<S: Store>(
     let level = levels[index];
     let children = children_drawn(object);
     for child in children {
-        if search_named(store, levels, marks, child.id, level, sought) {
+        if search_id(store, levels, marks, child.id, level, sought) {
             return true;
         }
     }
     match item_drawn(store, object) {
-        Some(item) => search_named(store, levels, marks, item, level, sought),
+        Some(item) => search_id(store, levels, marks, item, level, sought),
         None => false,
     }
 }
 
 /// Searches the element that an ID resolves to, below a level, and the elements within it.
 #[cycle(search)]
-fn search_named<S: Store>(
+fn search_id<S: Store>(
     store: &S,
     levels: &[u8],
     marks: &mut [bool],
-    name: ObjectId,
+    id: ObjectId,
     level: u8,
     sought: usize,
 ) -> bool
     requires levels { IsCertificate (ids_of (S.contents store.now)) (inclusions_of (S.contents store.now)) levels.now }
     requires marks { length marks.old ≡ length (ids_of (S.contents store.now)) }
     requires null { finite.get (S.contents store.now) null_id ≡ None }
-    requires below { (id : ℕ) → IsNamed (S.contents store.now) (name ∷ []) id → IsBelow (ids_of (S.contents store.now)) levels.now id level }
-    ensures shown { MarksShown (S.contents store.now) (name ∷ []) marks.old marks.new }
+    requires below { (element : ℕ) → IsResolved (S.contents store.now) (id ∷ []) element → IsBelow (ids_of (S.contents store.now)) levels.now element level }
+    ensures shown { MarksShown (S.contents store.now) (id ∷ []) marks.old marks.new }
     ensures found { result ≡ true → slice_index_or marks.new sought false ≡ true }
     ensures not_found { result ≡ false → slice_index_or marks.new sought false ≡ slice_index_or marks.old sought false }
-    ensures all { result ≡ false → Searched (S.contents store.now) (name ∷ []) marks.old marks.new }
+    ensures all { result ≡ false → Searched (S.contents store.now) (id ∷ []) marks.old marks.new }
 {
-    let Some(index) = element_index(store, name) else {
+    let Some(index) = element_index(store, id) else {
         return false;
     };
     if marks[index] {
@@ -215,23 +215,23 @@ fn current_item<S: Store>(store: &S, list: &InputList) -> Option<ObjectId>
 }
 
 /// The index of the element that an ID resolves to, directly or through a pointer, if it is an element.
-fn element_index<S: Store>(store: &S, name: ObjectId) -> Option<usize>
-    ensures some { IfSome result (λ index. (id : ℕ) × IsIdAt (ids_of (S.contents store.now)) index id × IsNamed (S.contents store.now) (name ∷ []) id) }
-    ensures none { IfNone result ((id : ℕ) → IsNamed (S.contents store.now) (name ∷ []) id → ⊥) }
+fn element_index<S: Store>(store: &S, id: ObjectId) -> Option<usize>
+    ensures some { IfSome result (λ index. (element : ℕ) × IsIdAt (ids_of (S.contents store.now)) index element × IsResolved (S.contents store.now) (id ∷ []) element) }
+    ensures none { IfNone result ((element : ℕ) → IsResolved (S.contents store.now) (id ∷ []) element → ⊥) }
 {
-    match direct_index(store, name) {
+    match direct_index(store, id) {
         Some(index) => Some(index),
-        None => index_behind(store, name),
+        None => index_behind(store, id),
     }
 }
 
 /// The index of an element that an ID refers to directly, as nearly all IDs do. `None` for other IDs.
-fn direct_index<S: Store>(store: &S, name: ObjectId) -> Option<usize>
-    ensures { IfSome result (λ index. IsPlace (finite.entries (S.contents store.now)) name index
-        × IsTrue (showing.is_element (finite.get (S.contents store.now) name))
-        × (stands_for (S.contents store.now) name ≡ Some name)) }
+fn direct_index<S: Store>(store: &S, id: ObjectId) -> Option<usize>
+    ensures { IfSome result (λ index. IsPlace (finite.entries (S.contents store.now)) id index
+        × IsTrue (showing.is_element (finite.get (S.contents store.now) id))
+        × (resolves_to (S.contents store.now) id ≡ Some id)) }
 {
-    let index = store.place(name)?;
+    let index = store.place(id)?;
     if is_element_at(store, index) {
         return Some(index);
     }
@@ -249,11 +249,11 @@ fn is_element_at<S: Store>(store: &S, index: usize) -> bool
 }
 
 /// Like `element_index`, but looks the object up first: for pointers, hidden containers and missing IDs.
-fn index_behind<S: Store>(store: &S, name: ObjectId) -> Option<usize>
-    ensures some { IfSome result (λ index. (id : ℕ) × IsIdAt (ids_of (S.contents store.now)) index id × IsNamed (S.contents store.now) (name ∷ []) id) }
-    ensures none { IfNone result ((id : ℕ) → IsNamed (S.contents store.now) (name ∷ []) id → ⊥) }
+fn index_behind<S: Store>(store: &S, id: ObjectId) -> Option<usize>
+    ensures some { IfSome result (λ index. (element : ℕ) × IsIdAt (ids_of (S.contents store.now)) index element × IsResolved (S.contents store.now) (id ∷ []) element) }
+    ensures none { IfNone result ((element : ℕ) → IsResolved (S.contents store.now) (id ∷ []) element → ⊥) }
 {
-    let Some(found) = standing(store, name) else {
+    let Some(found) = resolve(store, id) else {
         return None;
     };
     if !is_element(found.1) {

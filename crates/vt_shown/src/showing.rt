@@ -1,4 +1,4 @@
-//! The objects that IDs in lists stand for, and the numbers that objects show.
+//! The objects that IDs in lists resolve to, and the numbers that objects show.
 
 ghost use Rattle.std.specs.Prelude.{◌≡◌, IfNone, IfSome, None, Some};
 ghost use Rattle.std.specs.FinMap as finite;
@@ -8,10 +8,10 @@ ghost use Rattle.vt_shown.specs.ShownElements as showing;
 use vt_kinds::{Object, ObjectId};
 use vt_stores::Store;
 
-/// The object that an ID in a list stands for, if it is there, and its own ID: a pointer stands for its value.
-pub fn standing<S: Store>(store: &S, id: ObjectId) -> Option<(ObjectId, &Object<Vec<u8>>)>
-    ensures some { IfSome result (λ found. (showing.stands_for (S.contents store.now) id ≡ Some found.0) × (finite.get (S.contents store.now) found.0 ≡ Some (seen found.1.now))) }
-    ensures none { IfNone result (showing.stands_for (S.contents store.now) id ≡ None) }
+/// The object that an ID in a list resolves to, if it is there, and its own ID: a pointer resolves to its value.
+pub fn resolve<S: Store>(store: &S, id: ObjectId) -> Option<(ObjectId, &Object<Vec<u8>>)>
+    ensures some { IfSome result (λ found. (showing.resolves_to (S.contents store.now) id ≡ Some found.0) × (finite.get (S.contents store.now) found.0 ≡ Some (seen found.1.now))) }
+    ensures none { IfNone result (showing.resolves_to (S.contents store.now) id ≡ None) }
 {
     match store.get(id) {
         None => None,

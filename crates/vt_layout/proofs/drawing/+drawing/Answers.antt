@@ -2,7 +2,7 @@ use Rattle.std.proofs.Common.{◌∙◌, refl, sym, ap, ◌+◌, ◌-◌, ◌≡
 use Rattle.vt_layout.specs.Drawings.{element, unmoved}
 use Rattle.vt_layout.specs.PageTexts.{with_elements, IsNear}
 use Rattle.vt_layout.specs.Walks.{elements, with_drawn}
-use Rattle.vt_shown.specs.ShownElements.{stands_for}
+use Rattle.vt_shown.specs.ShownElements.{resolves_to}
 use Rattle.vt_layout.proofs.EntriesOnPage.{becomes_next, level, no_level, full_page, none_drawn, none_within}
 use Rattle.vt_layout.proofs.drawing.+drawing.Goals as goal
 
@@ -33,12 +33,12 @@ draw_entries-loop-place-preserved g t c =
     becomes_next inner store c.args.entries.now c.args.from c.loop-place.place c.index-entries-place.result _ c.loop-place.page c.draw_entry.new.page
     (with_elements store (elements c.args.depth store c.args.entries.now c.args.from) c.args.page.now)
     c.loop-place-test.true (sym c.index-entries-place.is) c.loop-place.invariant
-    (c.in_ok-draw_entry.ensures ∙ ap (λ at. with_elements store (with_drawn inner store (element store c.loop-place.place at (stands_for store c.index-entries-place.result.id))) c.loop-place.page) c.shifted.ensures.is)
+    (c.in_ok-draw_entry.ensures ∙ ap (λ at. with_elements store (with_drawn inner store (element store c.loop-place.place at (resolves_to store c.index-entries-place.result.id))) c.loop-place.page) c.shifted.ensures.is)
 
 pub draw_entry-returns-then-is_full : goal.draw_entry-returns-then-is_full
 draw_entry-returns-then-is_full g t c =
     let store = g.S.Store.contents c.args.store.now in
-    full_page store (with_drawn (elements c.args.depth store) store (element store c.args.place c.args.at (stands_for store c.args.id))) c.args.page.now (c.if-is_full.ensures.0 refl)
+    full_page store (with_drawn (elements c.args.depth store) store (element store c.args.place c.args.at (resolves_to store c.args.id))) c.args.page.now (c.if-is_full.ensures.0 refl)
 
 pub draw_item-returns-in-None : goal.draw_item-returns-in-None
 draw_item-returns-in-None g t c =

@@ -7,8 +7,8 @@ use Rattle.vt_shown.proofs.search.+search.Given as goal
 abbrev pub decreases-search_drawing : goal.decreases-search_drawing
 decreases-search_drawing g l = 2 * slice_index l.levels.now l.index + 1
 
-abbrev pub decreases-search_named : goal.decreases-search_named
-decreases-search_named g l = 2 * l.level
+abbrev pub decreases-search_id : goal.decreases-search_id
+decreases-search_id g l = 2 * l.level
 
 abbrev pub invariant-search_drawing-loop-child : goal.invariant-search_drawing-loop-child
 invariant-search_drawing-loop-child g l = record {
