@@ -1,6 +1,5 @@
 -- The elements that an object draws are included, and have lesser levels.
 use Rattle.std.proofs.Common.{◌≡◌, ◌<◌, ◌≤◌, ℕ, zero, suc, Bool, true, false, cond, eqb, not, ◌&&◌, List, [], ◌∷◌, ◌++◌, map, filter, length, Option, Some, None, refl, sym, ap, subst, ◌∙◌, arith, inl, inr}
-use Rattle.std.proofs.lemmas.List.{append-nil}
 use Rattle.std.proofs.lemmas.List.Elements.{Contains-append_left, Contains-append_right, Contains-append_cases}
 use Rattle.std.proofs.lemmas.Bool.{ne_eqb}
 use Rattle.std.proofs.lemmas.Option.{slice_get_within, get_or_from_slice_get, same_Some}
@@ -25,7 +24,6 @@ use Rattle.vt_chains.proofs.InclusionsInStore.{stands}
 use Rattle.vt_chains.proofs.Elements.{Contains-nil, Contains-head, Contains-tail, cons_case}
 use Rattle.vt_chains.proofs.IdIndices.{within}
 use Rattle.vt_chains.specs.Certificates.{IsCertificate}
-use Rattle.vt_shown.specs.Marks.{children_drawn, item_drawn}
 use Rattle.vt_shown.specs.ShownElements.{behind, resolves_to, is_element, ids_in, item_of, drawn_in, IsResolved, IsShown}
 use Rattle.vt_shown.specs.ShownElements.IsShown.{InMask, AmongKeys, Within}
 use Rattle.vt_chains.proofs.Slots.{in_first}
@@ -177,20 +175,3 @@ pub shown_element : (m : ObjectMap) (mask id : ℕ) → IsShown m mask id → Is
 shown_element m mask id (InMask _ resolved) = resolved.is_element
 shown_element m mask id (AmongKeys _ resolved) = resolved.is_element
 shown_element m mask other (Within id _ shown resolved) = resolved.is_element
-
--- ---- children and the current item
-
--- an object draws its children, or its current item
-pub drawn_parts : (m : ObjectMap) (o : Option Seen) → drawn_in m o ≡ ids_in (children_drawn o) ++ item_drawn m o
-drawn_parts m (Some (objects.WorkingSet o)) = sym (append-nil (ids_in o.children))
-drawn_parts m (Some (objects.DataMask o)) = sym (append-nil (ids_in o.children))
-drawn_parts m (Some (objects.AlarmMask o)) = sym (append-nil (ids_in o.children))
-drawn_parts m (Some (objects.Container o)) = if_visible (eqb o.hidden 0) o.children ∙ sym (append-nil (ids_in (cond (eqb o.hidden 0) o.children [])))
-  where
-    if_visible : (b : Bool) (children : List Child) → cond b (ids_in children) [] ≡ ids_in (cond b children [])
-    if_visible true children = refl
-    if_visible false children = refl
-drawn_parts m (Some (objects.Key o)) = sym (append-nil (ids_in o.children))
-drawn_parts m (Some (objects.Button o)) = sym (append-nil (ids_in o.children))
-drawn_parts m (Some (objects.InputList o)) = refl
-drawn_parts m _ = refl

@@ -5,6 +5,7 @@ use Rattle.std.proofs.lemmas.List.Elements.{Contains-append_left, Contains-appen
 use Rattle.std.proofs.lemmas.Bool.{cases_eq}
 use Rattle.std.proofs.lemmas.Option.{same_Some}
 use Rattle.std.specs.Prelude.{Contains, IfSome, IsTrue, slice_get, slice_index, slice_index_or}
+use Rattle.std.specs.Option.{option_to_list}
 use Rattle.std.specs.FinMap as finite
 use Rattle.vt_kinds.specs.declared.entries.Child.{Child}
 use Rattle.vt_kinds.specs.Ids.{null_id}
@@ -15,10 +16,10 @@ use Rattle.vt_chains.specs.Depths.{IsBelow, IsIdAt, ids_of, inclusions_of}
 use Rattle.vt_chains.proofs.Elements.{Contains-nil, Contains-head}
 use Rattle.vt_chains.proofs.InclusionsInStore.{stands}
 use Rattle.vt_chains.proofs.IdIndices.{once, same_id, stands_of, within, missing_nowhere}
-use Rattle.vt_shown.specs.Marks.{IsMarked, AreSomeShown, AreShown, HasDrawingMarked, Searched, MarksShown, children_drawn, item_drawn}
+use Rattle.vt_shown.specs.Marks.{IsMarked, AreSomeShown, AreShown, HasDrawingMarked, Searched, MarksShown}
 use Rattle.vt_shown.specs.ShownElements.{resolves_to, is_element, ids_in, drawn_in, soft_keys, IsResolved, IsShown}
 use Rattle.vt_shown.specs.ShownElements.IsShown.{InMask, AmongKeys, Within}
-use Rattle.vt_shown.proofs.DrawnElements.{drawn_parts, resolved_case, resolved_falls, resolved_left, resolved_right, only_id}
+use Rattle.vt_shown.proofs.DrawnElements.{resolved_case, resolved_falls, resolved_left, resolved_right, only_id}
 
 -- ---- one search after another
 
@@ -220,10 +221,9 @@ cleared n marks is at = ap (λ (xs : List Bool). slice_index_or xs at false) is 
 -- ---- the drawing of an object
 
 -- an object's drawing, by its children and its current item
-pub parts_of : (m : ObjectMap) (id : ℕ) (o : Seen) (children : List Child) (items : List ℕ) → finite.get m id ≡ Some o → children ≡ children_drawn (Some o)
-    → items ≡ item_drawn m (Some o) → drawn_in m (finite.get m id) ≡ ids_in children ++ items
-parts_of m id o children items got are is =
-    ap (drawn_in m) got ∙ drawn_parts m (Some o) ∙ ap (λ (cs : List Child). ids_in cs ++ item_drawn m (Some o)) (sym are) ∙ ap (λ (xs : List ℕ). ids_in children ++ xs) (sym is)
+pub parts_of : (m : ObjectMap) (id : ℕ) (o : Seen) (children : List Child) (item other : Option ℕ) → finite.get m id ≡ Some o
+    → drawn_in m (Some o) ≡ ids_in children ++ option_to_list item → item ≡ other → drawn_in m (finite.get m id) ≡ ids_in children ++ option_to_list other
+parts_of m id o children item other got are is = ap (drawn_in m) got ∙ are ∙ ap (λ (x : Option ℕ). ids_in children ++ option_to_list x) is
 
 -- an ID in the drawing of an object resolves to an element of a lesser level
 pub resolved_below : (m : ObjectMap) (levels : List ℕ) (index id listed : ℕ) → IsCertificate (ids_of m) (inclusions_of m) levels → finite.get m null_id ≡ None
@@ -251,8 +251,8 @@ child_drawn m id i listed children items parts lt is =
     get_or_other (x ∷ xs) zero d lt = refl
     get_or_other (x ∷ xs) (suc i) d lt = get_or_other xs i d (omega (arith, lt))
 
-pub item_named : (m : ObjectMap) (id item : ℕ) (children : List Child) → drawn_in m (finite.get m id) ≡ ids_in children ++ (item ∷ []) → Contains (drawn_in m (finite.get m id)) item
-item_named m id item children parts =
+pub item_drawn : (m : ObjectMap) (id item : ℕ) (children : List Child) → drawn_in m (finite.get m id) ≡ ids_in children ++ (item ∷ []) → Contains (drawn_in m (finite.get m id)) item
+item_drawn m id item children parts =
     subst (λ (xs : List ℕ). Contains xs item) (sym parts) (Contains-append_right (ids_in children) (item ∷ []) item (Contains-head item []))
 
 -- the search of an object's drawing that ends at a child, or after the item

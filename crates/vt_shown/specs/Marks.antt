@@ -1,12 +1,9 @@
 -- Marks of the objects of a store, at the index of each object by rising ID.
-use Rattle.std.specs.Prelude.{◌≡◌, ◌⊎◌, ◌==◌, if◌then◌else◌, ℕ, Bool, true, false, List, [], length, slice_index_or, Option, Some}
+use Rattle.std.specs.Prelude.{◌≡◌, ◌⊎◌, ℕ, Bool, true, false, List, length, slice_index_or}
 use Rattle.std.specs.FinMap as finite
-use Rattle.vt_kinds.specs.declared.entries.Child.{Child}
-use Rattle.vt_kinds.specs.declared.object.Object.TheVariants as objects
-use Rattle.vt_kinds.specs.Records.{Seen}
 use Rattle.vt_stores.specs.Stores.{ObjectMap}
 use Rattle.vt_chains.specs.Depths.{ids_of, IsIdAt}
-use Rattle.vt_shown.specs.ShownElements.{drawn_in, item_of, number_shown, IsResolved, IsShown}
+use Rattle.vt_shown.specs.ShownElements.{drawn_in, IsResolved, IsShown}
 
 -- the object of an ID is marked
 pub record IsMarked (store : ObjectMap) (marks : List Bool) (id : ℕ) : Type 0 where
@@ -41,18 +38,3 @@ pub record Searched (store : ObjectMap) (ids : List ℕ) (old new : List Bool) :
 -- resolve to.
 abbrev pub MarksShown : ObjectMap → List ℕ → List Bool → List Bool → Type 0
 MarksShown store ids old new = (mask : ℕ) → ((element : ℕ) → IsResolved store ids element → IsShown store mask element) → AreSomeShown store mask old → AreSomeShown store mask new
-
--- the children that an object draws; none for a hidden container
-abbrev pub children_drawn : Option Seen → List Child
-children_drawn (Some (objects.WorkingSet o)) = o.children
-children_drawn (Some (objects.DataMask o)) = o.children
-children_drawn (Some (objects.AlarmMask o)) = o.children
-children_drawn (Some (objects.Container o)) = if o.hidden == 0 then o.children else []
-children_drawn (Some (objects.Key o)) = o.children
-children_drawn (Some (objects.Button o)) = o.children
-children_drawn _ = []
-
--- the current item of an input list
-abbrev pub item_drawn : ObjectMap → Option Seen → List ℕ
-item_drawn store (Some (objects.InputList o)) = item_of o.items (number_shown store o.variable o.value)
-item_drawn store _ = []

@@ -1,6 +1,6 @@
 //! The search for an object that a mask shows.
 
-ghost use Rattle.std.specs.Prelude.{◌≡◌, ◌<◌, ◌∷◌, ℕ, [], false, true, length, map, slice_get, slice_index_or, IfNone, IfSome, IsTrue, None, Some};
+ghost use Rattle.std.specs.Prelude.{◌≡◌, ◌<◌, ◌∷◌, ◌++◌, ℕ, [], false, true, length, map, slice_get, slice_index_or, IfNone, IfSome, IsTrue, None, Some};
 ghost use Rattle.std.specs.Option.{option_to_list};
 ghost use Rattle.std.specs.FinMap as finite;
 ghost use Rattle.vt_kinds.specs.Ids.{null_id};
@@ -8,9 +8,9 @@ ghost use Rattle.vt_kinds.specs.Records.{Seen, seen};
 ghost use Rattle.vt_stores.specs.Stores.{IsPlace};
 ghost use Rattle.vt_chains.specs.Depths.{ids_of, inclusions_of, IsBelow, IsIdAt};
 ghost use Rattle.vt_chains.specs.Certificates.{IsCertificate};
-ghost use Rattle.vt_shown.specs.Marks.{AreShown, AreSomeShown, Searched, MarksShown, children_drawn, item_drawn};
+ghost use Rattle.vt_shown.specs.Marks.{AreShown, AreSomeShown, Searched, MarksShown};
 ghost use Rattle.vt_shown.specs.ShownElements as showing;
-ghost use Rattle.vt_shown.specs.ShownElements.{drawn_in, soft_keys, resolves_to, keys_of, IsResolved};
+ghost use Rattle.vt_shown.specs.ShownElements.{drawn_in, ids_in, soft_keys, resolves_to, keys_of, IsResolved};
 
 use crate::showing::{is_element, number_shown, resolve};
 use crate::soft_keys::soft_key_mask;
@@ -137,13 +137,13 @@ fn search_drawing<S: Store>(
 {
     let (_, object) = entry(store, index);
     let level = levels[index];
-    let children = children_drawn(object);
+    let (children, item) = drawn_parts(store, object);
     for child in children {
         if search_id(store, levels, marks, child.id, level, sought) {
             return true;
         }
     }
-    match item_drawn(store, object) {
+    match item {
         Some(item) => search_id(store, levels, marks, item, level, sought),
         None => false,
     }
@@ -181,28 +181,22 @@ fn search_id<S: Store>(
     search_drawing(store, levels, marks, index, sought)
 }
 
-/// The children that an object draws. Empty for an object without children, and for a hidden container.
-fn children_drawn(object: &Object<Vec<u8>>) -> &[Child]
-    ensures { result.now ≡ children_drawn (Some (seen object.now)) }
+/// The children that an object draws, and the current item of an input list.
+fn drawn_parts<'a, S: Store>(
+    store: &S,
+    object: &'a Object<Vec<u8>>,
+) -> (&'a [Child], Option<ObjectId>)
+    ensures { drawn_in (S.contents store.now) (Some (seen object.now)) ≡ ids_in result.0.now ++ option_to_list result.1 }
 {
     match object {
-        Object::WorkingSet(o) => o.children.as_slice(),
-        Object::DataMask(o) => o.children.as_slice(),
-        Object::AlarmMask(o) => o.children.as_slice(),
-        Object::Container(o) if o.hidden == 0 => o.children.as_slice(),
-        Object::Key(o) => o.children.as_slice(),
-        Object::Button(o) => o.children.as_slice(),
-        _ => &[],
-    }
-}
-
-/// The current item of an input list, if the object is one and has one.
-fn item_drawn<S: Store>(store: &S, object: &Object<Vec<u8>>) -> Option<ObjectId>
-    ensures { option_to_list result ≡ item_drawn (S.contents store.now) (Some (seen object.now)) }
-{
-    match object {
-        Object::InputList(o) => current_item(store, o),
-        _ => None,
+        Object::WorkingSet(o) => (o.children.as_slice(), None),
+        Object::DataMask(o) => (o.children.as_slice(), None),
+        Object::AlarmMask(o) => (o.children.as_slice(), None),
+        Object::Container(o) if o.hidden == 0 => (o.children.as_slice(), None),
+        Object::Key(o) => (o.children.as_slice(), None),
+        Object::Button(o) => (o.children.as_slice(), None),
+        Object::InputList(o) => (&[], current_item(store, o)),
+        _ => (&[], None),
     }
 }
 

@@ -1,4 +1,4 @@
-use Rattle.std.proofs.Common.{◌≡◌, ◌<◌, ◌≤◌, ◌+◌, ◌∷◌, [], ◌++◌, ℕ, Bool, true, false, List, Option, Some, length, set, get_or, map, sym, ap, subst, ◌∙◌, arith, refl, take}
+use Rattle.std.proofs.Common.{◌≡◌, ◌<◌, ◌≤◌, ◌+◌, ◌∷◌, [], ◌++◌, ℕ, Bool, true, false, List, Option, Some, None, length, set, get_or, map, sym, ap, subst, ◌∙◌, arith, refl, take}
 use Rattle.std.proofs.lemmas.List.{get_or-set_other, get_or-set_same, length-map, length-set}
 use Rattle.std.specs.Prelude.{slice_index, slice_index_or}
 use Rattle.std.specs.Option.{option_to_list}
@@ -6,20 +6,21 @@ use Rattle.vt_kinds.specs.declared.entries.Child.{Child}
 use Rattle.vt_kinds.specs.Records.{seen}
 use Rattle.vt_chains.specs.Depths.{ids_of}
 use Rattle.vt_chains.proofs.IdIndices.{within}
-use Rattle.vt_shown.specs.Marks.{Searched, MarksShown, children_drawn, item_drawn}
+use Rattle.vt_shown.specs.Marks.{Searched, MarksShown}
 use Rattle.vt_shown.specs.ShownElements.{drawn_in, ids_in}
-use Rattle.vt_shown.proofs.Searches.{all_ids, child_among, child_drawn, drawing_searched, drawing_shown, item_named, level_of, resolved_below, resolved_marked, resolved_nothing, parts_of, searched_next, searched_none, searched_within, shown_next, shown_none, shown_one, shown_part, shown_within}
+use Rattle.vt_shown.proofs.Searches.{all_ids, child_among, child_drawn, drawing_searched, drawing_shown, item_drawn, level_of, resolved_below, resolved_marked, parts_of, resolved_nothing, searched_next, searched_none, searched_within, shown_next, shown_none, shown_one, shown_part, shown_within}
 use Rattle.vt_shown.proofs.search.+search.Goals as goal
 
 pub search_drawing-search_id-requires : goal.search_drawing-search_id-requires
 search_drawing-search_id-requires g t c κs within =
     let m = g.S.Store.contents c.args.store.now in
     let o = seen c.entry.result.1.now in
-    let children = c.children_drawn-children.result.now in
+    let children = c.drawn_parts-item.result.0.now in
+    let item = c.drawn_parts-item.result.1 in
     let i = c.loop-child.child-index in
     let measure = c.decreases in
-    let parts = parts_of m c.entry.result.0 o children (item_drawn m (Some o)) c.entry.ensures.object c.children_drawn-children.ensures refl in
-    let listed = child_drawn m c.entry.result.0 i c.child-item.result.id children (item_drawn m (Some o)) parts c.loop-child-test.true
+    let parts = parts_of m c.entry.result.0 o children item item c.entry.ensures.object c.drawn_parts-item.ensures refl in
+    let listed = child_drawn m c.entry.result.0 i c.child-item.result.id children (option_to_list item) parts c.loop-child-test.true
     (child_among children i c.child-item.result c.loop-child-test.true c.child-item.is) in (
       omega (arith, measure),
       (
@@ -41,22 +42,23 @@ pub search_drawing-returns-then-search_id-clause-shown : goal.search_drawing-ret
 search_drawing-returns-then-search_id-clause-shown g t c =
     let m = g.S.Store.contents c.args.store.now in
     let o = seen c.entry.result.1.now in
-    let children = c.children_drawn-children.result.now in
+    let children = c.drawn_parts-item.result.0.now in
+    let item = c.drawn_parts-item.result.1 in
     let i = c.loop-child.child-index in
     let long = length-map children (λ (child : Child). child.id) in
     let lt = c.loop-child-test.true in
-    drawing_shown m c.args.index c.entry.result.0 children (item_drawn m (Some o)) c.entry.ensures.stands
-    (parts_of m c.entry.result.0 o children (item_drawn m (Some o)) c.entry.ensures.object c.children_drawn-children.ensures refl)
+    drawing_shown m c.args.index c.entry.result.0 children (option_to_list item) c.entry.ensures.stands
+    (parts_of m c.entry.result.0 o children item item c.entry.ensures.object c.drawn_parts-item.ensures refl)
     c.args.marks.now c.search_id.new.marks c.search_id.new.marks
     (shown_part m (ids_in children) (i + 1) c.args.marks.now c.search_id.new.marks
     (shown_next m (ids_in children) i c.child-item.result.id c.args.marks.now c.loop-child.marks c.search_id.new.marks (omega (arith, lt, long))
     (sym (child_among children i c.child-item.result lt c.child-item.is)) c.loop-child.invariant.shown c.search_id.ensures.shown))
-    (shown_none m (item_drawn m (Some o)) c.search_id.new.marks)
+    (shown_none m (option_to_list item) c.search_id.new.marks)
 
 pub search_drawing-loop-child-preserved : goal.search_drawing-loop-child-preserved
 search_drawing-loop-child-preserved g t c =
     let m = g.S.Store.contents c.args.store.now in
-    let children = c.children_drawn-children.result.now in
+    let children = c.drawn_parts-item.result.0.now in
     let i = c.loop-child.child-index in
     let long = length-map children (λ (child : Child). child.id) in
     let lt = c.loop-child-test.true in
@@ -73,9 +75,9 @@ pub search_drawing-search_id-requires-in-Some : goal.search_drawing-search_id-re
 search_drawing-search_id-requires-in-Some g t c κs within =
     let m = g.S.Store.contents c.args.store.now in
     let o = seen c.entry.result.1.now in
-    let children = c.children_drawn-children.result.now in
+    let children = c.drawn_parts-item.result.0.now in
     let measure = c.decreases in
-    let parts = parts_of m c.entry.result.0 o children (c.in-Some.item ∷ []) c.entry.ensures.object c.children_drawn-children.ensures c.in-Some.ensures in (
+    let parts = parts_of m c.entry.result.0 o children c.drawn_parts-item.result.1 (Some c.in-Some.item) c.entry.ensures.object c.drawn_parts-item.ensures c.in-Some.is in (
       omega (arith, measure),
       (
         within,
@@ -86,7 +88,7 @@ search_drawing-search_id-requires-in-Some g t c κs within =
             (
               c.requires.null,
               resolved_below m c.args.levels.now c.args.index c.entry.result.0 c.in-Some.item c.requires.levels c.requires.null c.entry.ensures.stands
-                  (item_named m c.entry.result.0 c.in-Some.item children parts),
+                  (item_drawn m c.entry.result.0 c.in-Some.item children parts),
             ),
           ),
         ),
@@ -97,8 +99,8 @@ pub search_drawing-returns-in-Some-clause-shown : goal.search_drawing-returns-in
 search_drawing-returns-in-Some-clause-shown g t c =
     let m = g.S.Store.contents c.args.store.now in
     let o = seen c.entry.result.1.now in
-    let children = c.children_drawn-children.result.now in
-    let parts = parts_of m c.entry.result.0 o children (c.in-Some.item ∷ []) c.entry.ensures.object c.children_drawn-children.ensures c.in-Some.ensures in
+    let children = c.drawn_parts-item.result.0.now in
+    let parts = parts_of m c.entry.result.0 o children c.drawn_parts-item.result.1 (Some c.in-Some.item) c.entry.ensures.object c.drawn_parts-item.ensures c.in-Some.is in
     drawing_shown m c.args.index c.entry.result.0 children (c.in-Some.item ∷ []) c.entry.ensures.stands parts c.args.marks.now c.loop-child.marks c.search_id-in-Some.new.marks
     (shown_part m (ids_in children) c.loop-child.child-index c.args.marks.now c.loop-child.marks c.loop-child.invariant.shown) c.search_id-in-Some.ensures.shown
 
@@ -106,8 +108,8 @@ pub search_drawing-returns-in-Some-clause-all : goal.search_drawing-returns-in-S
 search_drawing-returns-in-Some-clause-all g t c none =
     let m = g.S.Store.contents c.args.store.now in
     let o = seen c.entry.result.1.now in
-    let children = c.children_drawn-children.result.now in
-    let parts = parts_of m c.entry.result.0 o children (c.in-Some.item ∷ []) c.entry.ensures.object c.children_drawn-children.ensures c.in-Some.ensures in
+    let children = c.drawn_parts-item.result.0.now in
+    let parts = parts_of m c.entry.result.0 o children c.drawn_parts-item.result.1 (Some c.in-Some.item) c.entry.ensures.object c.drawn_parts-item.ensures c.in-Some.is in
     let long = length-map children (λ (child : Child). child.id) in
     let end = c.loop-child-test.false in
     drawing_searched m c.args.index c.entry.result.0 children (c.in-Some.item ∷ []) c.entry.ensures.stands parts c.args.marks.now c.loop-child.marks c.search_id-in-Some.new.marks
@@ -118,8 +120,8 @@ pub search_drawing-returns-in-None-clause-shown : goal.search_drawing-returns-in
 search_drawing-returns-in-None-clause-shown g t c =
     let m = g.S.Store.contents c.args.store.now in
     let o = seen c.entry.result.1.now in
-    let children = c.children_drawn-children.result.now in
-    let parts = parts_of m c.entry.result.0 o children [] c.entry.ensures.object c.children_drawn-children.ensures c.in-None.ensures in
+    let children = c.drawn_parts-item.result.0.now in
+    let parts = parts_of m c.entry.result.0 o children c.drawn_parts-item.result.1 None c.entry.ensures.object c.drawn_parts-item.ensures c.in-None.is in
     drawing_shown m c.args.index c.entry.result.0 children [] c.entry.ensures.stands parts c.args.marks.now c.loop-child.marks c.loop-child.marks
     (shown_part m (ids_in children) c.loop-child.child-index c.args.marks.now c.loop-child.marks c.loop-child.invariant.shown) (shown_none m [] c.loop-child.marks)
 
@@ -127,8 +129,8 @@ pub search_drawing-returns-in-None-clause-all : goal.search_drawing-returns-in-N
 search_drawing-returns-in-None-clause-all g t c none =
     let m = g.S.Store.contents c.args.store.now in
     let o = seen c.entry.result.1.now in
-    let children = c.children_drawn-children.result.now in
-    let parts = parts_of m c.entry.result.0 o children [] c.entry.ensures.object c.children_drawn-children.ensures c.in-None.ensures in
+    let children = c.drawn_parts-item.result.0.now in
+    let parts = parts_of m c.entry.result.0 o children c.drawn_parts-item.result.1 None c.entry.ensures.object c.drawn_parts-item.ensures c.in-None.is in
     let long = length-map children (λ (child : Child). child.id) in
     let end = c.loop-child-test.false in
     drawing_searched m c.args.index c.entry.result.0 children [] c.entry.ensures.stands parts c.args.marks.now c.loop-child.marks c.loop-child.marks
