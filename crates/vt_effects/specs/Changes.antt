@@ -38,9 +38,9 @@ abbrev pub is_one_of : Kinds → Option Kind → Bool
 is_one_of kinds None = false
 is_one_of kinds (Some kind) = is_member kinds kind
 
--- whether an ID is allowed at a place of an object of a kind
-abbrev pub may_stand : Kind → Place → ℕ → Option Kind → Bool
-may_stand kind place id kind_of_other = if id == 0xFFFF then may_be_null place else is_one_of (allowed kind place) kind_of_other
+-- whether an object of a kind may refer to an ID at a place
+abbrev pub may_refer : Kind → Place → ℕ → Option Kind → Bool
+may_refer kind place id kind_of_other = if id == 0xFFFF then may_be_null place else is_one_of (allowed kind place) kind_of_other
 
 -- ---- Hide/Show and Enable/Disable: state 1 shows or enables, and state 0 hides or disables
 
@@ -152,14 +152,14 @@ change_value kind_of_other n (objects.LinearBar o) = Ok (objects.LinearBar (reco
 change_value kind_of_other n (objects.ArchedBar o) = Ok (objects.ArchedBar (record o { value = low_word n }))
 change_value kind_of_other n (objects.NumberVariable o) = Ok (objects.NumberVariable (record o { value = n }))
 change_value kind_of_other n (objects.ObjectPointer o) =
-    if_passed (may_stand kinds.ObjectPointer places.Value (low_word n) kind_of_other) errors.VALUE (objects.ObjectPointer (record o { value = low_word n }))
+    if_passed (may_refer kinds.ObjectPointer places.Value (low_word n) kind_of_other) errors.VALUE (objects.ObjectPointer (record o { value = low_word n }))
 change_value kind_of_other n _ = Err errors.OBJECT
 
 -- ---- Change Fill Attributes
 
 abbrev pub change_fill_attributes : Option Kind → ℕ → ℕ → ℕ → Seen → Result Seen ℕ
 change_fill_attributes kind_of_other type colour pattern (objects.FillAttributes o) =
-    if_passed (may_stand kinds.FillAttributes places.Pattern pattern kind_of_other) errors.PATTERN (objects.FillAttributes (record o { fill_type = type; colour = colour; pattern = pattern }))
+    if_passed (may_refer kinds.FillAttributes places.Pattern pattern kind_of_other) errors.PATTERN (objects.FillAttributes (record o { fill_type = type; colour = colour; pattern = pattern }))
 change_fill_attributes kind_of_other type colour pattern _ = Err errors.OBJECT
 
 -- ---- Change Active Mask requires an existing mask
@@ -174,11 +174,11 @@ change_active_mask kind_of_other mask _ = Err errors.OBJECT
 abbrev pub change_soft_key_mask : Option Kind → ℕ → ℕ → Seen → Result Seen ℕ
 change_soft_key_mask kind_of_other type keys (objects.DataMask o) =
     if type == 1
-    then if_passed (may_stand kinds.DataMask places.SoftKeyMask keys kind_of_other) errors.VALUE (objects.DataMask (record o { soft_key_mask = keys }))
+    then if_passed (may_refer kinds.DataMask places.SoftKeyMask keys kind_of_other) errors.VALUE (objects.DataMask (record o { soft_key_mask = keys }))
     else Err errors.OBJECT
 change_soft_key_mask kind_of_other type keys (objects.AlarmMask o) =
     if type == 2
-    then if_passed (may_stand kinds.AlarmMask places.SoftKeyMask keys kind_of_other) errors.VALUE (objects.AlarmMask (record o { soft_key_mask = keys }))
+    then if_passed (may_refer kinds.AlarmMask places.SoftKeyMask keys kind_of_other) errors.VALUE (objects.AlarmMask (record o { soft_key_mask = keys }))
     else Err errors.OBJECT
 change_soft_key_mask kind_of_other type keys _ = Err errors.OBJECT
 
@@ -186,7 +186,7 @@ change_soft_key_mask kind_of_other type keys _ = Err errors.OBJECT
 
 -- whether a field of a type accepts the lowest bytes of a value
 abbrev pub takes : Kind → ValueType → ℕ → Option Kind → Bool
-takes kind (types.Reference place) n kind_of_other = may_stand kind place (low_word n) kind_of_other
+takes kind (types.Reference place) n kind_of_other = may_refer kind place (low_word n) kind_of_other
 takes kind types.Priority n kind_of_other = nat_le (low_byte n) 2
 takes kind types.Scale n kind_of_other = is_some (scale_at n)
 takes kind types.Decimals n kind_of_other = nat_le (low_byte n) 7
@@ -206,7 +206,7 @@ change_attribute kind_of_other number n o =
 abbrev pub change_item : Option Kind → ℕ → ℕ → Seen → Result Seen ℕ
 change_item kind_of_other index item (objects.InputList o) =
     if nat_lt index (length o.items)
-    then if_passed (may_stand kinds.InputList (places.Item index) item kind_of_other) errors.ITEM (objects.InputList (record o { items = set o.items index item }))
+    then if_passed (may_refer kinds.InputList (places.Item index) item kind_of_other) errors.ITEM (objects.InputList (record o { items = set o.items index item }))
     else Err errors.INDEX
 change_item kind_of_other index item _ = Err errors.OBJECT
 
@@ -317,9 +317,9 @@ pub record IsWritten (command : Command) (kind_of_other : Option Kind) (kind : K
   pub is : s ≡ slot kind place id
   pub other : other_id command ≡ Some id
   pub written : IsTrue (writes command place kind)
-  pub stands : IsTrue (may_stand kind place id kind_of_other)
+  pub allowed : IsTrue (may_refer kind place id kind_of_other)
 
 -- Each reference of an object after a command is one of its former references or one written by the command.
-abbrev pub ReferencesMayStand : Type 0
-ReferencesMayStand = (command : Command) (kind_of_other : Option Kind) (o : Seen)
+abbrev pub ReferencesMayRefer : Type 0
+ReferencesMayRefer = (command : Command) (kind_of_other : Option Kind) (o : Seen)
     → AllByRecursion (λ s. Contains (slots_of o) s ⊎ IsWritten command kind_of_other (kind_of o) s) (slots_of (left o (changed command kind_of_other o)))

@@ -1,6 +1,6 @@
 //! Theorems about the definitions of vt_effects: each is the contract of a function with an empty body.
 
-ghost use Rattle.vt_effects.specs.Changes.{ChangesKeep, ReferencesMayStand};
+ghost use Rattle.vt_effects.specs.Changes.{ChangesKeep, ReferencesMayRefer};
 ghost use Rattle.vt_effects.specs.Looks.{LooksAreKept};
 ghost use Rattle.vt_effects.specs.Soundness.{CommandsKeepOrder, CommandsKeepShapes};
 
@@ -11,8 +11,8 @@ pub fn changes_keep()
 
 /// Each reference of an object after a command is one of its former references, or the other ID of the command where that
 /// ID is allowed.
-pub fn references_may_stand()
-    ensures { ReferencesMayStand }
+pub fn references_may_refer()
+    ensures { ReferencesMayRefer }
 {}
 
 /// No command breaks the order of a store: if all references are in order and no chain of inclusions is too long, both

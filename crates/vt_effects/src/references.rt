@@ -15,10 +15,10 @@ pub(crate) fn is_one_of(kinds: Kinds, kind_of_other: Option<Kind>) -> bool
     }
 }
 
-/// Whether `id` is allowed at `place` in an object of a kind. `kind_of_other` is the kind of the object of `id`, or `None` if
+/// Whether an object of a kind may refer to `id` at `place`. `kind_of_other` is the kind of the object of `id`, or `None` if
 /// missing.
-pub(crate) fn may_stand(kind: Kind, place: Place, id: ObjectId, kind_of_other: Option<Kind>) -> bool
-    ensures { result ≡ changes.may_stand kind place id kind_of_other }
+pub(crate) fn may_refer(kind: Kind, place: Place, id: ObjectId, kind_of_other: Option<Kind>) -> bool
+    ensures { result ≡ changes.may_refer kind place id kind_of_other }
 {
     if id.is_null() {
         return place.allows_null();

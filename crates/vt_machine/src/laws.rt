@@ -5,7 +5,7 @@ ghost use Rattle.vt_machine.specs.SetStates.{ActiveMasksAreOne};
 ghost use Rattle.vt_macros.specs.Runs.{NullIsNoObject};
 
 pub use vt_effects::laws::{
-    changes_keep, commands_keep_order, commands_keep_shapes, references_may_stand,
+    changes_keep, commands_keep_order, commands_keep_shapes, references_may_refer,
 };
 pub use vt_macros::laws::{
     events_end_before_pending, events_end_in_turn, pools_are_ready, runs_end,

@@ -38,7 +38,7 @@ use Rattle.vt_macros.specs.NestedRuns.{IsOfVerified}
 -- ---- the slots of an object allow the members of their kinds, whatever the ID
 
 abbrev IsPlainlyAllowed : Kinds → Type 0
-IsPlainlyAllowed kinds = (id : ℕ) (kind : Kind) → references.may_stand kinds id kind ≡ is_member kinds kind
+IsPlainlyAllowed kinds = (id : ℕ) (kind : Kind) → references.may_refer kinds id kind ≡ is_member kinds kind
 
 allowed_plainly : (owner : Kind) (place : Place) → IsPlainlyAllowed (allowed owner place)
 allowed_plainly owner places.ActiveMask id kind = refl

@@ -22,7 +22,7 @@ use Rattle.vt_kinds.specs.References.{slot, slots_of, is_member}
 use Rattle.vt_stores.specs.Stores.{Objects, AreStored, object_at, map_of}
 use Rattle.vt_verify.specs.Lists.{first_failing}
 use Rattle.vt_stores.specs.Shapes.{Shape, Fixed, fixed, shape_of, fixed_at, kind_at}
-use Rattle.vt_verify.specs.References.{is_there, may_stand, fits, of_slot, slot_references, references, pointed, with_value, slot_values}
+use Rattle.vt_verify.specs.References.{is_there, may_refer, fits, of_slot, slot_references, references, pointed, with_value, slot_values}
 use Rattle.vt_verify.specs.References as references
 use Rattle.vt_chains.specs.Inclusions.{included, IsShallow}
 use Rattle.vt_verify.specs.Rules.{IsAcceptable, working_sets}
@@ -69,7 +69,7 @@ found_entry Q (e ∷ pool) q x found all =
 
 -- ---- one slot
 
-member_of : (kinds : Kinds) (id : ℕ) (kind : Kind) → may_stand kinds id kind ≡ true → is_member kinds kind ≡ true
+member_of : (kinds : Kinds) (id : ℕ) (kind : Kind) → may_refer kinds id kind ≡ true → is_member kinds kind ≡ true
 member_of sets.Macros id kind is = first_true (is_member sets.Macros kind) (nat_le id 255) is
   where
     first_true : (a b : Bool) → (a && b) ≡ true → a ≡ true

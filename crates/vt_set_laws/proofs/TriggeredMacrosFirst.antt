@@ -22,7 +22,7 @@ use Rattle.vt_verify.specs.declared.listing.Listing.{Listing}
 use Rattle.vt_verify.specs.Lists.{first_failing}
 use Rattle.vt_verify.specs.Macros.{is_macro, may_be_named, commands}
 use Rattle.vt_verify.specs.Orders.{named_macros}
-use Rattle.vt_verify.specs.References.{is_there, fits, allows, may_stand}
+use Rattle.vt_verify.specs.References.{is_there, fits, allows, may_refer}
 use Rattle.vt_verify.specs.Rules.{IsAcceptable}
 use Rattle.vt_verify.specs.Targets.{macro_reference, entry_references, command_references, own_references, macro_references}
 use Rattle.vt_verify.specs.Triggers.{is_event, run_by_name, macros_at, listed_in, listed, may_raise, triggered_by, triggered}
@@ -76,7 +76,7 @@ macro-only kind is =
     eqb-true (kind_number kinds.Macro) (kind_number kind) (or-false (eqb (kind_number kinds.Macro) (kind_number kind)) is) in
     same_Some kind kinds.Macro (sym (kind_of_type-kind_number kind) ∙ ap kind_of_type (sym number) ∙ kind_of_type-kind_number kinds.Macro)
 
-may-be : (n : ℕ) (f : Fixed) → may_stand sets.Macros n f.kind ≡ true → may_be_named n f ≡ true
+may-be : (n : ℕ) (f : Fixed) → may_refer sets.Macros n f.kind ≡ true → may_be_named n f ≡ true
 may-be n f may =
     let both = both_true (is_member sets.Macros f.kind) (leb n 255) may in
     and_from (is_macro f.kind) (leb n 255) (ap is_macro (macro-only f.kind both.0)) both.1

@@ -22,25 +22,25 @@ abbrev pub is_there : Shape → Reference → Bool
 is_there shape r = if r.id == null_id then r.may_be_null else is_some (kind_at shape r.id)
 
 -- macros with IDs above 255 are not allowed as sets.Macros
-abbrev pub may_stand : Kinds → ℕ → Kind → Bool
-may_stand sets.Macros id kind = is_member sets.Macros kind && nat_le id 255
-may_stand kinds id kind = is_member kinds kind
+abbrev pub may_refer : Kinds → ℕ → Kind → Bool
+may_refer sets.Macros id kind = is_member sets.Macros kind && nat_le id 255
+may_refer kinds id kind = is_member kinds kind
 
 abbrev pub allows : Kinds → ℕ → Option Kind → Bool
 allows kinds id None = true
-allows kinds id (Some kind) = may_stand kinds id kind
+allows kinds id (Some kind) = may_refer kinds id kind
 
 -- an object of an allowed kind; NULL and missing objects pass
 abbrev pub fits : Shape → Reference → Bool
 fits shape r = if r.id == null_id then true else allows r.kinds r.id (kind_at shape r.id)
 
-abbrev pub stands : Shape → Reference → Bool
-stands shape r = is_there shape r && fits shape r
+abbrev pub passes_both : Shape → Reference → Bool
+passes_both shape r = is_there shape r && fits shape r
 
 abbrev pub passes : Test → Shape → Reference → Bool
 passes IsThere shape r = is_there shape r
 passes Fits shape r = fits shape r
-passes Stands shape r = stands shape r
+passes Stands shape r = passes_both shape r
 
 -- ---- the references of slots
 

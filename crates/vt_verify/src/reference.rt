@@ -2,7 +2,7 @@
 
 ghost use Rattle.std.specs.Prelude.{◌≡◌};
 ghost use Rattle.vt_stores.specs.Shapes.{shape_of};
-ghost use Rattle.vt_verify.specs.References.{of_slot, is_there, fits, stands, passes, may_stand};
+ghost use Rattle.vt_verify.specs.References.{of_slot, is_there, fits, passes_both, passes, may_refer};
 ghost use Rattle.vt_verify.specs.Targets.{of_target, macro_reference};
 
 use crate::objects::kind_at;
@@ -76,7 +76,7 @@ impl Reference {
         match test {
             Test::IsThere => self.is_there(objects),
             Test::Fits => self.fits(objects),
-            Test::Stands => self.stands(objects),
+            Test::Stands => self.passes_both(objects),
         }
     }
 
@@ -97,27 +97,28 @@ impl Reference {
         }
         match kind_at(objects, self.id) {
             None => true,
-            Some(kind) => may_stand(self.kinds, self.id, kind),
+            Some(kind) => may_refer(self.kinds, self.id, kind),
         }
     }
 
-    fn stands(&self, objects: &SortedStore) -> bool
-        ensures { result ≡ stands (shape_of objects.now) self.now }
+    fn passes_both(&self, objects: &SortedStore) -> bool
+        ensures { result ≡ passes_both (shape_of objects.now) self.now }
     {
         if self.id.is_null() {
             self.may_be_null
         } else {
             match kind_at(objects, self.id) {
                 None => false,
-                Some(kind) => may_stand(self.kinds, self.id, kind),
+                Some(kind) => may_refer(self.kinds, self.id, kind),
             }
         }
     }
 }
 
-/// Whether an object of a kind is allowed for these kinds. Macros with IDs above 255 are not allowed as `Kinds::Macros`.
-pub(crate) fn may_stand(kinds: Kinds, id: ObjectId, kind: Kind) -> bool
-    ensures { result ≡ may_stand kinds id kind }
+/// Whether a reference for these kinds may refer to an object of a kind. Macros with IDs above 255 are not allowed as
+/// `Kinds::Macros`.
+pub(crate) fn may_refer(kinds: Kinds, id: ObjectId, kind: Kind) -> bool
+    ensures { result ≡ may_refer kinds id kind }
 {
     match kinds {
         Kinds::Macros => kinds.contains(kind) && id.raw() <= 255,

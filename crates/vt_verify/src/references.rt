@@ -10,37 +10,37 @@ ghost use Rattle.vt_stores.specs.Stores.{AreStored, object_at};
 ghost use Rattle.vt_verify.specs.References.{is_there, fits, slot_references, pointed, with_value, slot_values};
 ghost use Rattle.vt_verify.specs.Rules as rules;
 
-use crate::reference::{Reference, Test, may_stand};
+use crate::reference::{Reference, Test, may_refer};
 use vt_objects::{Object, ObjectId, SortedStore, Store, slots};
 
 /// Whether the objects of all slots exist and fit, and the values of referenced pointers fit too. Looks up each object
 /// once.
-pub(crate) fn all_stand(objects: &SortedStore) -> bool
+pub(crate) fn all_pass(objects: &SortedStore) -> bool
     ensures there { IsTrue result → rules.missing objects.now ≡ None }
     ensures fit { IsTrue result → rules.wrong_kind objects.now ≡ None }
 {
     for (id, object) in objects.entries() {
-        if !all_stand_in(objects, *id, object) {
+        if !all_pass_in(objects, *id, object) {
             return false;
         }
     }
     true
 }
 
-fn all_stand_in(objects: &SortedStore, parent: ObjectId, object: &Object<Vec<u8>>) -> bool
+fn all_pass_in(objects: &SortedStore, parent: ObjectId, object: &Object<Vec<u8>>) -> bool
     requires { AreStored objects.now }
     ensures there { IsTrue result → first_failing (is_there (shape_of objects.now)) (slot_references (parent, seen object.now)) ≡ None }
     ensures fit { IsTrue result → first_failing (fits (shape_of objects.now)) (slot_values objects.now (parent, seen object.now)) ≡ None }
 {
     for slot in slots(object) {
-        if !stands(objects, Reference::of_slot(parent, &slot)) {
+        if !passes_both(objects, Reference::of_slot(parent, &slot)) {
             return false;
         }
     }
     true
 }
 
-fn stands(objects: &SortedStore, reference: Reference) -> bool
+fn passes_both(objects: &SortedStore, reference: Reference) -> bool
     requires { AreStored objects.now }
     ensures there { IsTrue result → IsTrue (is_there (shape_of objects.now) reference) }
     ensures fit { IsTrue result → first_failing (fits (shape_of objects.now)) (with_value objects.now reference) ≡ None }
@@ -51,7 +51,7 @@ fn stands(objects: &SortedStore, reference: Reference) -> bool
     match objects.get(reference.id) {
         None => false,
         Some(object) => {
-            may_stand(reference.kinds, reference.id, object.kind())
+            may_refer(reference.kinds, reference.id, object.kind())
                 && value_fits(objects, reference, object)
         }
     }

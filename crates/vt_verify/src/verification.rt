@@ -18,7 +18,7 @@ use crate::macros::{PieceTest, cut_short, failing_piece};
 use crate::objects::{sorted, sorted_owned, updated};
 use crate::order::by_rank;
 use crate::reference::Test;
-use crate::references::{all_stand, missing, wrong_kind};
+use crate::references::{all_pass, missing, wrong_kind};
 use crate::refusal::Refusal;
 use crate::targets::failing_target;
 use crate::triggers::TriggerGraph;
@@ -119,7 +119,7 @@ fn check_references(objects: &SortedStore) -> Result<(), Refusal>
     ensures refused { IfErr result (IsRefused terminal objects.now) }
     ensures no_memory { IfErr result (λ refusal. IsWantOfMemory refusal → ⊥) }
 {
-    if all_stand(objects) {
+    if all_pass(objects) {
         return Ok(());
     }
     refuse_reference(objects)

@@ -6,7 +6,7 @@ ghost use Rattle.vt_effects.specs.Changes as changes;
 ghost use Rattle.vt_effects.specs.Changes.{HasResult, left};
 
 use crate::error;
-use crate::references::{is_one_of, may_stand};
+use crate::references::{is_one_of, may_refer};
 use vt_kinds::{Kind, Kinds, Object, ObjectId, Place};
 
 /// Sets all fields of fill attributes. `kind_of_other` is the kind of the pattern, if that is there.
@@ -23,7 +23,7 @@ pub(crate) fn change_fill_attributes(
     let Object::FillAttributes(fill_attributes) = object else {
         return Err(error::OBJECT);
     };
-    if !may_stand(Kind::FillAttributes, Place::Pattern, pattern, kind_of_other) {
+    if !may_refer(Kind::FillAttributes, Place::Pattern, pattern, kind_of_other) {
         return Err(error::PATTERN);
     }
     fill_attributes.fill_type = fill_type;
@@ -64,14 +64,14 @@ pub(crate) fn change_soft_key_mask(
 {
     match object {
         Object::DataMask(data_mask) if mask_type == 1 => {
-            if !may_stand(Kind::DataMask, Place::SoftKeyMask, keys, kind_of_other) {
+            if !may_refer(Kind::DataMask, Place::SoftKeyMask, keys, kind_of_other) {
                 return Err(error::VALUE);
             }
             data_mask.soft_key_mask = keys;
             Ok(())
         }
         Object::AlarmMask(alarm_mask) if mask_type == 2 => {
-            if !may_stand(Kind::AlarmMask, Place::SoftKeyMask, keys, kind_of_other) {
+            if !may_refer(Kind::AlarmMask, Place::SoftKeyMask, keys, kind_of_other) {
                 return Err(error::VALUE);
             }
             alarm_mask.soft_key_mask = keys;

@@ -7,7 +7,7 @@ ghost use Rattle.vt_effects.specs.Changes.{HasResult, left};
 
 use crate::error;
 use crate::numbers::{byte, id, word};
-use crate::references::may_stand;
+use crate::references::may_refer;
 use vt_kinds::{Kind, Object, ObjectId, Place};
 
 /// Sets the value. Each kind uses as many of the lowest bytes as its value has; `kind_of_other` is the kind of the object whose
@@ -45,7 +45,7 @@ pub(crate) fn change_value(
         Object::ArchedBar(bar) => bar.value = word(value),
         Object::NumberVariable(variable) => variable.value = value,
         Object::ObjectPointer(pointer) => {
-            if !may_stand(Kind::ObjectPointer, Place::Value, id(value), kind_of_other) {
+            if !may_refer(Kind::ObjectPointer, Place::Value, id(value), kind_of_other) {
                 return Err(error::VALUE);
             }
             pointer.value = id(value);
@@ -71,7 +71,7 @@ pub(crate) fn change_item(
     if index >= list.items.len() {
         return Err(error::INDEX);
     }
-    if !may_stand(Kind::InputList, Place::Item(index), item, kind_of_other) {
+    if !may_refer(Kind::InputList, Place::Item(index), item, kind_of_other) {
         return Err(error::ITEM);
     }
     list.items.set(index, item);

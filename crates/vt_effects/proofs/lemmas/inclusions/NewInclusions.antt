@@ -23,7 +23,7 @@ use Rattle.vt_chains.specs.Depths.{ids_of, inclusions_of}
 use Rattle.vt_chains.proofs.Elements.{Contains-nil}
 use Rattle.vt_chains.proofs.Slots.{included_in, in_first, in_more, slot_case}
 use Rattle.vt_effects.specs.declared.replacements.Replacement.{Replacement}
-use Rattle.vt_effects.specs.Changes.{is_one_of, may_stand, other_id, writes}
+use Rattle.vt_effects.specs.Changes.{is_one_of, may_refer, other_id, writes}
 use Rattle.vt_effects.specs.Effects.{kind_in, pointer_value, other_kind}
 use Rattle.vt_effects.specs.Soundness.{shape_in}
 use Rattle.vt_effects.specs.Replacements.{replacement_by}
@@ -55,7 +55,7 @@ there_by null kinds None false differs may = absurd cc
 there_by null kinds (Some k) false differs may = refl
 
 adds : (m : ObjectMap) (command : Command) (old : Seen) (place : Place) (other : ℕ) → other_id command ≡ Some other → writes command place (kind_of old) ≡ true
-    → may_stand (kind_of old) place other (other_kind m (other_id command)) ≡ true → includes (slot (kind_of old) place other) ≡ true → Adds m command old other
+    → may_refer (kind_of old) place other (other_kind m (other_id command)) ≡ true → includes (slot (kind_of old) place other) ≡ true → Adds m command old other
 adds m command old place other names written may is =
     record {
       place = place;

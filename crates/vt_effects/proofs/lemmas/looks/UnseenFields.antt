@@ -17,7 +17,7 @@ use Rattle.vt_kinds.specs.Attributes.{attribute_at}
 use Rattle.vt_kinds.specs.References.{is_member}
 use Rattle.vt_effects.specs.Fields.{with_field, with_fields}
 use Rattle.vt_effects.specs.Errors as errors
-use Rattle.vt_effects.specs.Changes.{left, if_passed, may_stand, takes, put_attribute, write_fields_if, changed}
+use Rattle.vt_effects.specs.Changes.{left, if_passed, may_refer, takes, put_attribute, write_fields_if, changed}
 use Rattle.vt_effects.specs.Looks.{look, is_in_text, is_unseen_attribute, shows_width, shows_height, writes_unseen}
 
 kind_stays : (field : Field) (n : ℕ) (o : Seen) → kind_of (with_field field n o) ≡ kind_of o
@@ -138,7 +138,7 @@ look_stays (ChangeLineAttributes id colour width art) named o unseen =
     row sets.LineAttributes true 0 ((fields.Colour, colour) ∷ (fields.Width, width) ∷ (fields.LineArt, art) ∷ []) o
     (refl, (is_false (shows_width (kind_of o)) unseen, (refl, tt)))
 look_stays (ChangeFillAttributes id type colour pattern) named (objects.FillAttributes o) unseen =
-    passed (may_stand kinds.FillAttributes places.Pattern pattern named) errors.PATTERN (objects.FillAttributes o)
+    passed (may_refer kinds.FillAttributes places.Pattern pattern named) errors.PATTERN (objects.FillAttributes o)
     (objects.FillAttributes (record o { fill_type = type; colour = colour; pattern = pattern })) refl
 look_stays (ChangePriority id priority) named o unseen = row sets.AlarmMasks _ _ ((fields.Priority, priority) ∷ []) o (refl, tt)
 look_stays (ExecuteMacro id) named (objects.Macro o) unseen = passed (nat_le id 255) errors.MACRO_ID (objects.Macro o) (objects.Macro o) refl

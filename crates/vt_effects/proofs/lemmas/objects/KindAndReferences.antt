@@ -24,7 +24,7 @@ use Rattle.vt_kinds.specs.References.{slot, slots_of, slots_listed}
 use Rattle.vt_kinds.specs.Attributes.{attribute_at, attributes_of, attribute_numbered, byte}
 use Rattle.vt_stores.specs.Shapes.{fixed}
 use Rattle.vt_effects.specs.Fields.{low_word, with_field}
-use Rattle.vt_effects.specs.Changes.{left, if_passed, is_one_of, may_stand, takes, other_id, child_at, move_child, moved_child, placed, stands_in, leaves, for_child, change_location, change_position, put_children, in_parent, put_attribute, changed, writes, is_attribute, IsWritten}
+use Rattle.vt_effects.specs.Changes.{left, if_passed, is_one_of, may_refer, takes, other_id, child_at, move_child, moved_child, placed, stands_in, leaves, for_child, change_location, change_position, put_children, in_parent, put_attribute, changed, writes, is_attribute, IsWritten}
 use Rattle.vt_effects.specs.Errors.{bit}
 
 -- the object keeps its fixed part, and its slots have a property
@@ -35,7 +35,7 @@ record Leaves (P : Slot → Type 0) (o : Seen) (made : Result Seen ℕ) : Type 0
 -- the slots that a command may write have a property
 abbrev pub MayWrite : (Slot → Type 0) → Command → Option Kind → Kind → Type 0
 MayWrite P command kind_of_other kind =
-    (place : Place) (id : ℕ) → other_id command ≡ Some id → writes command place kind ≡ true → may_stand kind place id kind_of_other ≡ true → P (slot kind place id)
+    (place : Place) (id : ℕ) → other_id command ≡ Some id → writes command place kind ≡ true → may_refer kind place id kind_of_other ≡ true → P (slot kind place id)
 
 -- ---- children keep their IDs
 
@@ -93,7 +93,7 @@ at_attribute Q kinds.InputList number all = by (number == 5)
     by false = at_number Q (attributes_of kinds.InputList) number all.1
 at_attribute Q kind number all = at_number Q (attributes_of kind) number all.1
 
-mask_may : (mask : ℕ) (kind_of_other : Option Kind) → is_one_of sets.Masks kind_of_other ≡ true → may_stand kinds.WorkingSet places.ActiveMask mask kind_of_other ≡ true
+mask_may : (mask : ℕ) (kind_of_other : Option Kind) → is_one_of sets.Masks kind_of_other ≡ true → may_refer kinds.WorkingSet places.ActiveMask mask kind_of_other ≡ true
 mask_may mask kind_of_other is = by (mask == 0xFFFF)
   where
     by : (b : Bool) → cond b true (is_one_of sets.Masks kind_of_other) ≡ true
@@ -150,7 +150,7 @@ module _ (P : Slot → Type 0) where
   Given kind n _ = Unit {0}
 
   given_by : (kind_of_other : Option Kind) (kind : Kind) (n : ℕ)
-      → ((place : Place) → is_attribute place kind ≡ true → may_stand kind place (low_word n) kind_of_other ≡ true → P (slot kind place (low_word n)))
+      → ((place : Place) → is_attribute place kind ≡ true → may_refer kind place (low_word n) kind_of_other ≡ true → P (slot kind place (low_word n)))
       → (type : ValueType) → takes kind type n kind_of_other ≡ true → Given kind n type
   given_by kind_of_other kind n may (types.Reference place) passed = by (is_attribute place kind) refl
     where
@@ -224,4 +224,4 @@ pub references_written : (command : Command) (kind_of_other : Option Kind) (o : 
     → AllByRecursion (λ s. Contains (slots_of o) s ⊎ IsWritten command kind_of_other (kind_of o) s) (slots_of (left o (changed command kind_of_other o)))
 references_written command kind_of_other o =
     slots_after _ command kind_of_other o (recursion_from_All _ (slots_of o) (λ k d lt. inl (Contains-get_or (slots_of o) k d lt)))
-    (λ place id other written stands. inr (record { place = place; id = id; is = refl; other = other; written = written; stands = stands }))
+    (λ place id other written stands. inr (record { place = place; id = id; is = refl; other = other; written = written; allowed = stands }))

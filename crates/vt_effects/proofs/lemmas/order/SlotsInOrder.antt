@@ -17,7 +17,7 @@ use Rattle.vt_kinds.specs.References.{slot, slots_of}
 use Rattle.vt_stores.specs.Stores.{ObjectMap}
 use Rattle.vt_commands.specs.Targets.{object_of}
 use Rattle.vt_effects.specs.Fields.{low_word}
-use Rattle.vt_effects.specs.Changes.{if_passed, may_stand, change_attribute, other_id, changed, writes}
+use Rattle.vt_effects.specs.Changes.{if_passed, may_refer, change_attribute, other_id, changed, writes}
 use Rattle.vt_effects.specs.Effects.{kind_in, pointer_value, allows, all_slots, places_allow, value_drawn, chains_are_short, pointer_may, keeps_order, other_kind}
 use Rattle.vt_effects.specs.Soundness.{is_in_order}
 use Rattle.vt_effects.proofs.lemmas.stores.OneChangedObject.{first_of, get_there, get_other, kinds_stay}
@@ -83,7 +83,7 @@ write_case (ChangeAttribute id number value) places.Value kind is = inl refl
 write_case _ _ _ is = inl cc
 
 item_made : (m : ObjectMap) (id : ℕ) (old new : Seen) (kind : Kind) (list index item at other : ℕ) → Made m id old new (ChangeListItem list index item)
-    → Some item ≡ Some other → may_stand kind (places.Item at) other (kind_in (finite.insert m id new) other) ≡ true
+    → Some item ≡ Some other → may_refer kind (places.Item at) other (kind_in (finite.insert m id new) other) ≡ true
     → IsTrue (is_in_order (finite.insert m id new) (slot kind (places.Item at) other))
 item_made m id old new kind list index item at other c same may =
     item_in_order m id old new kind at other c.at (kinds_same m id old new (ChangeListItem list index item) c.change)
@@ -93,13 +93,13 @@ item_made m id old new kind list index item at other c same may =
     may
 
 written : (m : ObjectMap) (id : ℕ) (old new : Seen) (command : Command) → Made m id old new command → (place : Place) (other : ℕ) → other_id command ≡ Some other
-    → writes command place (kind_of old) ≡ true → may_stand (kind_of old) place other (other_kind m (other_id command)) ≡ true
+    → writes command place (kind_of old) ≡ true → may_refer (kind_of old) place other (other_kind m (other_id command)) ≡ true
     → IsTrue (is_in_order (finite.insert m id new) (slot (kind_of old) place other))
 written m id old new command c place other names writes may = by (write_case command place (kind_of old) writes)
   where
-    stands : may_stand (kind_of old) place other (kind_in (finite.insert m id new) other) ≡ true
+    stands : may_refer (kind_of old) place other (kind_in (finite.insert m id new) other) ≡ true
     stands =
-        subst (λ (k : Option Kind). may_stand (kind_of old) place other k ≡ true)
+        subst (λ (k : Option Kind). may_refer (kind_of old) place other k ≡ true)
         (ap (other_kind m) names ∙ sym (kinds_stay m id old new other c.at (kinds_same m id old new command c.change))) may
 
     item : (i : IsItem command place) → IsTrue (is_in_order (finite.insert m id new) (slot (kind_of old) place other))
@@ -107,7 +107,7 @@ written m id old new command c place other names writes may = by (write_case com
         subst (λ (p : Place). IsTrue (is_in_order (finite.insert m id new) (slot (kind_of old) p other))) (sym i.stands)
         (item_made m id old new (kind_of old) i.list i.index i.item i.at other (subst (Made m id old new) i.is c)
         (ap other_id (sym i.is) ∙ names)
-        (subst (λ (p : Place). may_stand (kind_of old) p other (kind_in (finite.insert m id new) other) ≡ true) i.stands stands))
+        (subst (λ (p : Place). may_refer (kind_of old) p other (kind_in (finite.insert m id new) other) ≡ true) i.stands stands))
 
     by : (takes_pointers place ≡ false) ⊎ IsItem command place → IsTrue (is_in_order (finite.insert m id new) (slot (kind_of old) place other))
     by (inl plain) = plain_in_order (finite.insert m id new) (kind_of old) place other plain stands

@@ -13,7 +13,7 @@ use Rattle.vt_kinds.specs.declared.object.Object.TheVariants as objects
 use Rattle.vt_kinds.specs.Records.{Seen, kind_of}
 use Rattle.vt_kinds.specs.References.{slot, allowed, may_be_null, is_member}
 use Rattle.vt_stores.specs.Stores.{ObjectMap}
-use Rattle.vt_effects.specs.Changes.{is_one_of, may_stand, change_item}
+use Rattle.vt_effects.specs.Changes.{is_one_of, may_refer, change_item}
 use Rattle.vt_effects.specs.Effects.{kind_in, pointer_value, value_drawn}
 use Rattle.vt_effects.specs.Soundness.{value_fits, is_in_order}
 use Rattle.vt_effects.proofs.lemmas.stores.OneChangedObject.{get_there, get_other, allows_stays, value_of}
@@ -57,7 +57,7 @@ not_a_pointer m kind place id other one w is =
     absurd cc
 
 -- a slot is in order, if its ID is allowed and, for a pointer, the pointer's value too
-pub written_in_order : (m : ObjectMap) (kind : Kind) (place : Place) (id : ℕ) → may_stand kind place id (kind_in m id) ≡ true
+pub written_in_order : (m : ObjectMap) (kind : Kind) (place : Place) (id : ℕ) → may_refer kind place id (kind_in m id) ≡ true
     → (is_one_of (allowed kind place) (kind_in m id) ≡ true → IsTrue (value_fits m (slot kind place id) (pointer_value (finite.get m id))))
     → IsTrue (is_in_order m (slot kind place id))
 written_in_order m kind place id may value = by (id == 0xFFFF) may
@@ -67,7 +67,7 @@ written_in_order m kind place id may value = by (id == 0xFFFF) may
     by true is = is
     by false is = true_both _ _ is (value is)
 
-pub plain_in_order : (m : ObjectMap) (kind : Kind) (place : Place) (id : ℕ) → takes_pointers place ≡ false → may_stand kind place id (kind_in m id) ≡ true
+pub plain_in_order : (m : ObjectMap) (kind : Kind) (place : Place) (id : ℕ) → takes_pointers place ≡ false → may_refer kind place id (kind_in m id) ≡ true
     → IsTrue (is_in_order m (slot kind place id))
 plain_in_order m kind place id other may =
     written_in_order m kind place id may (λ one. value_of m (slot kind place id) (pointer_value (finite.get m id)) (λ w is. absurd (not_a_pointer m kind place id other one w is)))
@@ -85,7 +85,7 @@ drawn m w (Some x) is all = subst (λ (y : ℕ). cond (y == 0xFFFF) true (is_one
 -- an item fits a store with its list changed
 pub item_in_order : (m : ObjectMap) (id : ℕ) (old new : Seen) (kind : Kind) (place item : ℕ) → finite.get m id ≡ Some old → kind_of new ≡ kind_of old
     → pointer_value (Some old) ≡ None → value_drawn m (pointer_value (finite.get m item)) ≡ true
-    → may_stand kind (places.Item place) item (kind_in (finite.insert m id new) item) ≡ true
+    → may_refer kind (places.Item place) item (kind_in (finite.insert m id new) item) ≡ true
     → IsTrue (is_in_order (finite.insert m id new) (slot kind (places.Item place) item))
 item_in_order m id old new kind place item at kinds_are none all may =
     written_in_order (finite.insert m id new) kind (places.Item place) item may (λ one. value (eqb item id) refl)

@@ -19,7 +19,7 @@ use Rattle.vt_commands.specs.Targets.{object_of}
 use Rattle.vt_chains.proofs.IdIndices.{someone}
 use Rattle.vt_effects.specs.declared.replacements.Replacement.{Replacement}
 use Rattle.vt_effects.specs.Fields.{low_word}
-use Rattle.vt_effects.specs.Changes.{if_passed, may_stand, other_id, change_item, changed}
+use Rattle.vt_effects.specs.Changes.{if_passed, may_refer, other_id, change_item, changed}
 use Rattle.vt_effects.specs.Errors.{bit}
 use Rattle.vt_effects.specs.Effects.{pointer_value, pointer_may, chains_are_short, keeps_order, other_kind}
 use Rattle.vt_effects.specs.Replacements.{item_at, replacement, replacement_by, new_id_fits, restored}
@@ -65,7 +65,7 @@ item_back : (kind_of_other : Option Kind) (list index item before : ℕ) (old ne
     → ◌≡◌ {A = Result Seen ℕ} (changed (ChangeListItem list index item) kind_of_other old) (Ok new) → item_at index (Some old) ≡ Some before
     → restored (ChangeListItem list index item) before new ≡ old
 item_back kind_of_other list index item before (objects.InputList o) new made at =
-    list_by o (nat_lt index (length o.items)) (may_stand kinds.InputList (places.Item index) item kind_of_other) index item before list new made at
+    list_by o (nat_lt index (length o.items)) (may_refer kinds.InputList (places.Item index) item kind_of_other) index item before list new made at
 item_back kind_of_other list index item before _ new made at = absurd cc
 
 -- ---- a command that replaces an ID

@@ -12,7 +12,7 @@ use Rattle.vt_stores.proofs.StoreMethods.{get_from, null_free}
 use Rattle.vt_verify.specs.declared.reference.Reference.{Reference}
 use Rattle.vt_verify.specs.Lists.{first_failing}
 use Rattle.vt_stores.specs.Shapes.{shape_of, kind_at}
-use Rattle.vt_verify.specs.References.{is_there, fits, may_stand, allows, pointed, with_value}
+use Rattle.vt_verify.specs.References.{is_there, fits, may_refer, allows, pointed, with_value}
 use Rattle.vt_stores.proofs.ObjectShapes.{kind_found, seen_kind}
 
 -- ---- two tests at once
@@ -54,7 +54,7 @@ module _ {B : Type 0} (objects : Objects) (r : Reference) (o : Object B) (found 
       ap (λ (b : Bool). cond b r.may_be_null (is_some (kind_at (shape_of objects) r.id))) (ne_eqb r.id null_id named)
       ∙ ap (λ (k : Option Kind). is_some k) kind_is
 
-  pub found_fits : IsTrue (may_stand r.kinds r.id (kind_of o)) → first_failing (fits (shape_of objects)) (pointed r (Some (seen o))) ≡ None
+  pub found_fits : IsTrue (may_refer r.kinds r.id (kind_of o)) → first_failing (fits (shape_of objects)) (pointed r (Some (seen o))) ≡ None
       → first_failing (fits (shape_of objects)) (with_value objects r) ≡ None
   found_fits may value =
       passed (fits (shape_of objects)) r (pointed r (object_at objects r.id))

@@ -4,7 +4,7 @@ use Rattle.vt_kinds.specs.Records.{seen}
 use Rattle.vt_verify.specs.Lists.{first_failing}
 use Rattle.vt_stores.specs.Shapes.{shape_of}
 use Rattle.vt_verify.specs.References.{is_there, fits, of_slot, with_value, slot_references, slot_values}
-use Rattle.vt_verify.proofs.references.all_stand_in.Given as goal
+use Rattle.vt_verify.proofs.references.all_pass_in.Given as goal
 
 abbrev pub invariant-loop-slot : goal.invariant-loop-slot
 invariant-loop-slot l =

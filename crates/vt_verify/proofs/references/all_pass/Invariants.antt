@@ -5,7 +5,7 @@ use Rattle.vt_verify.specs.Lists.{first_failing}
 use Rattle.vt_stores.specs.Shapes.{shape_of}
 use Rattle.vt_verify.specs.References.{is_there, fits, slot_references, slot_values}
 use Rattle.vt_verify.specs.Rules as rules
-use Rattle.vt_verify.proofs.references.all_stand.Given as goal
+use Rattle.vt_verify.proofs.references.all_pass.Given as goal
 
 abbrev pub invariant-loop-id : goal.invariant-loop-id
 invariant-loop-id l =
