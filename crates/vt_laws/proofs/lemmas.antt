@@ -1,5 +1,5 @@
 -- The lemmas of vt_laws, by subject.
-pub mod findings
+pub mod judgements
 pub mod outputs
 pub mod pools
 pub mod runs

@@ -5,7 +5,7 @@ use Rattle.vt_stores.specs.Stores.{ObjectMap}
 use Rattle.vt_effects.specs.Soundness.{shape_in}
 use Rattle.vt_macros.specs.Machines.{End, Ended, Sticks, run_of, total_budget}
 use Rattle.vt_commands.specs.declared.raising.Raised.{Raised}
-use Rattle.vt_server.specs.Findings.{IsFound}
+use Rattle.vt_server.specs.Judgements.{IsJudgedRight}
 use Rattle.vt_server.specs.Steps.{JudgedInput}
 use Rattle.vt_server.specs.Terminals.{State}
 use Rattle.vt_laws.specs.Headline.{Pools, ArePoolsInForce, Run, accepted_after, runs}
@@ -43,4 +43,4 @@ pub record IsWithinCosts (pools : Pools) (s : State) (e : JudgedInput) : Type 0 
   pub whole : steps_in s e ≤ input_cost pools s e
 
 abbrev pub CostsAreWithin : Type 0
-CostsAreWithin = (pools : Pools) (s : State) (e : JudgedInput) → ArePoolsInForce pools s → IsFound s e → IsWithinCosts (accepted_after s e pools) s e
+CostsAreWithin = (pools : Pools) (s : State) (e : JudgedInput) → ArePoolsInForce pools s → IsJudgedRight s e → IsWithinCosts (accepted_after s e pools) s e

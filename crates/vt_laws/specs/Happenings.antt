@@ -11,7 +11,7 @@ use Rattle.vt_names.specs.Registry.{Set, set_at}
 use Rattle.vt_stores.specs.Stores.{ObjectMap}
 use Rattle.vt_node.specs.Bus.{notice_of, frame_notice}
 use Rattle.vt_server.specs.shown.ShownSet.{shown_now, ACTIVATE, DEACTIVATE}
-use Rattle.vt_server.specs.Findings.{AreFound}
+use Rattle.vt_server.specs.Judgements.{AreJudgedRight}
 use Rattle.vt_server.specs.frame.TimeoutActs.{at_time, lapsed}
 use Rattle.vt_node.specs.Watches.{is_silent}
 use Rattle.vt_server.specs.state.StateInvariants.{IsOrderly, IsOther}
@@ -157,7 +157,7 @@ pub record EachTakesItsOwn : Type 0 where
 
 -- ---- the happenings of an address decide its view, whatever other nodes send
 
--- The same frame, action or other happening. The findings on pools may differ, as where two verdicts on an upload are right.
+-- The same frame, action or other happening. The judgements of pools may differ, as where two verdicts on an upload are right.
 abbrev pub AreAlike : Happening → Happening → Type 0
 AreAlike (FrameHeard frame verdict) (FrameHeard other found) = frame ≡ other
 AreAlike (Operated action shown) (Operated other seen) = action ≡ other
@@ -169,12 +169,12 @@ pub record IsSameAt (address : ℕ) (s t : State) (xs ys : List JudgedInput) : T
   pub frames : frames_to address (sent_by_all s xs) ≡ frames_to address (sent_by_all t ys)
 
 -- Two runs with the same happenings at an address, from the same view of it, leave the same view and send it the same frames,
--- whatever other nodes send. The findings may be the same, or different but right.
+-- whatever other nodes send. The judgements may be the same, or different but right.
 pub record OwnHappeningsDecide : Type 0 where
   pub same : (address : ℕ) (s t : State) (xs ys : List JudgedInput) → IsOrderly s → IsOrderly t → IsOther address s → IsOther address t
       → own_part address s ≡ own_part address t → happenings_all address s xs ≡ happenings_all address t ys → IsSameAt address s t xs ys
   pub alike : (address : ℕ) (s t : State) (xs ys : List JudgedInput) → IsOrderly s → IsOrderly t → IsOther address s → IsOther address t
-      → AreFound s xs → AreFound t ys
+      → AreJudgedRight s xs → AreJudgedRight t ys
       → own_part address s ≡ own_part address t → AllZip AreAlike (happenings_all address s xs) (happenings_all address t ys) → IsSameAt address s t xs ys
 
 -- ---- after every input a set with a NAME has that of its address's holder (the own address has no set)

@@ -26,7 +26,7 @@ use Rattle.vt_layout.specs.Drawings.{IsChained, Sticks, at_path, key_entries, ma
 use Rattle.vt_layout.specs.LookUps.{FindsAll}
 use Rattle.vt_node.specs.Bus.{notice_of}
 use Rattle.vt_server.specs.shown.ShownSet.{choosing, shown_now, events_of_change}
-use Rattle.vt_server.specs.Findings.{AreFound, ends_transfer}
+use Rattle.vt_server.specs.Judgements.{AreJudgedRight, ends_transfer}
 use Rattle.vt_server.specs.frame.TimeoutActs.{at_time, lapsed}
 use Rattle.vt_server.specs.operator.ActionEffects.{action_on, is_busy}
 use Rattle.vt_server.specs.state.AddressViews.{AddressView, Act, Hears, Preloads, Operates, Raises}
@@ -225,6 +225,6 @@ pub record NeverSticks : Type 0 where
   pub first : (s : State) → ((address : ℕ) → s.places address ≡ empty) → ArePoolsInForce (λ address. None) s
   pub preloaded : (pools : Pools) (s : State) (address : ℕ) (pool : Objects) → IsVerified pool → ArePoolsInForce pools s
       → ArePoolsInForce (with_at address (Some (map_of pool)) pools) (preloading s address (map_of pool))
-  pub events : (pools : Pools) (old : State) (events : List JudgedInput) → ArePoolsInForce pools old → AreFound old events → EventsKeep pools old events
+  pub events : (pools : Pools) (old : State) (events : List JudgedInput) → ArePoolsInForce pools old → AreJudgedRight old events → EventsKeep pools old events
   pub inputs : (pools : Pools) (old : State) (inputs : List Input) (new : State) (sent_before sent_after : List Output) → ArePoolsInForce pools old
       → TakesInputs old inputs new sent_before sent_after → KeepsPromise pools old inputs new sent_before sent_after

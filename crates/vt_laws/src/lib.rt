@@ -51,7 +51,7 @@ pub fn costs_are_within()
     vt_machine::laws::pools_are_ready();
 }
 
-/// The step is a function of the input alone: all right verdicts on an upload, and all right findings of shown objects, give one
+/// The step is a function of the input alone: all right verdicts on an upload, and all right judgements of shown objects, give one
 /// step. Inputs from one state lead to one state and to the same outputs.
 pub fn steps_are_one()
     ensures { StepsAreOne }
@@ -73,7 +73,7 @@ pub fn each_takes_its_own()
 }
 
 /// Two runs with the same happenings at an address, from the same view of it, leave the same view and send it the same frames,
-/// whatever other nodes send. The findings on pools may differ, if they are right in both runs.
+/// whatever other nodes send. The judgements of pools may differ, if they are right in both runs.
 pub fn own_happenings_decide()
     ensures { OwnHappeningsDecide }
 {

@@ -12,7 +12,7 @@ use Rattle.vt_logs.specs.Progress.{Writes}
 use Rattle.vt_logs.specs.LineEffects.{ReplayState, Follows, FollowsInput, IsInputOfLine, TakesInputLine, TakesReading, input_line}
 use Rattle.vt_logs.specs.Texts.{line_fault_text, new_screen, output_text}
 use Rattle.vt_logs.proofs.EarlyEndInLines.{begins_later, begins_more}
-use Rattle.vt_server.specs.Findings.{IsEventOf}
+use Rattle.vt_server.specs.Judgements.{IsEventOf}
 use Rattle.vt_server.specs.Outputs.{outputs_of}
 use Rattle.vt_server.specs.shown.Screens.{IsScreenOf}
 use Rattle.vt_server.specs.States.{TakesInput}
@@ -40,7 +40,7 @@ input_prints a b input before after none taken drawn =
       event = taken.event;
       of_line = event_of_line input taken.event taken.is_input;
       takes = record {
-        found = taken.found;
+        judged = taken.judged;
         state = taken.state;
         screen = drawn;
         printed = ap (λ (outputs : List Output). flat_map output_text outputs ++ new_screen a.screen b.screen) sends;
@@ -70,7 +70,7 @@ pub input_unprinted : (a : ReplayState) (t : State) (input : Input) (before afte
 input_unprinted a t input before after held taken = record {
   text = [];
   text_is = inr (record {
-    done = record { event = taken.event; of_line = event_of_line input taken.event taken.is_input; found = taken.found; state = taken.state };
+    done = record { event = taken.event; of_line = event_of_line input taken.event taken.is_input; judged = taken.judged; state = taken.state };
     printed = inl refl;
   });
   written = Appends-nil held;
@@ -82,7 +82,7 @@ input_begun : (a b : ReplayState) (input : Input) (text : List ℕ) (old new : O
 input_begun a b input text old new prints begun = record {
   text = begun.front;
   text_is = inr (record {
-    done = record { event = prints.event; of_line = prints.of_line; found = prints.takes.found; state = prints.takes.state };
+    done = record { event = prints.event; of_line = prints.of_line; judged = prints.takes.judged; state = prints.takes.state };
     printed = inr (record { to = b; text = text; rest = begun.rest; takes = prints; now_is = refl; parts = begun.parts });
   });
   written = begun.written;

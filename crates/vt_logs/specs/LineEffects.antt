@@ -4,7 +4,7 @@ use Rattle.std.specs.List.{flat_map}
 use Rattle.vt_can.specs.lines.Actions.{action_value}
 use Rattle.vt_can.specs.lines.Readings.{ParsedLine, FrameAt, OperatorAction, SkippedFrame, CommentLine}
 use Rattle.vt_logs.specs.Texts.{LineReading, output_text, line_fault_text, new_screen}
-use Rattle.vt_server.specs.Findings.{IsFound}
+use Rattle.vt_server.specs.Judgements.{IsJudgedRight}
 use Rattle.vt_server.specs.Outputs.{outputs_of}
 use Rattle.vt_server.specs.shown.Screens.{IsScreenOf}
 use Rattle.vt_server.specs.Steps as steps
@@ -18,10 +18,10 @@ pub record ReplayState : Type 0 where
   pub state : State
   pub screen : List ℕ
 
--- The terminal takes an input with the findings on pools in it, and its outputs are printed, then its screen, where that differs from
--- the one printed last.
+-- The terminal takes an input with the judgements of pools in it, and its outputs are printed, then its screen, where that
+-- differs from the one printed last.
 pub record TakesJudged (from : ReplayState) (event : JudgedInput) (to : ReplayState) (text : List ℕ) : Type 0 where
-  pub found : IsFound from.state event
+  pub judged : IsJudgedRight from.state event
   pub state : to.state ≡ (step from.state event).after
   pub screen : IsScreenOf to.state to.screen
   pub printed : text ≡ flat_map output_text (outputs_of (step from.state event).sent) ++ new_screen from.screen to.screen
@@ -74,7 +74,7 @@ TakesReadings from n (r ∷ rs) to text = TakesFirst from n r (λ middle rest. T
 pub record FollowsInput (from : State) (line : ParsedLine) (to : State) : Type 0 where
   pub event : JudgedInput
   pub of_line : IsInputOfLine line event
-  pub found : IsFound from event
+  pub judged : IsJudgedRight from event
   pub state : to ≡ (step from event).after
 
 abbrev pub Follows : State → LineReading → State → Type 0

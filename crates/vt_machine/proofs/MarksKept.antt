@@ -14,7 +14,7 @@ use Rattle.vt_chains.proofs.IdIndices.{stands_of, within}
 use Rattle.vt_shown.proofs.Searches.{clear_mark}
 use Rattle.vt_shown.specs.ShownElements.{IsShown}
 use Rattle.std.specs.Prelude.{slice_index_or}
-use Rattle.vt_shown.specs.Marks.{AreShown, AreSomeShown, IsMarked}
+use Rattle.vt_shown.specs.ShownMarks.{AreShown, AreSomeShown, IsMarked}
 use Rattle.vt_verify.specs.Rules.{working_sets}
 use Rattle.vt_effects.specs.Changes.{HasResult, left}
 use Rattle.vt_effects.specs.Effects.{kind_in, effect, after}

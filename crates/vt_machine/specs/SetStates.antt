@@ -20,7 +20,7 @@ use Rattle.vt_machine.specs.declared.live.HeldKey.{HeldKey}
 use Rattle.vt_machine.specs.declared.live.Outcome.{Outcome}
 use Rattle.vt_machine.specs.declared.live.Outcome.TheVariants.{Done, Refused}
 use Rattle.vt_chains.specs.Depths.{ids_of}
-use Rattle.vt_shown.specs.Marks.{AreShown, AreSomeShown}
+use Rattle.vt_shown.specs.ShownMarks.{AreShown, AreSomeShown}
 use Rattle.vt_effects.specs.Effects.{effect, kind_in}
 use Rattle.vt_macros.specs.Machines.{Ended, mask_of, run, joined_all, total_budget, events_of}
 use Rattle.vt_effects.specs.Soundness.{shape_in}

@@ -4,7 +4,7 @@ use Rattle.std.specs.FinMap as finite
 use Rattle.vt_can.specs.lines.Readings.{FrameAt, OperatorAction, SkippedFrame, CommentLine}
 use Rattle.vt_stores.specs.Stores.{ObjectMap, map_of}
 use Rattle.vt_node.specs.AddressFunctions.{with_at}
-use Rattle.vt_server.specs.Findings.{AreFound}
+use Rattle.vt_server.specs.Judgements.{AreJudgedRight}
 use Rattle.vt_server.specs.Steps.{JudgedInput, after_all, preloading, step}
 use Rattle.vt_server.specs.Terminals.{State}
 use Rattle.vt_laws.specs.Headline.{Pools, ArePoolsInForce, NeverSticks}
@@ -46,7 +46,7 @@ start-in-force laws files options s is = cases options.preload is
 record TakesEvents (AreSuch : List JudgedInput → Type 0) (from to : State) : Type 0 where
   pub events : List JudgedInput
   pub are_such : AreSuch events
-  pub found : AreFound from events
+  pub judged : AreJudgedRight from events
   pub after : to ≡ after_all from events
 
 -- The inputs are taken from the same state.
@@ -56,7 +56,7 @@ taken-later AreSuch from middle to same later = subst (λ (scene : ReplayState).
 -- Lines change a terminal as their inputs do.
 taken-events : (readings : List LineReading) (n : ℕ) (from to : ReplayState) (text : List ℕ) → TakesReadings from n readings to text
     → TakesEvents (AreInputsOfLines readings) from.state to.state
-taken-events [] n from to text t = record { events = []; are_such = tt; found = tt; after = ap (λ (scene : ReplayState). scene.state) t.0 }
+taken-events [] n from to text t = record { events = []; are_such = tt; judged = tt; after = ap (λ (scene : ReplayState). scene.state) t.0 }
 taken-events (Err fault ∷ rs) n from to text t =
     taken-later (AreInputsOfLines rs) from t.middle to.state t.takes.0 (taken-events rs (n + 1) t.middle to t.rest t.next)
 taken-events (Ok (SkippedFrame why) ∷ rs) n from to text t =
@@ -66,11 +66,11 @@ taken-events (Ok CommentLine ∷ rs) n from to text t =
 taken-events (Ok (FrameAt time frame) ∷ rs) n from to text t =
     let i = t.takes in
     let later = subst (λ (s : State). TakesEvents (AreInputsOfLines rs) s to.state) i.takes.state (taken-events rs (n + 1) t.middle to t.rest t.next) in
-    record { events = i.event ∷ later.events; are_such = (i.of_line, later.are_such); found = (i.takes.found, later.found); after = later.after }
+    record { events = i.event ∷ later.events; are_such = (i.of_line, later.are_such); judged = (i.takes.judged, later.judged); after = later.after }
 taken-events (Ok (OperatorAction action) ∷ rs) n from to text t =
     let i = t.takes in
     let later = subst (λ (s : State). TakesEvents (AreInputsOfLines rs) s to.state) i.takes.state (taken-events rs (n + 1) t.middle to t.rest t.next) in
-    record { events = i.event ∷ later.events; are_such = (i.of_line, later.are_such); found = (i.takes.found, later.found); after = later.after }
+    record { events = i.event ∷ later.events; are_such = (i.of_line, later.are_such); judged = (i.takes.judged, later.judged); after = later.after }
 
 pub replay-keeps : NeverSticks → (pools : Pools) (start now : State) (input text : List ℕ) (counts : Counts) → ArePoolsInForce pools start
     → (r : IsReplay start input text counts now) → LinesKeep pools start r.readings now
@@ -80,9 +80,9 @@ replay-keeps laws pools start now input text counts is r =
     record {
       events = taken.events;
       of_lines = taken.are_such;
-      found = taken.found;
+      judged = taken.judged;
       now_is = r.now_is ∙ taken.after;
-      keeps = laws.events pools start taken.events is taken.found;
+      keeps = laws.events pools start taken.events is taken.judged;
     }
 
 -- ---- the lines taken by a replay that ended early
@@ -98,9 +98,9 @@ lines-append (Ok (FrameAt time frame) ∷ rs) qs (e ∷ es) fs p q = (p.0, lines
 lines-append (Ok (OperatorAction action) ∷ rs) qs [] fs p q = absurd p
 lines-append (Ok (OperatorAction action) ∷ rs) qs (e ∷ es) fs p q = (p.0, lines-append rs qs es fs p.1 q)
 
-found-append : (s : State) (es fs : List JudgedInput) → AreFound s es → AreFound (after_all s es) fs → AreFound s (es ++ fs)
-found-append s [] fs p q = q
-found-append s (e ∷ es) fs p q = (p.0, found-append (step s e).after es fs p.1 q)
+right-append : (s : State) (es fs : List JudgedInput) → AreJudgedRight s es → AreJudgedRight (after_all s es) fs → AreJudgedRight s (es ++ fs)
+right-append s [] fs p q = q
+right-append s (e ∷ es) fs p q = (p.0, right-append (step s e).after es fs p.1 q)
 
 after-append : (s : State) (es fs : List JudgedInput) → after_all s (es ++ fs) ≡ after_all (after_all s es) fs
 after-append s [] fs = refl
@@ -111,20 +111,20 @@ taken-more : (rs qs : List LineReading) (from middle to : State) → TakesEvents
 taken-more rs qs from middle to p q = record {
   events = p.events ++ q.events;
   are_such = lines-append rs qs p.events q.events p.are_such q.are_such;
-  found = found-append from p.events q.events p.found (subst (λ (s : State). AreFound s q.events) p.after q.found);
+  judged = right-append from p.events q.events p.judged (subst (λ (s : State). AreJudgedRight s q.events) p.after q.judged);
   after = q.after ∙ ap (λ (s : State). after_all s q.events) p.after ∙ sym (after-append from p.events q.events);
 }
 
 -- A line changes a terminal as its input does, whatever is printed.
 followed-event : (r : LineReading) (from to : State) → Follows from r to → TakesEvents (AreInputsOfLines (r ∷ [])) from to
-followed-event (Err fault) from to same = record { events = []; are_such = tt; found = tt; after = same }
-followed-event (Ok (SkippedFrame why)) from to same = record { events = []; are_such = tt; found = tt; after = same }
-followed-event (Ok CommentLine) from to same = record { events = []; are_such = tt; found = tt; after = same }
-followed-event (Ok (FrameAt time frame)) from to f = record { events = f.event ∷ []; are_such = (f.of_line, tt); found = (f.found, tt); after = f.state }
-followed-event (Ok (OperatorAction action)) from to f = record { events = f.event ∷ []; are_such = (f.of_line, tt); found = (f.found, tt); after = f.state }
+followed-event (Err fault) from to same = record { events = []; are_such = tt; judged = tt; after = same }
+followed-event (Ok (SkippedFrame why)) from to same = record { events = []; are_such = tt; judged = tt; after = same }
+followed-event (Ok CommentLine) from to same = record { events = []; are_such = tt; judged = tt; after = same }
+followed-event (Ok (FrameAt time frame)) from to f = record { events = f.event ∷ []; are_such = (f.of_line, tt); judged = (f.judged, tt); after = f.state }
+followed-event (Ok (OperatorAction action)) from to f = record { events = f.event ∷ []; are_such = (f.of_line, tt); judged = (f.judged, tt); after = f.state }
 
 events-none : (from to : State) → to ≡ from → TakesEvents (AreInputsOfLines []) from to
-events-none from to same = record { events = []; are_such = tt; found = tt; after = same }
+events-none from to same = record { events = []; are_such = tt; judged = tt; after = same }
 
 events-behind : (last : ReplayState) (n : ℕ) (readings : List LineReading) (lines : List (List ℕ)) (now : State) (text : List ℕ)
     → (behind : LeavesLines last n lines now text ⊎ BeginsCounts last readings lines now text)
@@ -149,7 +149,7 @@ stopped-keeps laws pools start now input old new is stopped =
     record {
       events = taken.events;
       of_lines = taken.are_such;
-      found = taken.found;
+      judged = taken.judged;
       now_is = taken.after;
-      keeps = laws.events pools start taken.events is taken.found;
+      keeps = laws.events pools start taken.events is taken.judged;
     }

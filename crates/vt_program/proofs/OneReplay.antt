@@ -27,7 +27,7 @@ use Rattle.vt_program.specs.Promises.{given_pools}
 use Rattle.vt_program.specs.Runs.{FileContents, HasReplayed, IsPoolOf, IsPreloaded, IsStart, WritesReplay, new_state}
 use Rattle.vt_program.proofs.Keeping.{start-in-force}
 use Rattle.vt_records.proofs.ReadInvertsWrite.{same_record}
-use Rattle.vt_server.specs.Findings.{IsEventOf, IsFound}
+use Rattle.vt_server.specs.Judgements.{IsEventOf, IsJudgedRight}
 use Rattle.vt_server.specs.Outputs.{outputs_of}
 use Rattle.vt_server.specs.shown.Screens.{IsScreenAt, IsScreenOf, IsScreenOfShown}
 use Rattle.vt_server.specs.Steps as steps
@@ -103,7 +103,7 @@ module _ (laws : Laws) where
 
   -- ---- a line
 
-  events-one : (s : State) (line : ParsedLine) (e f : JudgedInput) → IsInputOfLine line e → IsInputOfLine line f → IsFound s e → IsFound s f → step s e ≡ step s f
+  events-one : (s : State) (line : ParsedLine) (e f : JudgedInput) → IsInputOfLine line e → IsInputOfLine line f → IsJudgedRight s e → IsJudgedRight s f → step s e ≡ step s f
   events-one s (FrameAt time frame) e f is too found alike =
       laws.steps.events s (inputs.Frame time frame) e f (frame-event time frame e is) (frame-event time frame f too) found alike
   events-one s (OperatorAction value) e f is too found alike =
@@ -129,10 +129,10 @@ module _ (laws : Laws) where
 
   inputs-one : (pools : Pools) (a b c : ReplayState) (line : ParsedLine) (t u : List ℕ) → ArePoolsInForce pools a.state → TakesInputLine a line b t → TakesInputLine a line c u → IsOneWay b c t u
   inputs-one pools a b c line t u force p q =
-      let same : step a.state p.event ≡ step a.state q.event = events-one a.state line p.event q.event p.of_line q.of_line p.takes.found q.takes.found in
+      let same : step a.state p.event ≡ step a.state q.event = events-one a.state line p.event q.event p.of_line q.of_line p.takes.judged q.takes.judged in
       let states : b.state ≡ c.state = p.takes.state ∙ ap (λ (s : Step). s.after) same ∙ sym q.takes.state in
       let later : Pools = accepted_after a.state p.event pools in
-      let kept = laws.never.events pools a.state (p.event ∷ []) force (p.takes.found, tt) in
+      let kept = laws.never.events pools a.state (p.event ∷ []) force (p.takes.judged, tt) in
       let stays : ArePoolsInForce later b.state = subst (λ (s : State). ArePoolsInForce later s) (sym p.takes.state) kept.in_force in
       let screens : b.screen ≡ c.screen = screens-one later b.state b.screen c.screen stays p.takes.screen
       (subst (λ (s : State). IsScreenOf s c.screen) (sym states) q.takes.screen) in

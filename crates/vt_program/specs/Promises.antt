@@ -13,7 +13,7 @@ use Rattle.vt_program.specs.declared.options.Options.{Options}
 use Rattle.vt_node.specs.AddressFunctions.{with_at}
 use Rattle.vt_program.specs.declared.options.Preload.{Preload}
 use Rattle.vt_program.specs.Runs.{FileContents, IsPreloaded, IsStart, new_state}
-use Rattle.vt_server.specs.Findings.{AreFound}
+use Rattle.vt_server.specs.Judgements.{AreJudgedRight}
 use Rattle.vt_server.specs.Steps.{JudgedInput, after_all}
 use Rattle.vt_server.specs.Terminals.{State}
 
@@ -33,7 +33,7 @@ AreInputsOfLines (Ok (OperatorAction action) ∷ readings) (e ∷ events) = IsIn
 pub record LinesKeep (pools : Pools) (start : State) (readings : List LineReading) (now : State) : Type 0 where
   pub events : List JudgedInput
   pub of_lines : AreInputsOfLines readings events
-  pub found : AreFound start events
+  pub judged : AreJudgedRight start events
   pub now_is : now ≡ after_all start events
   pub keeps : EventsKeep pools start events
 

@@ -1,5 +1,5 @@
 -- Definitions cited by the contracts of vt_server.
-pub mod Findings
+pub mod Judgements
 pub mod frame
 pub mod message
 pub mod operator

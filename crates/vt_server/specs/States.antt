@@ -1,7 +1,7 @@
 -- The state of a terminal, and the contracts of its calls.
 use Rattle.std.specs.Prelude.{◌≡◌, ℕ, Option, List, ◌++◌}
 use Rattle.std.specs.FinMap as finite
-use Rattle.vt_server.specs.Findings.{IsEventOf, AreEventsOf, IsFound, AreFound}
+use Rattle.vt_server.specs.Judgements.{IsEventOf, AreEventsOf, IsJudgedRight, AreJudgedRight}
 use Rattle.vt_node.specs.Nodes.{NodeState}
 use Rattle.vt_server.specs.Outputs.{outputs_of}
 use Rattle.vt_server.specs.state.AddressStates.{SetPool, AddressState}
@@ -36,19 +36,19 @@ state_of t = record {
 
 -- ---- inputs
 
--- A terminal handles an input: its findings on pools are right, it makes the step of the input, and it appends the outputs of the
--- step.
+-- A terminal handles an input: its judgements of pools are right, it makes the step of the input, and it appends the outputs of
+-- the step.
 pub record TakesInput (old : State) (input : Input) (new : State) (before after : List Output) : Type 0 where
   pub event : JudgedInput
   pub is_input : IsEventOf input event
-  pub found : IsFound old event
+  pub judged : IsJudgedRight old event
   pub state : new ≡ (step old event).after
   pub sent : after ≡ before ++ outputs_of (step old event).sent
 
--- A terminal handles inputs in order: each with right findings, its step and its outputs.
+-- A terminal handles inputs in order: each with right judgements, its step and its outputs.
 pub record TakesInputs (old : State) (inputs : List Input) (new : State) (before after : List Output) : Type 0 where
   pub events : List JudgedInput
   pub are_inputs : AreEventsOf inputs events
-  pub found : AreFound old events
+  pub judged : AreJudgedRight old events
   pub state : new ≡ after_all old events
   pub sent : after ≡ before ++ outputs_of (sent_by_all old events)

@@ -20,8 +20,8 @@ use Rattle.vt_node.specs.declared.bus.FrameMeaning.{FrameMeaning}
 use Rattle.vt_node.specs.declared.bus.FrameMeaning.TheVariants.{Claim, ClaimRequest}
 use Rattle.vt_server.specs.declared.output.OperatorFault.TheVariants.{NoSet}
 
--- An input with its findings on pools: the verdict on the upload that a frame ends, and whether the object of an action is shown.
--- Findings defines which findings are right.
+-- An input with its judgements of pools: the verdict on the upload that a frame ends, and whether the object of an action is
+-- shown. Judgements defines which of them are right.
 pub data JudgedInput : Type 0 where
   FrameAt : (time : ℕ) (frame : Frame) (verdict : Verdict) → JudgedInput
   ActionAt : (action : ActionValue) (shown : Bool) → JudgedInput

@@ -16,7 +16,7 @@ use Rattle.vt_chains.specs.Depths.{IsBelow, IsIdAt, ids_of, inclusions_of}
 use Rattle.vt_chains.proofs.Elements.{Contains-nil, Contains-head}
 use Rattle.vt_chains.proofs.InclusionsInStore.{stands}
 use Rattle.vt_chains.proofs.IdIndices.{once, same_id, stands_of, within, missing_nowhere}
-use Rattle.vt_shown.specs.Marks.{IsMarked, AreSomeShown, AreShown, HasDrawingMarked, Searched, MarksShown}
+use Rattle.vt_shown.specs.ShownMarks.{IsMarked, AreSomeShown, AreShown, HasDrawingMarked, Searched, MarksShown}
 use Rattle.vt_shown.specs.ShownElements.{resolves_to, is_element, ids_in, drawn_in, soft_keys, IsResolved, IsShown}
 use Rattle.vt_shown.specs.ShownElements.IsShown.{InMask, AmongKeys, Within}
 use Rattle.vt_shown.proofs.DrawnElements.{resolved_case, resolved_falls, resolved_left, resolved_right, only_id}

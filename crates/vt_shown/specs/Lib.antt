@@ -1,3 +1,3 @@
 -- The definitions used in the contracts of vt_shown.
-pub mod Marks
 pub mod ShownElements
+pub mod ShownMarks

@@ -8,7 +8,7 @@ ghost use Rattle.vt_kinds.specs.Records.{Seen, seen};
 ghost use Rattle.vt_stores.specs.Stores.{IsPlace};
 ghost use Rattle.vt_chains.specs.Depths.{ids_of, inclusions_of, IsBelow, IsIdAt};
 ghost use Rattle.vt_chains.specs.Certificates.{IsCertificate};
-ghost use Rattle.vt_shown.specs.Marks.{AreShown, AreSomeShown, Searched, MarksShown};
+ghost use Rattle.vt_shown.specs.ShownMarks.{AreShown, AreSomeShown, Searched, MarksShown};
 ghost use Rattle.vt_shown.specs.ShownElements as showing;
 ghost use Rattle.vt_shown.specs.ShownElements.{drawn_in, ids_in, soft_keys, resolves_to, keys_of, IsResolved};
 

@@ -1,4 +1,4 @@
-use Rattle.vt_laws.proofs.lemmas.findings.OneStep.{steps-one}
+use Rattle.vt_laws.proofs.lemmas.judgements.OneStep.{steps-one}
 use Rattle.vt_laws.proofs.steps_are_one.Goals as goal
 
 pub returns : goal.returns

@@ -11,7 +11,7 @@ use Rattle.vt_transport.specs.Wire.{tp_frame}
 use Rattle.vt_extended.specs.Protocol as etp
 use Rattle.vt_extended.specs.Wire.{etp_frame}
 use Rattle.vt_server.specs.message.Judgements.{IsJudgement}
-use Rattle.vt_server.specs.Findings.{IsJudged, ends_transfer}
+use Rattle.vt_server.specs.Judgements.{IsJudged, ends_transfer}
 use Rattle.vt_server.specs.message.MessageEffects.{TRANSFER, END_OF_POOL, asked}
 use Rattle.vt_server.specs.frame.HoldersBeforeClaim.{AreFormer}
 use Rattle.vt_node.specs.Messages.{technical_reply}

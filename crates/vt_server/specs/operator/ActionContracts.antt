@@ -2,7 +2,7 @@
 use Rattle.std.specs.Prelude.{◌≡◌, ◌≤◌, ◌++◌, ℕ, List, length, Bool, Option, Some, None, IfSome, Result, Decides}
 use Rattle.vt_can.specs.lines.Actions as actions
 use Rattle.vt_can.specs.lines.Actions.{ActionValue}
-use Rattle.vt_server.specs.Findings.{IsSeen}
+use Rattle.vt_server.specs.Judgements.{IsSeen}
 use Rattle.vt_server.specs.Outputs.{outputs_of}
 use Rattle.vt_server.specs.state.AddressViews.{Act, Operates}
 use Rattle.vt_server.specs.Steps.{at_shown, selecting, no_set, has_no_set}

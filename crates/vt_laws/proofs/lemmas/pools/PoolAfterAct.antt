@@ -18,7 +18,7 @@ use Rattle.vt_machine.specs.SetStates.{SetState, working_set_in}
 use Rattle.vt_macros.specs.Machines.{events_of, event_commands}
 use Rattle.vt_machine.specs.OperatorActions as operating
 use Rattle.vt_server.specs.message.CommandEffects.{after_done, deletes, state_after}
-use Rattle.vt_server.specs.Findings.{ends_transfer}
+use Rattle.vt_server.specs.Judgements.{ends_transfer}
 use Rattle.vt_server.specs.message.MessageEffects.{handled, ends_pool, transferred, end_handled, asked, commanded, TRANSFER, END_OF_POOL}
 use Rattle.vt_node.specs.Messages.{technical_reply}
 use Rattle.vt_server.specs.operator.ActionEffects.{action_on, is_busy, message_frames, sending_after, ran}

@@ -9,7 +9,7 @@ use Rattle.vt_stores.specs.Stores.{ObjectMap}
 use Rattle.vt_machine.specs.SetStates.{SetState}
 use Rattle.vt_node.specs.declared.bus.FrameMeaning.{FrameMeaning}
 use Rattle.vt_node.specs.declared.bus.FrameMeaning.TheVariants.{Claim, ClaimRequest, Master, Member, Message, Tp, Etp, Nothing}
-use Rattle.vt_server.specs.Findings.{ends_transfer}
+use Rattle.vt_server.specs.Judgements.{ends_transfer}
 use Rattle.vt_server.specs.message.MessageEffects.{handled, END_OF_POOL}
 use Rattle.vt_server.specs.state.AddressViews.{AddressView, Hears, outcome, after_message}
 use Rattle.vt_server.specs.state.AddressStates.{SetPool, heard_at}

@@ -14,7 +14,7 @@ use Rattle.vt_machine.specs.SetStates.{SetState}
 use Rattle.vt_layout.specs.Drawings.{at_path, key_entries, mask_entries, origin}
 use Rattle.vt_node.specs.Bus.{notice_of}
 use Rattle.vt_server.specs.shown.ShownSet.{choosing, shown_now, events_of_change, raised_at, ACTIVATE, DEACTIVATE}
-use Rattle.vt_server.specs.Findings.{IsJudged, IsFound, AreFound, ends_transfer}
+use Rattle.vt_server.specs.Judgements.{IsJudged, IsJudgedRight, AreJudgedRight, ends_transfer}
 use Rattle.vt_laws.specs.Headline.{Pools, IsPoolInForce, ArePoolsInForce, accepted_at, accepted_with, accepted_by_acts, accepted_in_hearing, accepted_after, accepted_after_all, Run, AllEnd, DrawsWhatIsThere, EventsKeep, KeepsPromise, NeverSticks, runs_at, runs_of_acts, runs_of_shown_update, runs_of_hearing, runs_of_operating, runs}
 use Rattle.vt_server.specs.frame.TimeoutActs.{at_time, lapsed, silences, set_is_silent, tp_due, etp_due, sending_due, after_tp_timeouts, after_etp_timeouts, after_timeouts}
 use Rattle.vt_server.specs.state.AddressViews.{AddressView, Act, Hears, Rebinds, Preloads, TpExpires, EtpExpires, SendingExpires, FallsSilent, Operates, Raises, AddressOutcome, outcome}
@@ -255,7 +255,7 @@ module _ (laws : Laws) where
       cases true = is
       cases false = is
 
-  step-promised : (pools : Pools) (s : State) (e : JudgedInput) → IsFound s e → ArePoolsInForce pools s → Promised (runs s e) (accepted_after s e pools) (step s e).after
+  step-promised : (pools : Pools) (s : State) (e : JudgedInput) → IsJudgedRight s e → ArePoolsInForce pools s → Promised (runs s e) (accepted_after s e pools) (step s e).after
   step-promised pools s (FrameAt time f verdict) found is = cases s.lost found
     where
       t : State
@@ -295,7 +295,7 @@ module _ (laws : Laws) where
     pub ends : AllEnd pools s es
     pub in_force : ArePoolsInForce (accepted_after_all s es pools) (after_all s es)
 
-  all-promised : (pools : Pools) (s : State) (es : List JudgedInput) → AreFound s es → ArePoolsInForce pools s → AllPromised pools s es
+  all-promised : (pools : Pools) (s : State) (es : List JudgedInput) → AreJudgedRight s es → ArePoolsInForce pools s → AllPromised pools s es
   all-promised pools s [] found is = record { ends = tt; in_force = is }
   all-promised pools s (e ∷ es) found is =
       let first = step-promised pools s e found.0 is in
@@ -320,7 +320,7 @@ module _ (laws : Laws) where
   none-yet : (s : State) → ((a : ℕ) → s.places a ≡ empty) → ArePoolsInForce (λ address. None) s
   none-yet s first q = subst (λ (p : AddressState). IsEach None p.content.pool) (sym (first q)) tt
 
-  events-keep : (pools : Pools) (old : State) (events : List JudgedInput) → ArePoolsInForce pools old → AreFound old events → EventsKeep pools old events
+  events-keep : (pools : Pools) (old : State) (events : List JudgedInput) → ArePoolsInForce pools old → AreJudgedRight old events → EventsKeep pools old events
   events-keep pools old events is found =
       let promised = all-promised pools old events found is in
       let later : Pools = accepted_after_all old events pools in
@@ -332,7 +332,7 @@ module _ (laws : Laws) where
 
   keeps : (pools : Pools) (old : State) (inputs : List Input) (new : State) (sent_before sent_after : List Output) → ArePoolsInForce pools old
       → TakesInputs old inputs new sent_before sent_after → KeepsPromise pools old inputs new sent_before sent_after
-  keeps pools old inputs new sent_before sent_after is takes = record { takes = takes; keeps = events-keep pools old takes.events is takes.found }
+  keeps pools old inputs new sent_before sent_after is takes = record { takes = takes; keeps = events-keep pools old takes.events is takes.judged }
 
   pub never-sticks : NeverSticks
   never-sticks = record {

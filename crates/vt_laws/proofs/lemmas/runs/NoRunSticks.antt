@@ -34,7 +34,7 @@ use Rattle.vt_effects.specs.Soundness.{CommandsKeepOrder, CommandsKeepShapes, Is
 use Rattle.vt_layout.specs.Drawings.{DrawingsNeverStick, PathsAreChained}
 use Rattle.vt_layout.specs.LookUps.{DrawingsFindAll}
 use Rattle.vt_server.specs.message.CommandEffects.{after_done, content_after, deletes, state_after}
-use Rattle.vt_server.specs.Findings.{IsJudged, ends_transfer}
+use Rattle.vt_server.specs.Judgements.{IsJudged, ends_transfer}
 use Rattle.vt_server.specs.message.MessageEffects.{handled, ends_pool, transferred, end_handled, asked, commanded, TRANSFER, END_OF_POOL}
 use Rattle.vt_laws.specs.Headline.{IsPoolInForce, EndsInTime, accepted_at, accepted_by, accepted_with}
 use Rattle.vt_node.specs.Messages.{technical_reply}

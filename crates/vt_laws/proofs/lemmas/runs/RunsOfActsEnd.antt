@@ -15,7 +15,7 @@ use Rattle.vt_machine.specs.SetStates.{SetState, working_set_in}
 use Rattle.vt_macros.specs.Machines.{events_of}
 use Rattle.vt_machine.specs.OperatorActions as operating
 use Rattle.vt_node.specs.AddressFunctions.{with_at}
-use Rattle.vt_server.specs.Findings.{ends_transfer}
+use Rattle.vt_server.specs.Judgements.{ends_transfer}
 use Rattle.vt_server.specs.message.MessageEffects.{END_OF_POOL}
 use Rattle.vt_laws.specs.Headline.{Pools, Run, IsPoolInForce, EndsInTime, accepted_at, accepted_with, runs_of_effect, runs_of_command, runs_of_message, runs_of_action, runs_of_operator, runs_of_event, runs_at, named}
 use Rattle.vt_server.specs.operator.ActionEffects.{action_on, is_busy}

@@ -1,4 +1,4 @@
--- The happenings at an address decide its view, for any right findings on pools.
+-- The happenings at an address decide its view, for any right judgements of pools.
 use Rattle.std.proofs.Common.{◌≡◌, ◌≢◌, ℕ, Bool, true, false, cond, eqb, List, [], ◌∷◌, ◌++◌, Option, Some, None, is_some, ◌&&◌, refl, sym, ap, subst, ◌∙◌, nat_eq}
 use Rattle.std.proofs.lemmas.Bool.{eqb-true, false≢true}
 use Rattle.std.specs.List.{AllZip}
@@ -11,7 +11,7 @@ use Rattle.vt_names.specs.Claims.{Claimed, holder_of}
 use Rattle.vt_names.specs.Registry.{Set, set_at}
 use Rattle.vt_node.specs.Bus.{notice_of, frame_notice}
 use Rattle.vt_server.specs.shown.ShownSet.{shown_now, ACTIVATE, DEACTIVATE}
-use Rattle.vt_server.specs.Findings.{IsJudged, IsFound, AreFound, ends_transfer}
+use Rattle.vt_server.specs.Judgements.{IsJudged, IsJudgedRight, AreJudgedRight, ends_transfer}
 use Rattle.vt_laws.specs.Happenings.{Happening, TpExpired, EtpExpired, SendingExpired, FellSilent, Lost, HolderIs, FrameHeard, Operated, EventRaised, response, part_after_all, frames_of_all, own_part, is_at, if_so, holder_change, claims_after, events_at, lapses, loses, heard_happenings, after_frame, after_action_at, frame_happenings, happenings, happenings_all, AreAlike, OwnHappeningsDecide}
 use Rattle.vt_laws.specs.Responses.{Response, response_of}
 use Rattle.vt_server.specs.state.StateInvariants.{IsOrderly, IsOther}
@@ -28,41 +28,41 @@ use Rattle.vt_node.specs.declared.bus.FrameMeaning.TheVariants.{Claim, ClaimRequ
 use Rattle.vt_server.proofs.lemmas.acts.HolderChanges.{option-true}
 use Rattle.vt_laws.proofs.lemmas.views.HappeningsOfFrame.{notice-there}
 use Rattle.vt_server.proofs.lemmas.steps.StepInvariants.{claims-lapsed, other-step}
-use Rattle.vt_laws.proofs.lemmas.findings.OneStep.{IsSeenIn, operator-one}
-use Rattle.vt_laws.proofs.lemmas.findings.OneVerdict.{Judging, heard-one}
+use Rattle.vt_laws.proofs.lemmas.judgements.OneStep.{IsSeenIn, operator-one}
+use Rattle.vt_laws.proofs.lemmas.judgements.OneVerdict.{Judging, heard-one}
 use Rattle.vt_laws.proofs.lemmas.views.ActChangesOneView.{bare}
 use Rattle.vt_laws.proofs.lemmas.views.ViewsAfterSteps.{own-bare, step-ends, orderly-step, part-all, frames-all}
 use Rattle.vt_laws.proofs.lemmas.views.ResponsesInSequence.{response-has, lapses-take}
 use Rattle.vt_laws.proofs.lemmas.views.OutcomesWithoutTimes.{Laws, came-timeless}
 use Rattle.vt_names.proofs.IndexAfterClaim.{option_same}
 
--- ---- right findings, by the view of the address alone
+-- ---- right judgements, by the view of the address alone
 
-abbrev IsOwnFound : ℕ → AddressView → Happening → Type 0
-IsOwnFound a p (FrameHeard f verdict) = IsJudged 0 a p (frame_notice p.terminal f) f verdict
-IsOwnFound a p (Operated action shown) = IsSeenIn p.place.content.pool (object_acted_on action) shown
-IsOwnFound a p _ = Unit {0}
+abbrev IsOwnRight : ℕ → AddressView → Happening → Type 0
+IsOwnRight a p (FrameHeard f verdict) = IsJudged 0 a p (frame_notice p.terminal f) f verdict
+IsOwnRight a p (Operated action shown) = IsSeenIn p.place.content.pool (object_acted_on action) shown
+IsOwnRight a p _ = Unit {0}
 
-abbrev AreOwnFound : ℕ → AddressView → List Happening → Type 0
-AreOwnFound a p [] = Unit {0}
-AreOwnFound a p (h ∷ hs) = IsOwnFound a p h × AreOwnFound a (response a p h).part hs
+abbrev AreOwnRight : ℕ → AddressView → List Happening → Type 0
+AreOwnRight a p [] = Unit {0}
+AreOwnRight a p (h ∷ hs) = IsOwnRight a p h × AreOwnRight a (response a p h).part hs
 
-found-append : (a : ℕ) (p : AddressView) (xs ys : List Happening) → AreOwnFound a p xs → AreOwnFound a (part_after_all a p xs) ys → AreOwnFound a p (xs ++ ys)
-found-append a p [] ys found rest = rest
-found-append a p (x ∷ xs) ys found rest = (found.0, found-append a (response a p x).part xs ys found.1 rest)
+right-append : (a : ℕ) (p : AddressView) (xs ys : List Happening) → AreOwnRight a p xs → AreOwnRight a (part_after_all a p xs) ys → AreOwnRight a p (xs ++ ys)
+right-append a p [] ys found rest = rest
+right-append a p (x ∷ xs) ys found rest = (found.0, right-append a (response a p x).part xs ys found.1 rest)
 
--- ---- happenings without findings
+-- ---- happenings without judgements
 
 abbrev IsPlain : Happening → Type 0
-IsPlain h = (a : ℕ) (p : AddressView) → IsOwnFound a p h
+IsPlain h = (a : ℕ) (p : AddressView) → IsOwnRight a p h
 
 abbrev ArePlain : List Happening → Type 0
 ArePlain [] = Unit {0}
 ArePlain (h ∷ hs) = IsPlain h × ArePlain hs
 
-plain-found : (a : ℕ) (p : AddressView) (hs : List Happening) → ArePlain hs → AreOwnFound a p hs
-plain-found a p [] plain = tt
-plain-found a p (h ∷ hs) plain = (plain.0 a p, plain-found a (response a p h).part hs plain.1)
+plain-right : (a : ℕ) (p : AddressView) (hs : List Happening) → ArePlain hs → AreOwnRight a p hs
+plain-right a p [] plain = tt
+plain-right a p (h ∷ hs) plain = (plain.0 a p, plain-right a (response a p h).part hs plain.1)
 
 plain-append : (xs ys : List Happening) → ArePlain xs → ArePlain ys → ArePlain (xs ++ ys)
 plain-append [] ys first rest = rest
@@ -119,7 +119,7 @@ module _ (laws : Laws) where
     own = u.claims.own
 
     abbrev IsRightAfter : List Happening → Type 0
-    IsRightAfter hs = IsOwnFound a (part_after_all a (bare a u) hs) (FrameHeard f verdict)
+    IsRightAfter hs = IsOwnRight a (part_after_all a (bare a u) hs) (FrameHeard f verdict)
 
     terminal-after : (c : Claimed) → (part_after_all a (bare a u) (holder_change a u.claims c)).terminal ≡ own
     terminal-after c = cases (option_eq nat_eq (holder_of u.claims.addresses a) (holder_of c.addresses a))
@@ -152,91 +152,91 @@ module _ (laws : Laws) where
     abbrev m : FrameMeaning
     m = notice_of own u.claims.name f
 
-    heard-found : IsJudged u.now (source_of f) (part (source_of f) u) m f verdict → AreOwnFound a (bare a u) (heard_happenings a u f verdict)
-    heard-found judged =
-        found-append a (bare a u) (holder_change a u.claims (claims_after u f)) (if_so (eqb (source_of f) a) (FrameHeard f verdict))
-        (plain-found a (bare a u) (holder_change a u.claims (claims_after u f)) (holder-plain a u.claims (claims_after u f)))
+    heard-right : IsJudged u.now (source_of f) (part (source_of f) u) m f verdict → AreOwnRight a (bare a u) (heard_happenings a u f verdict)
+    heard-right judged =
+        right-append a (bare a u) (holder_change a u.claims (claims_after u f)) (if_so (eqb (source_of f) a) (FrameHeard f verdict))
+        (plain-right a (bare a u) (holder_change a u.claims (claims_after u f)) (holder-plain a u.claims (claims_after u f)))
         (cases (eqb (source_of f) a) (λ here. right (eqb-true (source_of f) a here)))
       where
         q : AddressView
         q = part_after_all a (bare a u) (holder_change a u.claims (claims_after u f))
 
-        right : source_of f ≡ a → IsOwnFound a q (FrameHeard f verdict)
+        right : source_of f ≡ a → IsOwnRight a q (FrameHeard f verdict)
         right here =
             notice-right m (sym (notice-there a u f apart here)) (subst (λ b. IsJudged u.now b (part b u) m f verdict) here judged)
 
-        cases : (b : Bool) → (b ≡ true → IsOwnFound a q (FrameHeard f verdict)) → AreOwnFound a q (if_so b (FrameHeard f verdict))
+        cases : (b : Bool) → (b ≡ true → IsOwnRight a q (FrameHeard f verdict)) → AreOwnRight a q (if_so b (FrameHeard f verdict))
         cases true is = (is refl, tt)
         cases false is = tt
 
-    hearing-found : IsJudged u.now (source_of f) (part (source_of f) u) m f verdict → AreOwnFound a (bare a u) (frame_happenings a u f verdict)
-    hearing-found judged = cases (loses u f)
+    hearing-right : IsJudged u.now (source_of f) (part (source_of f) u) m f verdict → AreOwnRight a (bare a u) (frame_happenings a u f verdict)
+    hearing-right judged = cases (loses u f)
       where
-        cases : (b : Bool) → AreOwnFound a (bare a u) (cond b (Lost ∷ []) (heard_happenings a u f verdict ++ events_at a u.shown (shown_now (after_frame u f verdict))))
+        cases : (b : Bool) → AreOwnRight a (bare a u) (cond b (Lost ∷ []) (heard_happenings a u f verdict ++ events_at a u.shown (shown_now (after_frame u f verdict))))
         cases true = (tt, tt)
         cases false =
             let hs = heard_happenings a u f verdict in
             let events = events_at a u.shown (shown_now (after_frame u f verdict)) in
-            found-append a (bare a u) hs events (heard-found judged)
-            (plain-found a (part_after_all a (bare a u) hs) events (events-plain a u.shown (shown_now (after_frame u f verdict))))
+            right-append a (bare a u) hs events (heard-right judged)
+            (plain-right a (part_after_all a (bare a u) hs) events (events-plain a u.shown (shown_now (after_frame u f verdict))))
 
   -- ---- every step
 
-  frame-found : (a : ℕ) (s : State) (time : ℕ) (f : Frame) (verdict : Verdict) → IsOrderly s → IsOther a s → s.lost ≡ false → IsFound s (FrameAt time f verdict)
-      → AreOwnFound a (bare a s) (lapses a (at_time s time) ++ frame_happenings a (lapsed (at_time s time)) f verdict)
-  frame-found a s time f verdict orderly other has found =
+  frame-right : (a : ℕ) (s : State) (time : ℕ) (f : Frame) (verdict : Verdict) → IsOrderly s → IsOther a s → s.lost ≡ false → IsJudgedRight s (FrameAt time f verdict)
+      → AreOwnRight a (bare a s) (lapses a (at_time s time) ++ frame_happenings a (lapsed (at_time s time)) f verdict)
+  frame-right a s time f verdict orderly other has found =
       let t = at_time s time in
       let u = lapsed t in
       let lapse = lapses-take laws a t other.small orderly.apart has in
       let same = sym (claims-lapsed t) in
       let judged = subst (λ (c : Claimed). IsJudged u.now (source_of f) (part (source_of f) u) (notice_of c.own c.name f) f verdict) same (found has) in
       let apart = subst (λ (c : Claimed). a ≢ c.own) same other.other in
-      found-append a (bare a s) (lapses a t) (frame_happenings a u f verdict) (plain-found a (bare a s) (lapses a t) (lapses-plain a t))
-      (subst (λ p. AreOwnFound a p (frame_happenings a u f verdict)) lapse.part (hearing-found a u f verdict apart lapse.has judged))
+      right-append a (bare a s) (lapses a t) (frame_happenings a u f verdict) (plain-right a (bare a s) (lapses a t) (lapses-plain a t))
+      (subst (λ p. AreOwnRight a p (frame_happenings a u f verdict)) lapse.part (hearing-right a u f verdict apart lapse.has judged))
 
-  action-found : (a : ℕ) (s : State) (action : ActionValue) (shown : Bool) → IsSeenIn (pool_at s s.shown) (object_acted_on action) shown
-      → AreOwnFound a (bare a s) (if_so (is_at a s.shown) (Operated action shown) ++ events_at a s.shown (shown_now (after_action_at s action shown)))
-  action-found a s action shown seen =
+  action-right : (a : ℕ) (s : State) (action : ActionValue) (shown : Bool) → IsSeenIn (pool_at s s.shown) (object_acted_on action) shown
+      → AreOwnRight a (bare a s) (if_so (is_at a s.shown) (Operated action shown) ++ events_at a s.shown (shown_now (after_action_at s action shown)))
+  action-right a s action shown seen =
       let hs = if_so (is_at a s.shown) (Operated action shown) in
       let events = events_at a s.shown (shown_now (after_action_at s action shown)) in
-      found-append a (bare a s) hs events
+      right-append a (bare a s) hs events
       (cases (is_at a s.shown) (λ here. subst (λ o. IsSeenIn (pool_at s o) (object_acted_on action) shown) (option-true s.shown (Some a) here) seen))
-      (plain-found a (part_after_all a (bare a s) hs) events (events-plain a s.shown (shown_now (after_action_at s action shown))))
+      (plain-right a (part_after_all a (bare a s) hs) events (events-plain a s.shown (shown_now (after_action_at s action shown))))
     where
-      cases : (b : Bool) → (b ≡ true → IsOwnFound a (bare a s) (Operated action shown)) → AreOwnFound a (bare a s) (if_so b (Operated action shown))
+      cases : (b : Bool) → (b ≡ true → IsOwnRight a (bare a s) (Operated action shown)) → AreOwnRight a (bare a s) (if_so b (Operated action shown))
       cases true is = (is refl, tt)
       cases false is = tt
 
-  step-found : (a : ℕ) (s : State) (e : JudgedInput) → IsOrderly s → IsOther a s → IsFound s e → AreOwnFound a (own_part a s) (happenings a s e)
-  step-found a s (FrameAt time f verdict) orderly other found = cases s.lost refl
+  step-right : (a : ℕ) (s : State) (e : JudgedInput) → IsOrderly s → IsOther a s → IsJudgedRight s e → AreOwnRight a (own_part a s) (happenings a s e)
+  step-right a s (FrameAt time f verdict) orderly other found = cases s.lost refl
     where
       hs : List Happening
       hs = lapses a (at_time s time) ++ frame_happenings a (lapsed (at_time s time)) f verdict
 
-      cases : (b : Bool) → s.lost ≡ b → AreOwnFound a (own_part a s) (cond b [] hs)
+      cases : (b : Bool) → s.lost ≡ b → AreOwnRight a (own_part a s) (cond b [] hs)
       cases true lost = tt
-      cases false has = subst (λ p. AreOwnFound a p hs) (sym (own-bare a s has)) (frame-found a s time f verdict orderly other has found)
-  step-found a s (ActionAt action shown) orderly other found = cases s.lost refl
+      cases false has = subst (λ p. AreOwnRight a p hs) (sym (own-bare a s has)) (frame-right a s time f verdict orderly other has found)
+  step-right a s (ActionAt action shown) orderly other found = cases s.lost refl
     where
       hs : List Happening
       hs = if_so (is_at a s.shown) (Operated action shown) ++ events_at a s.shown (shown_now (after_action_at s action shown))
 
-      cases : (b : Bool) → s.lost ≡ b → AreOwnFound a (own_part a s) (cond b [] hs)
+      cases : (b : Bool) → s.lost ≡ b → AreOwnRight a (own_part a s) (cond b [] hs)
       cases true lost = tt
-      cases false has = subst (λ p. AreOwnFound a p hs) (sym (own-bare a s has)) (action-found a s action shown (found has))
+      cases false has = subst (λ p. AreOwnRight a p hs) (sym (own-bare a s has)) (action-right a s action shown (found has))
 
-  all-found : (a : ℕ) (s : State) (xs : List JudgedInput) → IsOrderly s → IsOther a s → AreFound s xs → AreOwnFound a (own_part a s) (happenings_all a s xs)
-  all-found a s [] orderly other found = tt
-  all-found a s (e ∷ xs) orderly other found =
+  all-right : (a : ℕ) (s : State) (xs : List JudgedInput) → IsOrderly s → IsOther a s → AreJudgedRight s xs → AreOwnRight a (own_part a s) (happenings_all a s xs)
+  all-right a s [] orderly other found = tt
+  all-right a s (e ∷ xs) orderly other found =
       let later = happenings_all a (step s e).after xs in
-      found-append a (own_part a s) (happenings a s e) later (step-found a s e orderly other found.0)
-      (subst (λ p. AreOwnFound a p later) (step-ends laws a s e orderly other).part
-      (all-found a (step s e).after xs (orderly-step laws s e orderly) (other-step a s e other) found.1))
+      right-append a (own_part a s) (happenings a s e) later (step-right a s e orderly other found.0)
+      (subst (λ p. AreOwnRight a p later) (step-ends laws a s e orderly other).part
+      (all-right a (step s e).after xs (orderly-step laws s e orderly) (other-step a s e other) found.1))
 
--- ---- alike happenings with right findings
+-- ---- alike happenings with right judgements
 
 module _ (judging : Judging) (a : ℕ) where
-  response-one : (p : AddressView) (h k : Happening) → AreAlike h k → IsOwnFound a p h → IsOwnFound a p k → response a p h ≡ response a p k
+  response-one : (p : AddressView) (h k : Happening) → AreAlike h k → IsOwnRight a p h → IsOwnRight a p k → response a p h ≡ response a p k
   response-one p (FrameHeard f v) (FrameHeard g w) same is too =
       let n = frame_notice p.terminal f in
       let right = subst (λ (x : Frame). IsJudged 0 a p (frame_notice p.terminal x) x w) (sym same) too in
@@ -253,13 +253,13 @@ module _ (judging : Judging) (a : ℕ) where
     pub part : part_after_all a p hs ≡ part_after_all a p ks
     pub frames : frames_of_all a p hs ≡ frames_of_all a p ks
 
-  alike-one : (p : AddressView) (hs ks : List Happening) → AreOwnFound a p hs → AreOwnFound a p ks → AllZip AreAlike hs ks → AreOne p hs ks
+  alike-one : (p : AddressView) (hs ks : List Happening) → AreOwnRight a p hs → AreOwnRight a p ks → AllZip AreAlike hs ks → AreOne p hs ks
   alike-one p [] [] found too alike = record { part = refl; frames = refl }
   alike-one p [] (k ∷ ks) found too alike = absurd alike
   alike-one p (h ∷ hs) [] found too alike = absurd alike
   alike-one p (h ∷ hs) (k ∷ ks) found too alike =
       let first = response-one p h k alike.0 found.0 too.0 in
-      let moved = subst (λ (r : Response). AreOwnFound a r.part ks) (sym first) too.1 in
+      let moved = subst (λ (r : Response). AreOwnRight a r.part ks) (sym first) too.1 in
       let rest = alike-one (response a p h).part hs ks found.1 moved alike.1 in
       record {
         part = rest.part ∙ ap (λ (r : Response). part_after_all a r.part ks) first;
@@ -277,8 +277,8 @@ decide laws judging = record {
   alike = λ a s t xs ys here there other then-other found too same alike.
       let hs = happenings_all a s xs in
       let ks = happenings_all a t ys in
-      let moved = subst (λ (p : AddressView). AreOwnFound a p ks) (sym same) (all-found laws a t ys there then-other too) in
-      let one = alike-one judging a (own_part a s) hs ks (all-found laws a s xs here other found) moved alike in
+      let moved = subst (λ (p : AddressView). AreOwnRight a p ks) (sym same) (all-right laws a t ys there then-other too) in
+      let one = alike-one judging a (own_part a s) hs ks (all-right laws a s xs here other found) moved alike in
       record {
         part = part-all laws a s xs here other ∙ one.part ∙ ap (λ p. part_after_all a p ks) same ∙ sym (part-all laws a t ys there then-other);
         frames = frames-all laws a s xs here other ∙ one.frames ∙ ap (λ p. frames_of_all a p ks) same ∙ sym (frames-all laws a t ys there then-other);

@@ -5,7 +5,7 @@ use Rattle.std.specs.Option.{option_to_list}
 use Rattle.vt_can.specs.declared.frames.frame.Frame.{Frame}
 use Rattle.vt_can.specs.frames.Frame.{source_of}
 use Rattle.vt_names.specs.Registry.{set_at}
-use Rattle.vt_server.specs.Findings.{IsJudged, ends_transfer}
+use Rattle.vt_server.specs.Judgements.{IsJudged, ends_transfer}
 use Rattle.vt_server.specs.frame.FrameContracts.{Handles, TakesNotice, TakesFrame, IsNoClaim}
 use Rattle.vt_server.specs.Outputs.{frames_of, outputs_of}
 use Rattle.vt_server.specs.state.AddressViews.{AddressView, AddressOutcome, Hears, after_message, after_came, after_notice, with_frames_first}

@@ -10,7 +10,7 @@ use Rattle.vt_transport.specs.Wire.{tp_frame}
 use Rattle.vt_extended.specs.Protocol as etp
 use Rattle.vt_extended.specs.Wire.{etp_frame}
 use Rattle.vt_node.specs.Bus.{notice_of}
-use Rattle.vt_server.specs.Findings.{IsJudged, ends_transfer}
+use Rattle.vt_server.specs.Judgements.{IsJudged, ends_transfer}
 use Rattle.vt_server.specs.frame.FrameContracts.{FitsMessage, FitsOneFrame, FitsCompleted, FitsMeaning, HasCapacity, HasUpload, IsNoClaim, TakesNotice, TakesFrame, TakesClaim, FinishesFrame, timely, message_by}
 use Rattle.vt_server.specs.frame.HoldersBeforeClaim.{AreFormer}
 use Rattle.vt_server.specs.frame.TimeoutActs.{at_time, lapsed, sent_by_lapses}
@@ -356,7 +356,7 @@ module _ (s : State) (time : ℕ) (frame : Frame) where
       let whole = ap (λ b. cond b (no_step s) (step_frame s time frame v)) kept in record {
         event = FrameAt time frame v;
         is_input = (refl, refl);
-        found = λ _. subst (λ m. IsJudged u.now (source_of frame) (part (source_of frame) u) m frame v) is hears.judged;
+        judged = λ _. subst (λ m. IsJudged u.now (source_of frame) (part (source_of frame) u) m frame v) is hears.judged;
         state = hears.state ∙ ap (λ m. (hearing s u (source_of frame) m frame v).after) is ∙ sym (ap (λ (x : Step). x.after) whole);
         sent =
             hears.sent ∙ ap (λ m. middle ++ outputs_of (hearing s u (source_of frame) m frame v).sent) is
@@ -372,7 +372,7 @@ module _ (s : State) (time : ℕ) (frame : Frame) where
       let whole = ap (λ b. cond b (no_step s) (step_frame s time frame any_verdict)) lost in record {
         event = FrameAt time frame any_verdict;
         is_input = (refl, refl);
-        found = λ kept. absurd (true≢false (sym lost ∙ kept));
+        judged = λ kept. absurd (true≢false (sym lost ∙ kept));
         state = sym (ap (λ (x : Step). x.after) whole);
         sent = sym (ap (λ (x : Step). outputs ++ outputs_of x.sent) whole ∙ append-nil outputs);
       }

@@ -6,7 +6,7 @@ use Rattle.vt_names.specs.Registry.{Set, set_at}
 use Rattle.vt_commands.specs.declared.command.Command.{Command}
 use Rattle.vt_commands.specs.Commands.{command_at}
 use Rattle.vt_server.specs.message.CommandEffects.{content_after, error_after}
-use Rattle.vt_server.specs.Findings.{ends_transfer}
+use Rattle.vt_server.specs.Judgements.{ends_transfer}
 use Rattle.vt_server.specs.message.MessageEffects.{Handled, handled, asked, commanded, transferred, end_handled, TRANSFER, END_OF_POOL}
 use Rattle.vt_server.specs.frame.FrameContracts.{HandlesMessage, IsReplyTo, BeginsWithByte, is_other, with_content_at, IsJudgedAt}
 use Rattle.vt_node.specs.Messages.{message_to, technical_reply}

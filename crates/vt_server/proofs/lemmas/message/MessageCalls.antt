@@ -11,7 +11,7 @@ use Rattle.vt_names.specs.Registry.{Set, set_at}
 use Rattle.vt_transport.specs.Senders.{Answer, answered, unanswered}
 use Rattle.vt_transport.specs.Wire.{tp_frame}
 use Rattle.vt_server.specs.message.Judgements.{IsEnded}
-use Rattle.vt_server.specs.Findings.{ends_transfer}
+use Rattle.vt_server.specs.Judgements.{ends_transfer}
 use Rattle.vt_server.specs.message.MessageEffects.{asked, transferred, end_handled, TRANSFER, END_OF_POOL}
 use Rattle.vt_server.specs.frame.FrameContracts.{HandlesMessage, Handles, IsReplyTo, TakesNotice, BeginsWithByte, is_other, with_content_at}
 use Rattle.vt_node.specs.Messages.{message_to, technical_reply}

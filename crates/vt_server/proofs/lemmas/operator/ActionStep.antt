@@ -378,7 +378,7 @@ pub takes-lost : (s : State) (action : line.Action) (before : List Output) → s
 takes-lost s action before lost = record {
   event = ActionAt (action_value action) false;
   is_input = refl;
-  found = λ not_lost. absurd (true≢false (sym lost ∙ not_lost));
+  judged = λ not_lost. absurd (true≢false (sym lost ∙ not_lost));
   state = sym (ap (λ b. (cond b (no_step s) (step_action s (action_value action) false)).after) lost);
   sent = sym (ap (λ b. before ++ outputs_of (cond b (no_step s) (step_action s (action_value action) false)).sent) lost ∙ append-nil before);
 }
@@ -392,7 +392,7 @@ takes-input s t new action before middle after lost takes state sent =
     record {
       event = ActionAt (action_value action) takes.shown;
       is_input = refl;
-      found = λ not_lost. takes.seen;
+      judged = λ not_lost. takes.seen;
       state = state ∙ ap with_shown_updated takes.state ∙ sym (ap (λ b. (cond b (no_step s) (step_action s (action_value action) takes.shown)).after) lost);
       sent =
           sent ∙ (λ i. takes.sent i ++ outputs_of (sent_by_shown_update s (takes.state i)))

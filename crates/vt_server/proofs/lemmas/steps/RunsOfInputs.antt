@@ -1,7 +1,7 @@
 -- A run of inputs grows by one input at a time.
 use Rattle.std.proofs.Common.{◌≡◌, Bool, true, false, ◌||◌, cond, ◌<◌, ℕ, suc, ◌+◌, List, [], ◌∷◌, ◌++◌, length, take, get_or, refl, sym, ap, subst, ◌∙◌, append-nil, append_assoc, arith}
 use Rattle.std.proofs.Math.Seq.{take-suc}
-use Rattle.vt_server.specs.Findings.{IsEventOf, AreEventsOf, IsFound, AreFound}
+use Rattle.vt_server.specs.Judgements.{IsEventOf, AreEventsOf, IsJudgedRight, AreJudgedRight}
 use Rattle.vt_server.specs.Outputs.{outputs_of}
 use Rattle.vt_server.specs.States.{TakesInput, TakesInputs}
 use Rattle.vt_server.specs.Steps.{JudgedInput, FrameAt, ActionAt, step, no_step, step_frame, step_action, after_all, sent_by_all}
@@ -20,9 +20,9 @@ sent-more s (d ∷ es) e =
     ap (λ l. (step s d).sent ++ l) (sent-more (step s d).after es e)
     ∙ sym (append_assoc (step s d).sent (sent_by_all (step s d).after es) (step (after_all (step s d).after es) e).sent)
 
-found-more : (s : State) (es : List JudgedInput) (e : JudgedInput) → AreFound s es → IsFound (after_all s es) e → AreFound s (es ++ e ∷ [])
-found-more s [] e are is = (is, tt)
-found-more s (d ∷ es) e are is = (are.0, found-more (step s d).after es e are.1 is)
+right-more : (s : State) (es : List JudgedInput) (e : JudgedInput) → AreJudgedRight s es → IsJudgedRight (after_all s es) e → AreJudgedRight s (es ++ e ∷ [])
+right-more s [] e are is = (is, tt)
+right-more s (d ∷ es) e are is = (are.0, right-more (step s d).after es e are.1 is)
 
 events-more : (xs : List Input) (es : List JudgedInput) (x : Input) (e : JudgedInput) → AreEventsOf xs es → IsEventOf x e → AreEventsOf (xs ++ x ∷ []) (es ++ e ∷ [])
 events-more [] [] x e are is = (is, tt)
@@ -32,7 +32,7 @@ events-more (y ∷ xs) (d ∷ es) x e are is = (are.0, events-more xs es x e are
 
 -- The run without inputs changes nothing.
 pub run-none : (s : State) (outputs : List Output) → TakesInputs s [] s outputs outputs
-run-none s outputs = record { events = []; are_inputs = tt; found = tt; state = refl; sent = sym (append-nil outputs) }
+run-none s outputs = record { events = []; are_inputs = tt; judged = tt; state = refl; sent = sym (append-nil outputs) }
 
 -- A terminal that lost its address stays unchanged.
 pub lost-stays : (s t : State) (x : Input) (old new : List Output) → s.lost ≡ true → TakesInput s x t old new → t.lost ≡ true
@@ -63,7 +63,7 @@ module _ (s t u : State) (inputs : List Input) (at : ℕ) (x : Input) (old mid n
       subst (λ xs. TakesInputs s xs u old new) (sym taken) (record {
         events = es ++ e ∷ [];
         are_inputs = events-more (take at inputs) es x e before.are_inputs now.is_input;
-        found = found-more s es e before.found (subst (λ (r : State). IsFound r e) before.state now.found);
+        judged = right-more s es e before.judged (subst (λ (r : State). IsJudgedRight r e) before.state now.judged);
         state = now.state ∙ ap (λ (r : State). (step r e).after) before.state ∙ sym (after-more s es e);
         sent =
             now.sent ∙ (λ i. before.sent i ++ outputs_of (step (before.state i) e).sent)

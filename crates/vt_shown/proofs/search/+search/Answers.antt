@@ -6,7 +6,7 @@ use Rattle.vt_kinds.specs.declared.entries.Child.{Child}
 use Rattle.vt_kinds.specs.Records.{seen}
 use Rattle.vt_chains.specs.Depths.{ids_of}
 use Rattle.vt_chains.proofs.IdIndices.{within}
-use Rattle.vt_shown.specs.Marks.{Searched, MarksShown}
+use Rattle.vt_shown.specs.ShownMarks.{Searched, MarksShown}
 use Rattle.vt_shown.specs.ShownElements.{drawn_in, ids_in}
 use Rattle.vt_shown.proofs.Searches.{all_ids, child_among, child_drawn, drawing_searched, drawing_shown, item_drawn, level_of, resolved_below, resolved_marked, parts_of, resolved_nothing, searched_next, searched_none, searched_within, shown_next, shown_none, shown_one, shown_part, shown_within}
 use Rattle.vt_shown.proofs.search.+search.Goals as goal

@@ -1,6 +1,6 @@
 use Rattle.std.proofs.Common.{◌≡◌, ◌+◌, ◌*◌, false, take}
 use Rattle.std.specs.Prelude.{slice_index, slice_index_or}
-use Rattle.vt_shown.specs.Marks.{Searched, MarksShown}
+use Rattle.vt_shown.specs.ShownMarks.{Searched, MarksShown}
 use Rattle.vt_shown.specs.ShownElements.{ids_in}
 use Rattle.vt_shown.proofs.search.+search.Given as goal
 

@@ -1,6 +1,6 @@
 use Rattle.std.proofs.Common.{◌≡◌, false, take}
 use Rattle.std.specs.Prelude.{slice_index_or}
-use Rattle.vt_shown.specs.Marks.{Searched, MarksShown}
+use Rattle.vt_shown.specs.ShownMarks.{Searched, MarksShown}
 use Rattle.vt_shown.proofs.search.search_keys.Given as goal
 
 abbrev pub invariant-loop-key : goal.invariant-loop-key

@@ -1,5 +1,5 @@
 use Rattle.std.proofs.Common.{◌∙◌, ap, subst, sym, List, ℕ}
-use Rattle.vt_shown.specs.Marks.{MarksShown, Searched}
+use Rattle.vt_shown.specs.ShownMarks.{MarksShown, Searched}
 use Rattle.vt_shown.specs.ShownElements.{keys_of, soft_keys}
 use Rattle.std.specs.FinMap as finite
 use Rattle.vt_shown.proofs.Searches.{all_shown, cleared, keys_shown, mask_shown, none_shown}

@@ -1,6 +1,6 @@
 use Rattle.std.proofs.Common.{◌≡◌, ◌∙◌, List, ℕ, ap, subst}
 use Rattle.std.specs.FinMap as finite
-use Rattle.vt_shown.specs.Marks.{MarksShown}
+use Rattle.vt_shown.specs.ShownMarks.{MarksShown}
 use Rattle.vt_shown.specs.ShownElements.{keys_of}
 use Rattle.vt_shown.proofs.search.search_soft_keys.Goals as goal
 

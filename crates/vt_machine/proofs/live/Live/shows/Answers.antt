@@ -2,7 +2,7 @@ use Rattle.std.proofs.Common.{◌≡◌, ◌<◌, ◌≤◌, ◌⊎◌, ◌++◌
 use Rattle.vt_stores.specs.Stores.{ObjectMap}
 use Rattle.vt_chains.specs.Depths.{ids_of}
 use Rattle.vt_chains.proofs.IdIndices.{stands_of, within}
-use Rattle.vt_shown.specs.Marks.{AreShown}
+use Rattle.vt_shown.specs.ShownMarks.{AreShown}
 use Rattle.vt_shown.specs.ShownElements.{IsShown}
 use Rattle.vt_machine.specs.SetStates.{HasMarks, active_in}
 use Rattle.vt_machine.proofs.MarksKept.{all_marks, mark_shows, mark_hides, search_hides, search_marks}

@@ -10,7 +10,7 @@ use Rattle.vt_verify.specs.Rules.{IsAcceptable, IsRefused, RefusalsAreOne, Refus
 use Rattle.vt_chains.specs.Limits.{terminal}
 use Rattle.vt_verify.specs.declared.refusal.Refusal.{Refusal}
 use Rattle.vt_verify.specs.declared.refusal.Refusal.TheVariants as refusals
-use Rattle.vt_server.specs.Findings.{IsJudged, ends_transfer}
+use Rattle.vt_server.specs.Judgements.{IsJudged, ends_transfer}
 use Rattle.vt_server.specs.message.MessageEffects.{Handled, TRANSFER, END_OF_POOL, handled, transferred, end_handled, asked, ends_pool}
 use Rattle.vt_node.specs.Messages.{technical_reply}
 use Rattle.vt_server.specs.state.AddressViews.{AddressView, Hears, with_reply, with_frames_first, after_message, outcome}

@@ -1,4 +1,4 @@
--- All right findings on an input give one step.
+-- All right judgements of an input give one step.
 use Rattle.std.proofs.Common.{◌≡◌, ℕ, Bool, true, false, cond, eqb, List, [], ◌∷◌, ◌++◌, Option, Some, None, refl, sym, ap, ap₂, subst, ◌∙◌}
 use Rattle.std.specs.Prelude.{Decides, IfSome}
 use Rattle.std.proofs.lemmas.Bool.Decides.{same_from_decides}
@@ -10,7 +10,7 @@ use Rattle.vt_machine.specs.SetStates.{SetState, active_in}
 use Rattle.vt_shown.specs.ShownElements.{IsShown}
 use Rattle.vt_node.specs.Bus.{notice_of}
 use Rattle.vt_laws.specs.UniqueSteps.{StepsAreOne}
-use Rattle.vt_server.specs.Findings.{IsJudged, IsSeen, IsFound, AreFound, IsEventOf, AreEventsOf}
+use Rattle.vt_server.specs.Judgements.{IsJudged, IsSeen, IsJudgedRight, AreJudgedRight, IsEventOf, AreEventsOf}
 use Rattle.vt_server.specs.frame.TimeoutActs.{at_time, lapsed}
 use Rattle.vt_server.specs.operator.ActionEffects.{action_on, object_acted_on}
 use Rattle.vt_server.specs.Outputs.{outputs_of}
@@ -24,7 +24,7 @@ use Rattle.vt_node.specs.declared.bus.FrameMeaning.TheVariants.{Claim, ClaimRequ
 use Rattle.vt_server.specs.declared.input.Input.{Input}
 use Rattle.vt_server.specs.declared.input.Input.TheVariants as inputs
 use Rattle.vt_server.specs.declared.output.Output.{Output}
-use Rattle.vt_laws.proofs.lemmas.findings.OneVerdict.{Judging, heard-one}
+use Rattle.vt_laws.proofs.lemmas.judgements.OneVerdict.{Judging, heard-one}
 use Rattle.vt_server.proofs.lemmas.acts.ComposedActs.{act-is, sent_by_one-is, acts-append, sent-append}
 
 -- ---- lists of acts with the same effect
@@ -51,7 +51,7 @@ behind-alike s hs ks ls alike = record {
 
 -- ---- an action of the operator
 
--- The finding whether an object is shown, if there is a pool.
+-- The judgement whether an object is shown, if there is a pool.
 abbrev pub IsSeenIn : Option SetState → Option ℕ → Bool → Type 0
 IsSeenIn o object shown = IfSome object (λ id. IfSome o (λ state. Decides shown (IsShown state.objects (active_in state.objects) id)))
 
@@ -145,7 +145,7 @@ module _ (judging : Judging) where
 
   -- ---- a step
 
-  frame-steps-one : (s : State) (time : ℕ) (f : Frame) (v w : Verdict) → IsFound s (FrameAt time f v) → IsFound s (FrameAt time f w) → step s (FrameAt time f v) ≡ step s (FrameAt time f w)
+  frame-steps-one : (s : State) (time : ℕ) (f : Frame) (v w : Verdict) → IsJudgedRight s (FrameAt time f v) → IsJudgedRight s (FrameAt time f w) → step s (FrameAt time f v) ≡ step s (FrameAt time f w)
   frame-steps-one s time f v w found too = cases s.lost found too
     where
       t : State
@@ -161,7 +161,7 @@ module _ (judging : Judging) where
       cases true judged alike = refl
       cases false judged alike = ap (behind_lapses (at_time s time)) (hearing-one s t (source_of f) n f v w (judged refl) (alike refl))
 
-  shown-steps-one : (s : State) (action : ActionValue) (b d : Bool) → IsFound s (ActionAt action b) → IsFound s (ActionAt action d) → step s (ActionAt action b) ≡ step s (ActionAt action d)
+  shown-steps-one : (s : State) (action : ActionValue) (b d : Bool) → IsJudgedRight s (ActionAt action b) → IsJudgedRight s (ActionAt action d) → step s (ActionAt action b) ≡ step s (ActionAt action d)
   shown-steps-one s action b d found too = cases s.lost found too
     where
       cases : (l : Bool) → (l ≡ false → IsSeen s (object_acted_on action) b) → (l ≡ false → IsSeen s (object_acted_on action) d)
@@ -169,17 +169,17 @@ module _ (judging : Judging) where
       cases true seen alike = refl
       cases false seen alike = action-steps-one s action b d (seen refl) (alike refl)
 
-  event-one : (s : State) (input : Input) (e f : JudgedInput) → IsEventOf input e → IsEventOf input f → IsFound s e → IsFound s f → step s e ≡ step s f
+  event-one : (s : State) (input : Input) (e f : JudgedInput) → IsEventOf input e → IsEventOf input f → IsJudgedRight s e → IsJudgedRight s f → step s e ≡ step s f
   event-one s (inputs.Frame time frame) (FrameAt at heard v) (FrameAt when other w) is alike found too =
       let first = frame-is time at frame heard v is.0 is.1 in
       let second = frame-is time when frame other w alike.0 alike.1 in
-      ap (step s) first ∙ frame-steps-one s time frame v w (subst (IsFound s) first found) (subst (IsFound s) second too) ∙ sym (ap (step s) second)
+      ap (step s) first ∙ frame-steps-one s time frame v w (subst (IsJudgedRight s) first found) (subst (IsJudgedRight s) second too) ∙ sym (ap (step s) second)
   event-one s (inputs.Frame time frame) (FrameAt at heard v) (ActionAt action shown) is alike found too = absurd alike
   event-one s (inputs.Frame time frame) (ActionAt action shown) f is alike found too = absurd is
   event-one s (inputs.Operator action) (ActionAt value b) (ActionAt other d) is alike found too =
       let first = ap (λ (x : ActionValue). ActionAt x b) is in
       let second = ap (λ (x : ActionValue). ActionAt x d) alike in
-      ap (step s) first ∙ shown-steps-one s (action_value action) b d (subst (IsFound s) first found) (subst (IsFound s) second too) ∙ sym (ap (step s) second)
+      ap (step s) first ∙ shown-steps-one s (action_value action) b d (subst (IsJudgedRight s) first found) (subst (IsJudgedRight s) second too) ∙ sym (ap (step s) second)
   event-one s (inputs.Operator action) (ActionAt value b) (FrameAt at heard v) is alike found too = absurd alike
   event-one s (inputs.Operator action) (FrameAt at heard v) f is alike found too = absurd is
 
@@ -189,7 +189,7 @@ module _ (judging : Judging) where
     pub after : after_all s es ≡ after_all s fs
     pub sent : sent_by_all s es ≡ sent_by_all s fs
 
-  events-one : (s : State) (inputs : List Input) (es fs : List JudgedInput) → AreEventsOf inputs es → AreEventsOf inputs fs → AreFound s es → AreFound s fs → AllAlike s es fs
+  events-one : (s : State) (inputs : List Input) (es fs : List JudgedInput) → AreEventsOf inputs es → AreEventsOf inputs fs → AreJudgedRight s es → AreJudgedRight s fs → AllAlike s es fs
   events-one s [] [] [] are too found alike = record { after = refl; sent = refl }
   events-one s [] [] (f ∷ fs) are too found alike = absurd too
   events-one s [] (e ∷ es) fs are too found alike = absurd are
@@ -197,7 +197,7 @@ module _ (judging : Judging) where
   events-one s (input ∷ inputs) (e ∷ es) [] are too found alike = absurd too
   events-one s (input ∷ inputs) (e ∷ es) (f ∷ fs) are too found alike =
       let first = event-one s input e f are.0 too.0 found.0 alike.0 in
-      let moved = subst (λ (t : Step). AreFound t.after fs) (sym first) alike.1 in
+      let moved = subst (λ (t : Step). AreJudgedRight t.after fs) (sym first) alike.1 in
       let rest = events-one (step s e).after inputs es fs are.1 too.1 found.1 moved in
       record {
         after = rest.after ∙ ap (λ (t : Step). after_all t.after fs) first;
@@ -207,7 +207,7 @@ module _ (judging : Judging) where
   input-one : (old : State) (input : Input) (new other : State) (before after later : List Output) → TakesInput old input new before after → TakesInput old input other before later
       → (new ≡ other) × (after ≡ later)
   input-one old input new other before after later is too =
-      let same = event-one old input is.event too.event is.is_input too.is_input is.found too.found in (
+      let same = event-one old input is.event too.event is.is_input too.is_input is.judged too.judged in (
         is.state ∙ ap (λ (t : Step). t.after) same ∙ sym too.state,
         is.sent ∙ ap (λ (t : Step). before ++ outputs_of t.sent) same ∙ sym too.sent,
       )
@@ -215,7 +215,7 @@ module _ (judging : Judging) where
   inputs-one : (old : State) (inputs : List Input) (new other : State) (before after later : List Output) → TakesInputs old inputs new before after
       → TakesInputs old inputs other before later → (new ≡ other) × (after ≡ later)
   inputs-one old inputs new other before after later is too =
-      let same = events-one old inputs is.events too.events is.are_inputs too.are_inputs is.found too.found in (
+      let same = events-one old inputs is.events too.events is.are_inputs too.are_inputs is.judged too.judged in (
         is.state ∙ same.after ∙ sym too.state,
         is.sent ∙ ap (λ (l : List Sent). before ++ outputs_of l) same.sent ∙ sym too.sent,
       )

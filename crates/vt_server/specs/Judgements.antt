@@ -1,5 +1,5 @@
--- Right findings on pools during an input: the verdict on an upload, and whether an object is shown. A step is a function of the
--- input and these findings (docs/PROFILE.md, "End of Object Pool (12)", "Shown and enabled").
+-- Right judgements of pools during an input: the verdict on an upload, and whether an object is shown. A step is a function of the
+-- input and these judgements (docs/PROFILE.md, "End of Object Pool (12)", "Shown and enabled").
 use Rattle.std.specs.Prelude.{◌≡◌, ℕ, Bool, true, false, List, [], ◌∷◌, Option, Some, IfSome, Decides}
 use Rattle.std.specs.List.{AllZip}
 use Rattle.vt_can.specs.declared.frames.frame.Frame.{Frame}
@@ -36,19 +36,19 @@ abbrev pub IsSeen : State → Option ℕ → Bool → Type 0
 IsSeen s object shown =
     IfSome object (λ id. IfSome (pool_at s s.shown) (λ state. Decides shown (IsShown state.objects (active_in state.objects) id)))
 
--- The findings of an input are right: those of a frame in the state after the timeouts and closings of its time.
-abbrev pub IsFound : State → JudgedInput → Type 0
-IsFound s (FrameAt time frame verdict) =
+-- The judgements of an input are right: those of a frame in the state after the timeouts and closings of its time.
+abbrev pub IsJudgedRight : State → JudgedInput → Type 0
+IsJudgedRight s (FrameAt time frame verdict) =
     s.lost ≡ false
     → IsJudged (lapsed (at_time s time)).now (source_of frame) (part (source_of frame) (lapsed (at_time s time)))
     (notice_of s.claims.own s.claims.name frame) frame verdict
-IsFound s (ActionAt action shown) = s.lost ≡ false → IsSeen s (object_acted_on action) shown
+IsJudgedRight s (ActionAt action shown) = s.lost ≡ false → IsSeen s (object_acted_on action) shown
 
-abbrev pub AreFound : State → List JudgedInput → Type 0
-AreFound s [] = Unit {0}
-AreFound s (e ∷ events) = IsFound s e × AreFound (step s e).after events
+abbrev pub AreJudgedRight : State → List JudgedInput → Type 0
+AreJudgedRight s [] = Unit {0}
+AreJudgedRight s (e ∷ events) = IsJudgedRight s e × AreJudgedRight (step s e).after events
 
--- ---- inputs with their findings
+-- ---- inputs with their judgements
 
 abbrev pub IsEventOf : Input → JudgedInput → Type 0
 IsEventOf (inputs.Frame time frame) (FrameAt at heard verdict) = (at ≡ time) × (heard ≡ frame)

@@ -1,3 +1,0 @@
--- Right findings on pools give one step, and right verdicts one reply.
-pub mod OneStep
-pub mod OneVerdict
