@@ -23,8 +23,8 @@ use Rattle.vt_program.specs.declared.options.Options.{Options}
 use Rattle.vt_program.specs.declared.options.Preload.{Preload}
 use Rattle.vt_program.specs.declared.options.UsageError.{UsageError}
 use Rattle.vt_program.specs.declared.options.UsageError.TheVariants.{Words, Address, Name, OwnerIsOwn, Alone, Memory}
-use Rattle.vt_program.specs.declared.program.Fault.{Fault}
-use Rattle.vt_program.specs.declared.program.Fault.TheVariants as fault
+use Rattle.vt_program.specs.declared.fault.Fault.{Fault}
+use Rattle.vt_program.specs.declared.fault.Fault.TheVariants as fault
 use Rattle.vt_program.specs.declared.program.Status.{Status}
 use Rattle.vt_program.specs.declared.program.Status.TheVariants as status
 use Rattle.vt_logs.specs.EarlyEnds.{HasStopped, HasStoppedAtLong}

@@ -5,6 +5,7 @@
 //! statuses.
 #![tactic(auto)]
 
+mod fault;
 mod files;
 pub mod laws;
 mod messages;

@@ -4,19 +4,19 @@ ghost use Rattle.std.specs.Prelude.{◌≡◌, ◌≢◌, ◌≤◌, ℕ, List, 
 ghost use Rattle.std.specs.FinMap as finite;
 ghost use Rattle.vt_names.specs.Registry.{set_at};
 ghost use Rattle.std.specs.Io.KnownBytes.{Keeps};
-ghost use Rattle.vt_program.specs.declared.program.Fault.TheVariants.{Memory};
+ghost use Rattle.vt_program.specs.declared.fault.Fault.TheVariants.{Memory};
 ghost use Rattle.vt_program.specs.Words.{HasValidAddresses, status_code};
-ghost use Rattle.vt_program.specs.Runs.{EndsWithStatus, EndsBy, EndsReport, FailsReplay, HasPoolToPrint, HasReplayed, HasToPrint, IsAcceptedPoolOf, IsFaultOfPool, IsFileFault, IsLoaded, IsPoolFileFault, IsPrinted, IsReplayFault, IsReportOf, PrintsFault, fault_line};
+ghost use Rattle.vt_program.specs.Runs.{EndsWithStatus, EndsBy, EndsReport, FailsReplay, HasPoolToPrint, HasReplayed, HasToPrint, IsAcceptedPoolOf, IsFaultOfPool, IsFileFault, IsLoaded, IsPoolFileFault, IsPrinted, IsReplayFault, IsReportOf, PrintsFault};
 ghost use Rattle.vt_pool.specs.Pools.{contents};
 ghost use Rattle.vt_server.specs.States.{state_of};
 
+use crate::fault::Fault;
 use crate::messages::{print_notes, print_replay_fault};
 use crate::options::{Options, Preload, UsageError};
 use crate::pool_sentences::{FaultSentence, Named, RefusalSentence};
 use crate::sentences::ReplaySentence;
-use std::alloc::{AllocError, Global};
+use std::alloc::Global;
 use std::convert::AsStr;
-use std::fmt;
 use std::io::{self, Read, Write};
 use vt_kinds::{Kind, ObjectId};
 use vt_logs::{Notes, ReplayFault, Sink, Stream, replay_with_notes};
@@ -57,47 +57,6 @@ impl Status {
             Status::Fault => 1,
             Status::Usage => 2,
         }
-    }
-}
-
-/// A fault of a replay or of a report.
-#[derive(Drop)]
-enum Fault<'a> {
-    File {
-        path: &'a str,
-        cause: io::Error,
-    },
-    Pool(PoolFault),
-    Refused {
-        why: vt_verify::Refusal,
-        named: Named,
-    },
-    Memory,
-    Replay {
-        why: ReplayFault,
-        cause: Option<io::Error>,
-    },
-}
-
-impl fmt::Display for Fault<'_> {
-    ghost output = { fault_line };
-
-    fn fmt<W: fmt::Write>(&self, f: &mut fmt::Formatter<W>) -> fmt::Result {
-        match self {
-            Fault::File { path, cause } => write!(f, "{path}: {cause}"),
-            Fault::Pool(fault) => write!(f, "{fault}"),
-            Fault::Refused { why, named: _ } => write!(f, "{why}"),
-            Fault::Memory => write!(f, "out of memory"),
-            Fault::Replay { why, cause: _ } => write!(f, "{why}"),
-        }
-    }
-}
-
-impl From<AllocError> for Fault<'_> {
-    ghost from_gives = { λ _ fault. fault ≡ Memory };
-
-    fn from(_error: AllocError) -> Self {
-        Fault::Memory
     }
 }
 

@@ -1,6 +1,5 @@
--- The operator's action on the shown set: the calls on the set and on the table of pools, the outcome at its address, and the
--- step.
-use Rattle.std.proofs.Common.{suc, append_assoc, get_or, ◌≡◌, ◌≤◌, ◌<◌, ℕ, Bool, true, false, cond, not, is_some, List, [], ◌∷◌, ◌++◌, length, IfSome, Option, Some, None, Result, Ok, Err, true≢false, refl, sym, ap, subst, ◌∙◌, append-nil, arith}
+-- The operator's action on the shown set: the calls on the set and on the table of pools, and the outcome at its address.
+use Rattle.std.proofs.Common.{suc, get_or, ◌≡◌, ◌≤◌, ◌<◌, ℕ, Bool, true, false, cond, not, is_some, List, [], ◌∷◌, ◌++◌, length, IfSome, Option, Some, None, Result, Ok, Err, refl, sym, ap, subst, ◌∙◌, append-nil, arith}
 use Rattle.std.proofs.lemmas.Option.{same_Some}
 use Rattle.std.proofs.lemmas.Bool.Decides.{same_from_decides, nat_tests}
 use Rattle.std.specs.Prelude.{Decides, slice_set}
@@ -9,7 +8,7 @@ use Rattle.std.specs.Option.{option_map}
 use Rattle.vt_can.specs.Assigned.{VT_TO_ECU}
 use Rattle.vt_can.specs.declared.frames.frame.Frame.{Frame}
 use Rattle.vt_can.specs.declared.transport.sessions.Timed.{Timed}
-use Rattle.vt_can.specs.lines.Actions.{ActionValue, action_value}
+use Rattle.vt_can.specs.lines.Actions.{ActionValue}
 use Rattle.vt_can.specs.lines.Actions as actions
 use Rattle.vt_can.specs.transport.Messages.{Message}
 use Rattle.vt_can.proofs.lemmas.transport.ByAddress.{get-put, get-put_other}
@@ -21,7 +20,7 @@ use Rattle.vt_machine.specs.OperatorEntries.{enter_text, text_entered, text_plac
 use Rattle.vt_machine.specs.SetStates.{SetState, active_in}
 use Rattle.vt_machine.specs.OperatorActions.{ActionResult, Refused, Acts, refusal_of}
 use Rattle.vt_shown.specs.ShownElements.{IsShown}
-use Rattle.vt_server.specs.operator.ActionContracts.{IsSeenIn, Comes, Performs, PerformsAt, IsActedOn, WouldBeRefused, IsShort, TakesAction, happens}
+use Rattle.vt_server.specs.operator.ActionContracts.{IsSeenIn, Comes, Performs, PerformsAt, IsActedOn, WouldBeRefused, IsShort, TakesAction}
 use Rattle.vt_server.specs.shown.ShownSet.{pool_shown, pool_shown_by, with_pool_at}
 use Rattle.vt_node.specs.Nodes.{NodeState}
 use Rattle.vt_server.specs.operator.ActionEffects.{action_on, object_acted_on, fault_of, is_long, message_frames, ran}
@@ -29,19 +28,16 @@ use Rattle.vt_server.specs.Outputs.{outputs_of}
 use Rattle.vt_server.specs.state.AddressViews as parts
 use Rattle.vt_server.specs.state.AddressViews.{Act, Operates, unchanged, refused_by, with_place, after_action, outcome}
 use Rattle.vt_server.specs.state.AddressStates.{SetPool, AddressState, with_pool}
-use Rattle.vt_server.specs.States.{places_by, TakesInput}
-use Rattle.vt_server.specs.Steps.{ActionAt, selecting, has_no_set, no_set, at_shown, with_shown_updated, sent_by_shown_update, no_step, step_action}
+use Rattle.vt_server.specs.States.{places_by}
+use Rattle.vt_server.specs.Steps.{selecting, has_no_set, no_set, at_shown}
 use Rattle.vt_server.specs.Terminals.{State, part, pool_of, pool_at, put, to_address, after_acts, sent_by_acts}
 use Rattle.vt_node.specs.AddressFunctions.{with_at}
 use Rattle.vt_server.specs.state.PoolTables.{content_by}
 use Rattle.vt_pool.specs.PoolUploads.{Arrived}
-use Rattle.vt_server.specs.declared.input.Input.TheVariants as inputs
 use Rattle.vt_server.specs.declared.output.OperatorFault.{OperatorFault}
 use Rattle.vt_server.specs.declared.output.OperatorFault.TheVariants as faults
 use Rattle.vt_server.specs.declared.output.Output.{Output}
 use Rattle.vt_server.specs.declared.output.Output.TheVariants as declared
-use Rattle.vt_can.specs.declared.lines.line.Action as line
-use Rattle.vt_server.proofs.lemmas.frame.FrameEffect.{outputs-append}
 use Rattle.vt_server.proofs.lemmas.operator.ActionMessages.{refused-is, acting-is, comes-acts, not-long, short-came, busy-came, long-came, short-message}
 use Rattle.vt_server.proofs.lemmas.acts.ComposedActs.{act-is, sent_by_one-is}
 use Rattle.vt_node.proofs.ByAddress.{at-own, at-other}
@@ -358,45 +354,3 @@ module _ (s : State) (contents new : ℕ → SetPool) (node : NodeState) (heard 
       (ap (λ (p : ℕ → AddressState). record s { places = p })
       (performed-places s contents new node heard is a acted.pool acted.content ∙ (λ i. with_at a (with_pool (s.places a) (h.is i)) s.places)))
       frames (frames-are fits) before out sent
-
--- ---- the step
-
-pub takes-same : (s : State) (a b : ActionValue) (t u : State) (before first out last : List Output) → a ≡ b → t ≡ u → before ≡ first → out ≡ last
-    → TakesAction s a t before out → TakesAction s b u first last
-takes-same s a b t u before first out last e f g h takes =
-    subst (λ (x : ActionValue). TakesAction s x u first last) e
-    (subst (λ (x : State). TakesAction s a x first last) f
-    (subst (λ (x : List Output). TakesAction s a t x last) g (subst (λ (x : List Output). TakesAction s a t before x) h takes)))
-
--- what an action sends, after what was sent before it
-pub takes-after : {s t : State} {action : ActionValue} {before after sent : List Output} → TakesAction s action t [] sent → after ≡ before ++ sent
-    → TakesAction s action t before after
-takes-after {before = before} takes is =
-    record { shown = takes.shown; seen = takes.seen; state = takes.state; sent = is ∙ ap (λ l. before ++ l) takes.sent }
-
-pub takes-lost : (s : State) (action : line.Action) (before : List Output) → s.lost ≡ true → TakesInput s (inputs.Operator action) s before before
-takes-lost s action before lost = record {
-  event = ActionAt (action_value action) false;
-  is_input = refl;
-  judged = λ not_lost. absurd (true≢false (sym lost ∙ not_lost));
-  state = sym (ap (λ b. (cond b (no_step s) (step_action s (action_value action) false)).after) lost);
-  sent = sym (ap (λ b. before ++ outputs_of (cond b (no_step s) (step_action s (action_value action) false)).sent) lost ∙ append-nil before);
-}
-
-pub takes-input : (s t new : State) (action : line.Action) (before middle after : List Output) → s.lost ≡ false → TakesAction s (action_value action) t before middle
-    → new ≡ with_shown_updated t → after ≡ middle ++ outputs_of (sent_by_shown_update s t) → TakesInput s (inputs.Operator action) new before after
-takes-input s t new action before middle after lost takes state sent =
-    let u = selecting s (action_value action) in
-    let acts = happens s (action_value action) takes.shown in
-    let first = no_set (has_no_set s (action_value action)) ++ sent_by_acts u acts in
-    record {
-      event = ActionAt (action_value action) takes.shown;
-      is_input = refl;
-      judged = λ not_lost. takes.seen;
-      state = state ∙ ap with_shown_updated takes.state ∙ sym (ap (λ b. (cond b (no_step s) (step_action s (action_value action) takes.shown)).after) lost);
-      sent =
-          sent ∙ (λ i. takes.sent i ++ outputs_of (sent_by_shown_update s (takes.state i)))
-          ∙ append_assoc before (outputs_of first) (outputs_of (sent_by_shown_update s (after_acts u acts)))
-          ∙ ap (λ l. before ++ l) (sym (outputs-append first (sent_by_shown_update s (after_acts u acts))))
-          ∙ sym (ap (λ b. before ++ outputs_of (cond b (no_step s) (step_action s (action_value action) takes.shown)).sent) lost);
-    }

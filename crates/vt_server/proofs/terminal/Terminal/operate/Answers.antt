@@ -6,7 +6,7 @@ use Rattle.vt_server.specs.operator.ActionContracts.{TakesAction}
 use Rattle.vt_server.specs.shown.Screens.{ShowsSame}
 use Rattle.vt_server.specs.States.{state_of}
 use Rattle.vt_server.specs.declared.terminal.Terminal.{Terminal}
-use Rattle.vt_server.proofs.lemmas.operator.ActionStep.{takes-after, takes-lost, takes-input, takes-same}
+use Rattle.vt_server.proofs.lemmas.operator.ActionInput.{takes-after, takes-lost, takes-input, takes-same}
 use Rattle.vt_server.proofs.lemmas.shown.SameScreen.{same-text, shows-then, tells-through}
 use Rattle.vt_server.proofs.terminal.Terminal.operate.Goals as goal
 use Rattle.vt_server.proofs.terminal.Terminal.operate.Goals.{in-Set, in-Text+in-Ok, in_default}
