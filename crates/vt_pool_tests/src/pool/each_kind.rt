@@ -8,8 +8,8 @@ use fields::is_as_written;
 use std::alloc::{AllocError, AllocGlobal, Global};
 use std::process::Abort;
 use std::test::Fail;
-use vt_objects::Object;
-use vt_pool::{Pool, PoolFault, read_pool};
+use vt_objects::{Object, ObjectId};
+use vt_pool::{Pool, PoolFault, read_pool, write_object};
 
 // The record of each kind, laid out by the table of records.
 pub(super) const RECORDS: [&[u8]; 29] = [
@@ -147,6 +147,59 @@ fn read_and_written_again(rt: HostRuntime) -> Result<(), Fail> {
     assert!(rt; are_in_place(&pool));
     let same = is_written_again(rt.alloc(), &bytes)?;
     assert!(rt; same);
+    Ok(())
+}
+
+fn are_taken_out(pool: Pool<'_>) -> bool {
+    let objects = pool.into_objects();
+    let mut same = objects.len() == RECORDS.len();
+    for (place, (_, object)) in objects.iter().enumerate() {
+        same = same && is_in_place(object, place);
+    }
+    same
+}
+
+#[test]
+fn taken_out(rt: HostRuntime) -> Result<(), Fail> {
+    let bytes = joined(rt.alloc(), &RECORDS)?;
+    let pool = read_pool(rt.alloc(), &bytes)?;
+    assert!(rt; are_taken_out(pool));
+    Ok(())
+}
+
+fn record(alloc: Global, id: ObjectId, object: &Object<Vec<u8>>) -> Result<Vec<u8>, AllocError> {
+    let mut out = Vec::new(alloc);
+    if id.raw() < 0xFFFF {
+        write_object(alloc, id, object, &mut out)?;
+    }
+    Ok(out)
+}
+
+/// Whether an object, taken over, is written as its copy and as the record that was read.
+fn is_owned(
+    alloc: Global,
+    id: ObjectId,
+    object: Object<&[u8]>,
+    read: &[u8],
+) -> Result<bool, AllocError> {
+    let copy = record(alloc, id, &object.copied(alloc)?)?;
+    let owned = record(alloc, id, &object.into_owned(alloc)?)?;
+    Ok(owned == copy && owned.as_slice() == read)
+}
+
+fn are_owned(alloc: Global, pool: Pool<'_>) -> Result<bool, AllocError> {
+    let mut same = true;
+    for ((id, object), read) in pool.into_objects().into_iter().zip(RECORDS) {
+        same = same && is_owned(alloc, id, object, read)?;
+    }
+    Ok(same)
+}
+
+#[test]
+fn taken_over(rt: HostRuntime) -> Result<(), Fail> {
+    let bytes = joined(rt.alloc(), &RECORDS)?;
+    let pool = read_pool(rt.alloc(), &bytes)?;
+    assert!(rt; are_owned(rt.alloc(), pool)?);
     Ok(())
 }
 
