@@ -8,6 +8,7 @@
 mod drawing;
 mod element;
 pub mod laws;
+mod line_end;
 mod lines;
 mod page;
 mod screen;

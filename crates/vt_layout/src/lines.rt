@@ -9,14 +9,14 @@ ghost use Rattle.vt_machine.specs.OperatorActions.{is_enabled};
 
 use crate::element::Element;
 use crate::texts::{
-    write_code, write_decision, write_number, write_positioned, write_quoted, write_shown,
-    write_size, write_value,
+    write_box, write_button, write_code, write_decision, write_number, write_positioned,
+    write_quoted, write_shown, write_value,
 };
 use crate::values::text_shown;
 use std::alloc::AllocError;
 use vt_objects::{
-    ArchedBar, Button, InputBoolean, InputList, InputNumber, InputString, Key, Line, LinearBar,
-    Meter, Object, OutputNumber, OutputString, Store, push_number,
+    ArchedBar, InputBoolean, InputList, InputNumber, InputString, Key, Line, LinearBar, Meter,
+    Object, OutputNumber, OutputString, Store, push_number,
 };
 use vt_shown::number_shown;
 
@@ -59,9 +59,9 @@ fn describe<S: Store>(
 {
     match object {
         Object::WorkingSet(_) => write_positioned(text, b"workset", element),
-        Object::Container(o) => describe_box(text, b"container", element, o.width, o.height),
+        Object::Container(o) => write_box(text, b"container", element, o.width, o.height),
         Object::Key(o) => describe_key(text, element, o),
-        Object::Button(o) => describe_button(text, element, o),
+        Object::Button(o) => write_button(text, element, o.width, o.height, o.key_code),
         Object::InputBoolean(o) => describe_boolean(text, store, element, o),
         Object::InputString(o) => describe_input(text, store, element, o),
         Object::InputNumber(o) => describe_input_number(text, store, element, o),
@@ -69,29 +69,15 @@ fn describe<S: Store>(
         Object::OutputString(o) => describe_text(text, store, element, o),
         Object::OutputNumber(o) => describe_output_number(text, store, element, o),
         Object::Line(o) => describe_direction(text, element, o),
-        Object::Rectangle(o) => describe_box(text, b"rectangle", element, o.width, o.height),
-        Object::Ellipse(o) => describe_box(text, b"ellipse", element, o.width, o.height),
-        Object::Polygon(o) => describe_box(text, b"polygon", element, o.width, o.height),
+        Object::Rectangle(o) => write_box(text, b"rectangle", element, o.width, o.height),
+        Object::Ellipse(o) => write_box(text, b"ellipse", element, o.width, o.height),
+        Object::Polygon(o) => write_box(text, b"polygon", element, o.width, o.height),
         Object::Meter(o) => describe_meter(text, store, element, o),
         Object::LinearBar(o) => describe_linear_bar(text, store, element, o),
         Object::ArchedBar(o) => describe_arched_bar(text, store, element, o),
         Object::Picture(o) => describe_picture(text, element, o.width),
         _ => Ok(()),
     }
-}
-
-/// Writes the line of an element with a size: name, ID, position and size.
-fn describe_box(
-    text: &mut Vec<u8>,
-    name: &[u8],
-    element: Element,
-    width: u16,
-    height: u16,
-) -> Result<(), AllocError>
-    ensures { OnOk result (text.new.items ≡ text.old.items ++ (positioned name.now element ++ size_text width height)) }
-{
-    write_positioned(text, name, element)?;
-    write_size(text, width, height)
 }
 
 /// Writes the line of a key. A key's position is the index in its soft key mask.
@@ -103,19 +89,11 @@ fn describe_key(text: &mut Vec<u8>, element: Element, o: &Key) -> Result<(), All
     write_code(text, o.key_code)
 }
 
-/// Writes the line of a button, with its key code.
-fn describe_button(text: &mut Vec<u8>, element: Element, o: &Button) -> Result<(), AllocError>
-    ensures { OnOk result (text.new.items ≡ text.old.items ++ (positioned (codes "button") element ++ (size_text o.now.width o.now.height ++ coded o.now.key_code))) }
-{
-    describe_box(text, b"button", element, o.width, o.height)?;
-    write_code(text, o.key_code)
-}
-
 /// Writes the line of a Line object, with its direction.
 fn describe_direction(text: &mut Vec<u8>, element: Element, o: &Line) -> Result<(), AllocError>
     ensures { OnOk result (text.new.items ≡ text.old.items ++ (positioned (codes "line") element ++ (size_text o.now.width o.now.height ++ number_text o.now.direction))) }
 {
-    describe_box(text, b"line", element, o.width, o.height)?;
+    write_box(text, b"line", element, o.width, o.height)?;
     write_number(text, u32::from(o.direction))
 }
 
@@ -230,7 +208,7 @@ fn describe_linear_bar<S: Store>(
 ) -> Result<(), AllocError>
     ensures { OnOk result (text.new.items ≡ text.old.items ++ described (S.contents store.now) element (Some (objects.LinearBar o.now))) }
 {
-    describe_box(text, b"bar", element, o.width, o.height)?;
+    write_box(text, b"bar", element, o.width, o.height)?;
     write_value(text, number_shown(store, o.variable, u32::from(o.value)))?;
     let target = number_shown(store, o.target_variable, u32::from(o.target));
     write_value(text, target)
@@ -245,7 +223,7 @@ fn describe_arched_bar<S: Store>(
 ) -> Result<(), AllocError>
     ensures { OnOk result (text.new.items ≡ text.old.items ++ described (S.contents store.now) element (Some (objects.ArchedBar o.now))) }
 {
-    describe_box(text, b"arch", element, o.width, o.height)?;
+    write_box(text, b"arch", element, o.width, o.height)?;
     write_value(text, number_shown(store, o.variable, u32::from(o.value)))?;
     let target = number_shown(store, o.target_variable, u32::from(o.target));
     write_value(text, target)

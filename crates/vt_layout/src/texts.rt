@@ -1,12 +1,13 @@
 //! Writes the parts of a line: positions, sizes, numbers and texts.
 
-ghost use Rattle.std.specs.Prelude.{◌≡◌, ◌++◌, ◌<◌, List, OnOk, codes, take, Some};
+ghost use Rattle.std.specs.Prelude.{◌≡◌, ◌++◌, ◌<◌, ◌≤◌, List, OnOk, codes, length, take, Some};
 ghost use Rattle.std.specs.Option.{option_map};
 ghost use Rattle.std.specs.List.{flat_map};
 ghost use Rattle.vt_kinds.specs.Scales.{scale_places};
 ghost use Rattle.vt_layout.specs.Lines as parts;
 
 use crate::element::Element;
+use crate::line_end::LineEnd;
 use std::alloc::AllocError;
 use vt_objects::{Decimal, Decimals, Scale, push_number};
 
@@ -14,25 +15,54 @@ use vt_objects::{Decimal, Decimals, Scale, push_number};
 const MOST_OF_TEXT: usize = 64;
 
 /// Writes the name of a kind, the ID and the position of an element.
+#[inline]
 pub(crate) fn write_positioned(
     text: &mut Vec<u8>,
     name: &[u8],
     element: Element,
 ) -> Result<(), AllocError>
+    requires { length name.now ≤ 9 }
     ensures { OnOk result (text.new.items ≡ text.old.items ++ parts.positioned name.now element) }
 {
-    text.extend_from_slice(name)?;
-    push_number(text, b" ", element.id.raw())?;
-    push_number(text, b" ", element.at.x)?;
-    push_number(text, b" ", element.at.y)
+    let mut end = LineEnd::new();
+    end.put_positioned(name, element);
+    text.extend_from_slice(end.as_slice())
 }
 
-/// Writes a size in pixels.
-pub(crate) fn write_size(text: &mut Vec<u8>, width: u16, height: u16) -> Result<(), AllocError>
-    ensures { OnOk result (text.new.items ≡ text.old.items ++ parts.size_text width height) }
+/// Writes the name of a kind, the ID, the position and the size of an element.
+#[inline]
+pub(crate) fn write_box(
+    text: &mut Vec<u8>,
+    name: &[u8],
+    element: Element,
+    width: u16,
+    height: u16,
+) -> Result<(), AllocError>
+    requires { length name.now ≤ 9 }
+    ensures { OnOk result (text.new.items ≡ text.old.items ++ (parts.positioned name.now element ++ parts.size_text width height)) }
 {
-    push_number(text, b" ", width)?;
-    push_number(text, b"x", height)
+    let mut end = LineEnd::new();
+    end.put_size(width, height);
+    end.put_positioned(name, element);
+    text.extend_from_slice(end.as_slice())
+}
+
+/// Writes the line of a button: its ID, position and size, and its key code.
+#[inline]
+pub(crate) fn write_button(
+    text: &mut Vec<u8>,
+    element: Element,
+    width: u16,
+    height: u16,
+    code: u8,
+) -> Result<(), AllocError>
+    ensures { OnOk result (text.new.items ≡ text.old.items ++ (parts.positioned (codes "button") element ++ (parts.size_text width height ++ parts.coded code))) }
+{
+    let mut end = LineEnd::new();
+    end.put_code(code);
+    end.put_size(width, height);
+    end.put_positioned(b"button", element);
+    text.extend_from_slice(end.as_slice())
 }
 
 /// Writes a number.
