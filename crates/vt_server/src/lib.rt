@@ -8,6 +8,7 @@
 #![tactic(auto)]
 
 mod frame;
+mod held_pool;
 mod input;
 pub mod laws;
 mod message;

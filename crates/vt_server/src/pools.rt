@@ -15,9 +15,10 @@ ghost use Rattle.vt_node.specs.AddressFunctions.{with_at};
 ghost use Rattle.vt_server.specs.state.PoolTables.{content_of, spare_of};
 
 use crate::OutOfMemory;
+use crate::held_pool::HeldPool;
 use crate::message::end_of_pool::{ACCEPTED, Judgement, judge};
 use crate::message::replies::{deletes, error_byte};
-use crate::operator::actions::{act, keeps_look, text_fault};
+use crate::operator::actions::keeps_look;
 use std::alloc::Global;
 use std::marker::Model;
 use vt_can::Action;
@@ -28,7 +29,7 @@ use vt_pool::Reading;
 /// At most one pool and one upload for each of the 256 addresses.
 #[derive(Drop)]
 pub(crate) struct PoolTable {
-    pools: [Option<Live<SortedStore>>; 256],
+    pools: [Option<HeldPool>; 256],
     transfers: [Option<Reading>; 256],
     // Whether some address may have a pool.
     may_have_pools: bool,
@@ -67,11 +68,14 @@ impl PoolTable {
     pub(crate) fn pool(&self, address: u8) -> Option<&Live<SortedStore>>
         ensures { option_map (λ live. live.now) result ≡ (content_of self.now address).pool }
     {
-        self.pools[usize::from(address)].as_ref()
+        match &self.pools[usize::from(address)] {
+            Some(held) => Some(held.live()),
+            None => None,
+        }
     }
 
     /// Gives an address a pool and ends its upload.
-    pub(crate) fn put(&mut self, address: u8, pool: Live<SortedStore>)
+    pub(crate) fn put(&mut self, address: u8, pool: HeldPool)
         ensures { content_of self.new ≡ with_at address (record { pool = Some pool; transfer = [] }) (content_of self.old) }
     {
         self.may_have_pools = true;
@@ -87,7 +91,7 @@ impl PoolTable {
     {
         self.transfers[usize::from(address)] = None;
         match &mut self.pools[usize::from(address)] {
-            Some(live) => live.replace(replacement),
+            Some(held) => held.replace(replacement),
             None => {}
         }
     }
@@ -124,7 +128,7 @@ impl PoolTable {
         if deletes(command) {
             return false;
         }
-        match &self.pools[usize::from(address)] {
+        match self.pool(address) {
             Some(live) => live.keeps_look(command),
             None => false,
         }
@@ -135,7 +139,7 @@ impl PoolTable {
     pub(crate) fn action_keeps_look(&self, address: u8, action: &Action<'_>) -> bool
         ensures { result ≡ true → ActionKeepsLook (content_of self.now address).pool (action_value action.now) }
     {
-        match &self.pools[usize::from(address)] {
+        match self.pool(address) {
             Some(live) => keeps_look(live, action),
             None => false,
         }
@@ -182,7 +186,7 @@ impl PoolTable {
     pub(crate) fn judge(&self, alloc: Global, address: u8) -> Result<Judgement, OutOfMemory>
         ensures { IfOk result (IsJudgement (content_of self.now address)) }
     {
-        let pool = self.pools[usize::from(address)].as_ref();
+        let pool = self.pool(address);
         match &self.transfers[usize::from(address)] {
             Some(transfer) => judge(alloc, pool, transfer),
             None => judge(alloc, pool, &Reading::new(alloc)),
@@ -195,9 +199,8 @@ impl PoolTable {
         ensures { IsEnded (content_of self.old) address judgement result (content_of self.new) }
     {
         match judgement {
-            Judgement::Accepted(boxed) => {
-                let pool = Box::into_inner(boxed);
-                self.put(address, pool);
+            Judgement::Accepted(pool) => {
+                self.put(address, HeldPool::new(pool));
                 ACCEPTED
             }
             Judgement::Replaced(replacement) => {
@@ -216,10 +219,7 @@ impl PoolTable {
         ensures { content_of self.new ≡ with_at address (record (content_of self.old address) { pool = option_map (λ state. raised_on state event) (content_of self.old address).pool }) (content_of self.old) }
     {
         match &mut self.pools[usize::from(address)] {
-            Some(live) => {
-                let id = live.working_set();
-                let _steps = live.raise(id, event);
-            }
+            Some(held) => held.raise(event),
             None => {}
         }
     }
@@ -232,10 +232,10 @@ impl PoolTable {
     ) -> Option<Result<Acted, OperatorRefusal>>
         ensures { IsActedOn (content_of self.old) address (action_value action.now) result (content_of self.new) }
     {
-        let Some(live) = &mut self.pools[usize::from(address)] else {
+        let Some(held) = &mut self.pools[usize::from(address)] else {
             return None;
         };
-        act(live, action)
+        held.act(action)
     }
 
     /// The refusal of a text on the set at an address, if it would be refused. Changes nothing. An accepted text has at most 255
@@ -250,7 +250,7 @@ impl PoolTable {
         ensures short { IsSome (content_of self.old address).pool → IfNone result (length text.now ≤ 255) }
         ensures same { content_of self.new ≡ content_of self.old }
     {
-        let live = self.pools[usize::from(address)].as_mut()?;
-        text_fault(live, id, text)
+        let held = self.pools[usize::from(address)].as_mut()?;
+        held.text_fault(id, text)
     }
 }

@@ -10,6 +10,7 @@ ghost use Rattle.vt_server.specs.States.{state_of, TakesInput, TakesInputs};
 ghost use Rattle.vt_server.specs.Steps.{preloading};
 
 use crate::OutOfMemory;
+use crate::held_pool::HeldPool;
 use crate::input::Input;
 use crate::output::Output;
 use crate::pools::PoolTable;
@@ -145,8 +146,10 @@ impl Terminal {
         ensures err_redraws { OnErr result (redraws self.new ≡ redraws self.old) }
     {
         let live = Live::new(self.alloc, pool)?;
+        let boxed = Box::new(self.alloc, live)?;
+        let held = HeldPool::new(boxed);
         self.registry.preload(address)?;
-        self.contents.put(address, live);
+        self.contents.put(address, held);
         self.choose();
         self.redraws = true;
         Ok(())

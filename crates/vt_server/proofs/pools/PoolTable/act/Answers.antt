@@ -11,13 +11,13 @@ pub returns : goal.returns
 returns c =
     let a = c.args.address in
     let pools = c.self.inside.pools in
-    let live = c.act.new.live in
+    let live = c.act.new.self in
     let within : a < length pools = omega (arith, c.self.invariant.pools_each) in
     record {
       pool = Some live;
       performs =
           subst (λ (k : Kept). PerformsAt (get_or k.pools a None) (action_value c.args.action.now) c.act.result (Some live)) c.self.view_is
-          (performed-at (get_or pools a None) c.in-Some.live live (action_value c.args.action.now) c.act.result
+          (performed-at (get_or pools a None) c.in-Some.held live (action_value c.args.action.now) c.act.result
           (get_or_default pools a None c.index-self-from.result within ∙ ap (λ k. get_or pools k c.index-self-from.result) (sym c.from.ensures) ∙ c.in-Some.is)
           c.act.ensures);
       content =

@@ -16,5 +16,5 @@ returns-clause-ok c =
     ∙ ap choosing
     (ap (λ (places : ℕ → AddressState). record s { sets = c.preload.new.self.sets; places = places })
     (λ i. places_by (c.put.ensures i) t.node (c.in_ok-preload.ensures.heard i))
-    ∙ preloaded-state (content_of t.contents) t.node (heard_of t.registry.watch) c.args.address (map_of c.args.pool.now) c.in_ok-live.live c.in_ok-live.ensures
+    ∙ preloaded-state (content_of t.contents) t.node (heard_of t.registry.watch) c.args.address (map_of c.args.pool.now) c.new-held.result (c.new-held.ensures ∙ c.in_ok-boxed.ensures.ok ∙ c.in_ok-live.ensures)
     s c.preload.new.self.sets refl c.in_ok-preload.ensures.sets)
