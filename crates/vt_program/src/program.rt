@@ -6,7 +6,7 @@ ghost use Rattle.vt_names.specs.Registry.{set_at};
 ghost use Rattle.std.specs.Io.KnownBytes.{Keeps};
 ghost use Rattle.vt_program.specs.declared.fault.Fault.TheVariants.{Memory};
 ghost use Rattle.vt_program.specs.Words.{HasValidAddresses, status_code};
-ghost use Rattle.vt_program.specs.Runs.{EndsWithStatus, EndsBy, EndsReport, FailsReplay, HasPoolToPrint, HasReplayed, HasToPrint, IsAcceptedPoolOf, IsFaultOfPool, IsFileFault, IsLoaded, IsPoolFileFault, IsPrinted, IsReplayFault, IsReportOf, PrintsFault};
+ghost use Rattle.vt_program.specs.Runs.{EndsWithStatus, EndsBy, EndsReport, FailsReplay, HasPoolToPrint, HasReplayed, HasToPrint, IsAcceptedPoolOf, IsFaultOfPool, IsFileFault, IsLoaded, IsPoolFileFault, IsPrinted, IsReplayFault, IsReportOf, PrintsFault, new_state};
 ghost use Rattle.vt_pool.specs.Pools.{contents};
 ghost use Rattle.vt_server.specs.States.{state_of};
 
@@ -234,16 +234,35 @@ fn replay_log<'a, F: Open, W: Sink>(
     // The output before a fault: the pool's file is read first, then the log is opened, and then the first screen is drawn.
     ensures before { IfErr result (λ why. FailsReplay (F.file files.old) options.now why (W.contents out.old) (W.contents out.new)) }
 {
+    // One way out of this body, since the end of a terminal takes a copy of it on the stack for each.
     let mut terminal = Terminal::new(alloc, options.own, options.name);
+    replay_on(alloc, options, files, out, notes, &mut terminal)
+}
+
+/// Replays a log with a new terminal.
+fn replay_on<'a, F: Open, W: Sink>(
+    alloc: Global,
+    options: &Options<'a>,
+    files: &mut F,
+    out: &mut W,
+    notes: &mut Notes,
+    terminal: &mut Terminal,
+) -> Result<(), Fault<'a>>
+    requires addresses { HasValidAddresses options.now }
+    requires fresh { state_of terminal.old ≡ new_state options.now.own options.now.name }
+    ensures replayed { OnOk result (HasReplayed (F.file files.old) options.now (W.contents out.old) (W.contents out.new)) }
+    ensures fault { IfErr result (IsReplayFault (F.file files.old) options.now) }
+    ensures before { IfErr result (λ why. FailsReplay (F.file files.old) options.now why (W.contents out.old) (W.contents out.new)) }
+{
     if let Some(preload) = &options.preload {
-        load(alloc, preload, files, &mut terminal)?;
+        load(alloc, preload, files, terminal)?;
     }
     let path = options.file;
     let mut log = match files.open(path) {
         Ok(log) => Stream::new(log),
         Err(cause) => return Err(Fault::File { path, cause }),
     };
-    match replay_with_notes(alloc, &mut log, out, &mut terminal, notes) {
+    match replay_with_notes(alloc, &mut log, out, terminal, notes) {
         Ok(_counts) => {}
         Err(why) => {
             let cause = log.into_failure();
