@@ -1,4 +1,4 @@
-use Rattle.std.proofs.Common.{◌≡◌, ◌≤◌, ◌+◌, length, ap, arith}
+use Rattle.std.proofs.Common.{◌≤◌, ◌+◌, length, ap, arith}
 use Rattle.std.proofs.lemmas.Fmt.{length-decimal-le}
 use Rattle.vt_layout.proofs.line_end.LineEnd.put_signed.Goals as goal
 use Rattle.vt_layout.proofs.line_end.LineEnd.put_signed.Goals.{then-number-lt0, else-number-lt0}
