@@ -1,11 +1,11 @@
 //! The subcommand `diff`.
 
 use crate::files::{Open, read_file, read_names};
-use crate::program::Status;
+use crate::program::{Status, is_read};
 use std::alloc::Global;
 use std::io::{self, Write};
 use vt_findings_text::Source;
-use vt_inspect::{Inspection, Note, inspect};
+use vt_inspect::inspect;
 use vt_inspector_words::DiffOptions;
 use vt_needs::{Difference, compare};
 
@@ -51,20 +51,6 @@ pub(crate) fn run_diff<F: Open, W: Write, E: Write>(
     } else {
         Status::Found
     })
-}
-
-/// Whether all bytes of a pool were read; if not, `errors` says from where on.
-fn is_read<E: Write>(inspection: &Inspection, path: &str, errors: &mut E) -> bool {
-    for note in inspection.notes.iter() {
-        if let Note::Unread { at } = note {
-            let _ = writeln!(
-                errors,
-                "segyolant: {path}: the bytes from {at} on cannot be read, so they are not compared; segyolant check says why"
-            );
-            return false;
-        }
-    }
-    true
 }
 
 fn put_difference<W: Write>(

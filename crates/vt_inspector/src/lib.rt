@@ -9,6 +9,7 @@ mod diff;
 mod files;
 mod needs;
 mod program;
+mod why;
 
 pub use files::{Files, Open, Opened};
 pub use program::{Status, run};

@@ -4,9 +4,11 @@ use crate::check::run_check;
 use crate::diff::run_diff;
 use crate::files::Open;
 use crate::needs::run_needs;
+use crate::why::run_why;
 use std::alloc::Global;
 use std::convert::AsStr;
 use std::io::{self, Write};
+use vt_inspect::{Inspection, Note};
 use vt_inspector_words::{Options, UsageError};
 
 /// The status with which a run ends.
@@ -55,6 +57,7 @@ pub fn run<S: AsStr, F: Open, W: Write, E: Write>(
     };
     let status = match &options {
         Options::Check(options) => run_check(alloc, options, files, out, errors)?,
+        Options::Why(options) => run_why(alloc, options, files, out, errors)?,
         Options::Needs(options) => run_needs(alloc, options, files, out, errors)?,
         Options::Diff(options) => run_diff(alloc, options, files, out, errors)?,
     };
@@ -74,4 +77,18 @@ fn refuse<W: Write, E: Write>(
     }
     let _ = write!(errors, "{refusal}");
     Ok(Status::NotJudged)
+}
+
+/// Whether all bytes of a pool were read; if not, `errors` says from where on.
+pub(crate) fn is_read<E: Write>(inspection: &Inspection, path: &str, errors: &mut E) -> bool {
+    for note in inspection.notes.iter() {
+        if let Note::Unread { at } = note {
+            let _ = writeln!(
+                errors,
+                "segyolant: {path}: the bytes from {at} on cannot be read, so they are left out; segyolant check says why"
+            );
+            return false;
+        }
+    }
+    true
 }

@@ -7,4 +7,6 @@
 mod options;
 mod words;
 
-pub use options::{CheckOptions, DiffOptions, Format, NeedsOptions, Options, UsageError};
+pub use options::{
+    CheckOptions, DiffOptions, Format, NeedsOptions, Options, UsageError, WhyOptions,
+};

@@ -7,12 +7,15 @@ use std::alloc::{AllocError, Global};
 use std::convert::AsStr;
 use std::fmt;
 use vt_needs::{Area, Sizes, TERMINAL_SIZES};
+use vt_objects::{Event, ObjectId};
 
 /// The options that the words give, by the subcommand.
 #[derive(Drop)]
 pub enum Options<'a> {
     /// `check`.
     Check(CheckOptions<'a>),
+    /// `why`.
+    Why(WhyOptions<'a>),
     /// `needs`.
     Needs(NeedsOptions<'a>),
     /// `diff`.
@@ -45,6 +48,19 @@ pub struct CheckOptions<'a> {
     pub denies_warnings: bool,
 }
 
+/// The options of `why`.
+#[derive(Drop)]
+pub struct WhyOptions<'a> {
+    /// The file of the pool.
+    pub pool: &'a str,
+    /// The object of the event.
+    pub id: ObjectId,
+    /// The number of the event, at most 26.
+    pub event: u8,
+    /// The files of names.
+    pub names: Vec<&'a str>,
+}
+
 /// The options of `needs`.
 #[derive(Drop)]
 pub struct NeedsOptions<'a> {
@@ -74,6 +90,8 @@ pub enum UsageError<'a> {
     Words(Error),
     /// The value of `--size` is no width and height.
     Size(&'a str),
+    /// The word for the event is no object's ID and event's number.
+    Event(&'a str),
     /// An allocation was refused.
     Memory,
 }
@@ -83,7 +101,7 @@ impl UsageError<'_> {
     pub fn is_help(&self) -> bool {
         match self {
             UsageError::Words(error) => !error.use_stderr(),
-            UsageError::Size(_) | UsageError::Memory => false,
+            UsageError::Size(_) | UsageError::Event(_) | UsageError::Memory => false,
         }
     }
 }
@@ -96,6 +114,12 @@ impl fmt::Display for UsageError<'_> {
                 writeln!(
                     f,
                     "error: --size {value}: a width and a height are wanted, as 480x480"
+                )
+            }
+            UsageError::Event(value) => {
+                writeln!(
+                    f,
+                    "error: {value}: an object's ID and an event's number are wanted, as 2002:24; events are 0 to 26"
                 )
             }
             UsageError::Memory => writeln!(f, "segyolant: out of memory"),
@@ -123,6 +147,7 @@ impl<'a> Options<'a> {
     pub fn parse<S: AsStr>(alloc: Global, words: &'a [S]) -> Result<Options<'a>, UsageError<'a>> {
         let matches = command(alloc)?.try_get_matches_from(words)?;
         match matches.subcommand() {
+            Some(("why", matches)) => Ok(Options::Why(why_options(alloc, matches)?)),
             Some(("needs", matches)) => Ok(Options::Needs(needs_options(alloc, matches)?)),
             Some(("diff", matches)) => Ok(Options::Diff(diff_options(alloc, matches)?)),
             Some((_, matches)) => Ok(Options::Check(check_options(alloc, matches)?)),
@@ -148,6 +173,33 @@ fn check_options<'a>(
         most: matches.get_one::<u32>("most"),
         denies_warnings: matches.contains_id("deny"),
     })
+}
+
+fn why_options<'a>(
+    alloc: Global,
+    matches: &ArgMatches<'a>,
+) -> Result<WhyOptions<'a>, UsageError<'a>> {
+    let word = matches.get_str("EVENT").unwrap_or("");
+    let Some((id, event)) = listing(word) else {
+        return Err(UsageError::Event(word));
+    };
+    Ok(WhyOptions {
+        pool: matches.get_str("POOL").unwrap_or(""),
+        id,
+        event,
+        names: all_of(alloc, matches, "names")?,
+    })
+}
+
+/// The object and the event of a text such as `2002:24`.
+fn listing(text: &str) -> Option<(ObjectId, u8)> {
+    let (id, event) = text.split_once(':')?;
+    let id = id.parse::<u16>().ok()?;
+    let event = event.parse::<u8>().ok()?;
+    if event > Event::LAST_NUMBER {
+        return None;
+    }
+    Some((ObjectId::from_raw(id), event))
 }
 
 fn needs_options<'a>(

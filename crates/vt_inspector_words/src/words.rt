@@ -10,6 +10,7 @@ Status: 0 nothing found, 1 something found, 2 not judged (words, file, memory)
   segyolant check my.iop                                every fault, and warnings
   segyolant check my.iop --names my.h --format github   the same, by names, for a workflow
   segyolant check *.iop --format json --most 100        at most 100 lines of JSON a pool
+  segyolant why my.iop 2002:24 --names my.h             what the event 24 of the object 2002 can cost, and why
   segyolant needs my.iop --size 240x240 --keys 6        whether the pool fits a terminal
   segyolant diff old.iop new.iop                        what is removed, changed and added
 
@@ -24,6 +25,13 @@ A line for each finding, FILE:OFFSET: SEVERITY[CODE NAME] SENTENCE:
   segyolant check my.iop --deny warnings
   cat my.iop | segyolant check -";
 
+/// The text of help after the options of `why`.
+const AFTER_WHY: &str = "\
+The event with its macros, then each macro that it can run, with its commands and the events that they raise. Each number is the
+sum of those below it.
+
+  segyolant why my.iop 2002:24";
+
 /// The command line.
 pub(crate) fn command<'a>(alloc: Global) -> Result<Command<'a>, AllocError> {
     Command::new(alloc, "segyolant")
@@ -35,6 +43,7 @@ pub(crate) fn command<'a>(alloc: Global) -> Result<Command<'a>, AllocError> {
         .subcommand_required(true)
         .arg_required_else_help(true)
         .subcommand(check(alloc)?)?
+        .subcommand(why(alloc)?)?
         .subcommand(needs(alloc)?)?
         .subcommand(diff(alloc)?)
 }
@@ -77,6 +86,26 @@ fn check<'a>(alloc: Global) -> Result<Command<'a>, AllocError> {
                 .action(ArgAction::Set)
                 .value_parser(DENIED),
         )
+}
+
+fn why<'a>(alloc: Global) -> Result<Command<'a>, AllocError> {
+    Command::new(alloc, "why")
+        .about("Prints the steps that an event of an object pool can take, by macros and commands")
+        .after_help(AFTER_WHY)
+        .arg(
+            Arg::new(alloc, "POOL")
+                .help("The file of the pool; - is the standard input")
+                .action(ArgAction::Set)
+                .required(true),
+        )?
+        .arg(
+            Arg::new(alloc, "EVENT")
+                .value_name("ID:EVENT")
+                .help("The object and the number of its event, 0 to 26; 0 is the run of a macro by name")
+                .action(ArgAction::Set)
+                .required(true),
+        )?
+        .arg(names(alloc))
 }
 
 fn needs<'a>(alloc: Global) -> Result<Command<'a>, AllocError> {

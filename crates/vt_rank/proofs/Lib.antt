@@ -6,5 +6,6 @@ pub mod NodeInsertion
 pub mod PathsAndCircles
 pub mod RankSearch
 pub mod ReachableRows
+pub mod ReachedNodes
 pub mod SetsAfterInsertions
 pub mod Totals

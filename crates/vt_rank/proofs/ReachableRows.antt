@@ -94,7 +94,7 @@ closing_begins g rows are = record {
   through = λ m v n none. absurd (omega (arith, none));
 }
 
-leads_on : (g : Graph) (m v n : ℕ) → Leads g m v → Leads g v n → Leads g m n
+pub leads_on : (g : Graph) (m v n : ℕ) → Leads g m v → Leads g v n → Leads g m n
 leads_on g m v n first then_ =
     (first.0 ++ v ∷ then_.0, subst (IsPath (triggered g)) (sym (append_assoc (m ∷ first.0) (v ∷ then_.0) (n ∷ []))) (IsPath-join g (m ∷ first.0) v (then_.0 ++ n ∷ []) first.1 then_.1))
 

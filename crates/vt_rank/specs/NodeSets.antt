@@ -51,3 +51,7 @@ AreTargets g rows = (m : ℕ) → IsSetOf (row rows m) (triggered g m)
 -- a path of at least one trigger
 abbrev pub Leads : Graph → ℕ → ℕ → Type 0
 Leads g m n = (between : List ℕ) × IsPath (triggered g) (m ∷ between ++ n ∷ [])
+
+-- a node is one of some nodes, or they lead to it
+abbrev pub IsReached : Graph → List ℕ → ℕ → Type 0
+IsReached g start n = Contains start n ⊎ ((m : ℕ) × Contains start m × Leads g m n)

@@ -1,7 +1,8 @@
 //! Ranks and costs on a graph of triggers.
 //!
 //! - `Graph` has an `Item` for each step, group and choice of a node.
-//! - `rank` returns `Ranks` or a `Circle`. `costs` returns `Costs`, or what is `OverBudget`.
+//! - `rank` returns `Ranks` or a `Circle`. `costs` returns `Costs`, or what is `OverBudget`. `reached` returns the nodes that some
+//!   nodes trigger.
 //! - `laws` has theorems about the definitions in specs/.
 //!
 //! docs/PROFILE.md has the rules: "Triggers and circles", "Costs and budgets". A node is a macro, an item the
@@ -11,6 +12,7 @@
 mod budget;
 mod capped;
 mod circle;
+mod gather;
 mod graph;
 pub mod laws;
 mod node_set;
@@ -22,6 +24,7 @@ mod table;
 pub use budget::{Costs, OverBudget};
 pub use capped::{costs, costs_up_to};
 pub use circle::Circle;
+pub use gather::reached;
 pub use graph::{Graph, Item};
 pub use ranking::{Ranks, rank};
 pub use table::cost_of_nodes;

@@ -26,6 +26,16 @@ pub(crate) fn least_on_circles(rows: &mut [NodeSet; 256], graph: &Graph, known: 
     known
 }
 
+/// The nodes that each node leads to, by paths of any length.
+pub(crate) fn all_targets(graph: &Graph) -> [NodeSet; 256]
+    ensures { (m n : ℕ) → Reaches result m n ↔ Leads graph.now m n }
+{
+    let mut rows = [NodeSet::new(); 256];
+    write_targets(&mut rows, graph);
+    close(&mut rows, graph);
+    rows
+}
+
 // Extends single triggers to paths of any length, by joining them at each node.
 fn close(rows: &mut [NodeSet; 256], graph: &Graph)
     requires { AreTargets graph.now rows.old }

@@ -29,12 +29,13 @@ mod verification;
 pub use accepted::{Accepted, AcceptedParts};
 pub use commands::{macro_command, named_macro};
 pub use listing::{Listing, Listings};
-pub use macros::is_whole;
+pub use macros::{cut_short, is_whole};
+pub use order::by_rank;
 pub use reference::{Reference, Test};
 pub use references::pointed;
 pub use refusal::Refusal;
 pub use targets::{has_attribute, kind_for};
-pub use triggers::TriggerGraph;
+pub use triggers::{TriggerGraph, macro_bytes};
 pub use verification::{verify, verify_owned, verify_update};
 pub use vt_chains::{Chain, Limits, TERMINAL_LIMITS, find_depths};
 

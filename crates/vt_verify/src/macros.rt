@@ -17,7 +17,7 @@ use vt_objects::laws::cut_is_one;
 use vt_objects::{Object, ObjectId, SortedStore, split_command};
 
 /// The first macro, by rising ID, whose bytes end inside a command.
-pub(crate) fn cut_short(objects: &SortedStore) -> Option<ObjectId>
+pub fn cut_short(objects: &SortedStore) -> Option<ObjectId>
     ensures { result ≡ option_map (λ m. m.0) (rules.cut_short (shape_of objects.now)) }
 {
     for (id, object) in objects.entries() {

@@ -15,7 +15,7 @@ use vt_objects::{Object, ObjectId, SortedStore};
 use vt_rank::Ranks;
 
 /// The macros with IDs up to 255, each after all macros that it triggers.
-pub(crate) fn by_rank(
+pub fn by_rank(
     alloc: Global,
     objects: &SortedStore,
     triggers: &TriggerGraph,

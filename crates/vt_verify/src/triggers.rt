@@ -6,14 +6,14 @@ ghost use Rattle.std.specs.List.{flat_map};
 ghost use Rattle.vt_commands.specs.Events.{event_number};
 ghost use Rattle.vt_commands.specs.Pieces.{cut};
 ghost use Rattle.vt_rank.specs.Graphs.{lists};
-ghost use Rattle.vt_stores.specs.Shapes.{shape_of, fixed_at};
+ghost use Rattle.vt_stores.specs.Shapes.{Shape, shape_of, fixed_at};
 ghost use Rattle.vt_verify.specs.Macros.{macro_bytes_in, macro_command, commands_of, commands};
-ghost use Rattle.vt_verify.specs.Triggers.{listing, is_mask, masks, changes_mask};
-ghost use Rattle.vt_verify.specs.TriggerGraphs.{IsTriggerGraph, command_items, group_of_event, groups_of};
+ghost use Rattle.vt_verify.specs.Triggers.{listing, listed, is_mask, masks, changes_mask};
+ghost use Rattle.vt_verify.specs.TriggerGraphs.{IsTriggerGraph, AreListings, command_items, group_of_event, groups_of};
 ghost use Rattle.vt_verify.specs.Rules as rules;
 
 use crate::commands::{macro_command, named_macro};
-use crate::listing::{Listing, listed_events};
+use crate::listing::{Listing, Listings, listed_events};
 use indexmap::IndexSet;
 use std::alloc::{AllocError, Global};
 use vt_objects::laws::cut_is_one;
@@ -44,6 +44,27 @@ impl TriggerGraph {
             most,
         };
         Ok(TriggerGraph { events, graph })
+    }
+
+    /// The macros that run at an event of an object, in the order of its list. Empty if no macro runs there.
+    pub fn macros_at(&self, id: ObjectId, event: u8) -> &[u8]
+        ensures { (shape : Shape) → IsTriggerGraph shape self.now.events.keys self.now.graph → result.now ≡ listed shape (listing id event) }
+    {
+        match group_of(&self.events, Listing { id, event }) {
+            Some(group) => self.graph.group(group),
+            None => &[],
+        }
+    }
+
+    /// The macros that run at the events of the objects, without the graph.
+    pub fn into_listings(self) -> Listings
+        ensures { (shape : Shape) → IsTriggerGraph shape self.events.keys self.graph → AreListings shape result }
+    {
+        let TriggerGraph { events, graph } = self;
+        Listings {
+            events,
+            groups: graph.groups,
+        }
     }
 }
 
@@ -98,7 +119,7 @@ fn items_of(
 }
 
 /// The bytes of macro `id`, if its ID is at most 255 and it exists.
-pub(crate) fn macro_bytes(objects: &SortedStore, id: ObjectId) -> Option<&[u8]>
+pub fn macro_bytes(objects: &SortedStore, id: ObjectId) -> Option<&[u8]>
     ensures { option_to_list (option_map (λ bytes. bytes.now) result) ≡ flat_map (λ f. option_to_list (macro_bytes_in id f)) (option_to_list (fixed_at (shape_of objects.now) id)) }
 {
     match objects.get(id) {

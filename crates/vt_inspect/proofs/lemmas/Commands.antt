@@ -11,12 +11,9 @@ use Rattle.vt_commands.specs.Targets.{object_of, targets}
 use Rattle.vt_stores.specs.Shapes.{Shape, Fixed}
 use Rattle.vt_verify.specs.Macros.{Piece, with_offsets, cut_or_none, macro_bytes_in, named_macro, pieces_of, macro_command}
 use Rattle.vt_verify.specs.Targets.{of_target, kind_for}
-use Rattle.vt_verify.proofs.lemmas.macros.MacroBytes.{next_piece, no_piece}
-use Rattle.vt_verify.proofs.lemmas.macros.CommandTests.{next_at}
 use Rattle.vt_inspect.specs.declared.finding.Spot.TheVariants as spots
 use Rattle.vt_inspect.specs.Findings.{if_whole}
 use Rattle.vt_inspect.specs.References.{at_spot, function_of, command_targets, targets_at}
-use Rattle.vt_inspect.proofs.lemmas.Appends.{moved}
 
 -- ---- results
 
@@ -27,28 +24,6 @@ on_ok (Err e) is step = tt
 pub if_ok : {T E : Type 0} {P Q : T → Type 0} (r : Result T E) → IfOk r P → ((x : T) → P x → Q x) → IfOk r Q
 if_ok (Ok x) is step = step x is
 if_ok (Err e) is step = tt
-
--- ---- what the pieces of a macro add
-
-module _ {A : Type 0} (adds : Piece → List A) (law : CutIsOne) (id : ℕ) (bytes rest : List ℕ) (whole : IsTrue (is_some (cut rest))) where
-  pub put_piece : (all found new : List A) (piece next : List ℕ) → IsSplit rest piece next → length rest ≤ length bytes
-      → found ++ flat_map adds (with_offsets id (length bytes - length rest) (cut_or_none rest)) ≡ all
-      → new ≡ found ++ adds (record { id = id; at = length bytes - length rest; bytes = piece })
-      → new ++ flat_map adds (with_offsets id (length bytes - length next) (cut_or_none next)) ≡ all
-  put_piece all found new piece next split le left made =
-      let at = length bytes - length rest in
-      moved all found (adds (record { id = id; at = at; bytes = piece })) (flat_map adds (with_offsets id (length bytes - length next) (cut_or_none next))) new
-      (ap (λ (k : ℕ). found ++ (adds (record { id = id; at = at; bytes = piece }) ++ flat_map adds (with_offsets id k (cut_or_none next)))) (sym (next_at bytes rest piece next split le))
-      ∙ ap (λ (ps : List (List ℕ)). found ++ flat_map adds (with_offsets id at ps)) (sym (next_piece law rest piece next split whole))
-      ∙ left)
-      made
-
-  pub put_none : (all found : List A) → ((piece next : List ℕ) → IsSplit rest piece next → ⊥)
-      → found ++ flat_map adds (with_offsets id (length bytes - length rest) (cut_or_none rest)) ≡ all → found ≡ all
-  put_none all found never left =
-      sym (append-nil found)
-      ∙ ap (λ (ps : List (List ℕ)). found ++ flat_map adds (with_offsets id (length bytes - length rest) ps)) (sym (no_piece law rest never whole))
-      ∙ left
 
 -- ---- macros with cut bytes have no pieces
 

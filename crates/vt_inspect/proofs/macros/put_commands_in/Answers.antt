@@ -3,10 +3,10 @@ use Rattle.std.proofs.lemmas.List.{append-nil}
 use Rattle.std.specs.Option.{option_to_list}
 use Rattle.vt_stores.specs.Shapes.{shape_of}
 use Rattle.vt_verify.proofs.lemmas.macros.MacroBytes.{rest_is_whole}
+use Rattle.vt_verify.proofs.lemmas.macros.PieceByPiece.{put_piece, put_none}
 use Rattle.vt_verify.proofs.lemmas.macros.CommandTests.{shorter}
 use Rattle.vt_inspect.specs.declared.finding.Finding.{Finding}
 use Rattle.vt_inspect.specs.Findings.{piece_findings}
-use Rattle.vt_inspect.proofs.lemmas.Commands.{put_piece, put_none}
 use Rattle.vt_inspect.proofs.macros.put_commands_in.Goals as goal
 
 pub loop-piece-preserved-in_ok-push : goal.loop-piece-preserved-in_ok-push

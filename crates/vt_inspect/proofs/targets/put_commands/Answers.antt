@@ -2,11 +2,11 @@ use Rattle.std.proofs.Common.{◌++◌, ap, sym, ◌∙◌}
 use Rattle.vt_stores.specs.Shapes.{shape_of}
 use Rattle.vt_verify.specs.Macros.{Piece, pieces_of}
 use Rattle.vt_verify.proofs.lemmas.macros.MacroBytes.{rest_is_whole}
+use Rattle.vt_verify.proofs.lemmas.macros.PieceByPiece.{put_piece, put_none}
 use Rattle.vt_verify.proofs.lemmas.macros.CommandTests.{shorter}
 use Rattle.vt_inspect.specs.Lists.{all_failing}
 use Rattle.vt_inspect.specs.References.{passes_at, targets_at}
 use Rattle.vt_inspect.proofs.lemmas.Appends.{all_failing-flat_map}
-use Rattle.vt_inspect.proofs.lemmas.Commands.{put_piece, put_none}
 use Rattle.vt_inspect.proofs.targets.put_commands.Goals as goal
 
 pub loop-piece-preserved : goal.loop-piece-preserved

@@ -1,0 +1,4 @@
+mod EventSteps
+mod Lists
+mod Macros
+mod Runs

@@ -1,0 +1,23 @@
+//! What an event of an object pool can cost, and why.
+//!
+//! - `break_down` returns the `Breakdown` of an event: its `EventCost`, and a `MacroCost` for each macro that the event can run, with the
+//!   `Share` of each command.
+//! - `laws` has the theorems: each number is the sum of those below it.
+//!
+//! docs/PROFILE.md, "Costs and budgets", has the rules. The pool need not be acceptable.
+#![tactic(auto)]
+
+mod breakdown;
+mod costed_pool;
+mod costliest;
+pub mod laws;
+mod macro_costs;
+mod runnable;
+mod share;
+
+pub use breakdown::{Breakdown, break_down};
+pub use share::{EventCost, MOST_STEPS, MacroCost, Share};
+pub use vt_verify::Listings;
+
+/// A refused allocation.
+pub use std::alloc::AllocError as OutOfMemory;

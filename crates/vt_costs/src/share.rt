@@ -1,0 +1,40 @@
+//! The costs of events and macros, and the shares of commands in them.
+
+use vt_objects::ObjectId;
+
+/// The most steps that are counted; a cost of more steps has this number.
+pub const MOST_STEPS: u64 = 1_000_000_000_000;
+
+/// An event of an object, and the most steps that it can take.
+#[derive(Clone, Copy, Debug, PartialEq, Eq)]
+pub struct EventCost {
+    /// The object.
+    pub id: ObjectId,
+    /// The number of the event.
+    pub event: u8,
+    /// The steps, counted up to `MOST_STEPS`.
+    pub steps: u64,
+}
+
+/// A part of what a macro can cost.
+#[derive(Clone, Copy, Debug, PartialEq, Eq)]
+pub enum Share {
+    /// A command, by its offset in the macro's bytes and its function, with the most steps that it can take: one for itself, and
+    /// those of the events up to the next command.
+    Command { at: usize, function: u8, steps: u64 },
+    /// The Hide event of the mask that is the costliest to hide: the command before hides the active mask, which may be any.
+    MayHide(EventCost),
+    /// An event that the command before raises, and at which macros run.
+    Raises(EventCost),
+}
+
+/// A macro, and the most steps that it can take.
+#[derive(Debug, Drop)]
+pub struct MacroCost {
+    /// The ID of the macro.
+    pub id: u8,
+    /// The steps, counted up to `MOST_STEPS`.
+    pub steps: u64,
+    /// The shares of its commands, in their order.
+    pub shares: Vec<Share>,
+}
