@@ -101,7 +101,9 @@ fn why<'a>(alloc: Global) -> Result<Command<'a>, AllocError> {
         .arg(
             Arg::new(alloc, "EVENT")
                 .value_name("ID:EVENT")
-                .help("The object and the number of its event, 0 to 26; 0 is the run of a macro by name")
+                .help(
+                    "The object and the number of its event, 0 to 26; 0 is the run of a macro by name",
+                )
                 .action(ArgAction::Set)
                 .required(true),
         )?
