@@ -3,9 +3,9 @@
 //! docs/POOLS.md, "Every fault at once", has the words, the statuses and the codes.
 #![tactic(auto)]
 
-use std::io::{self, BufWriter, ErrorKind, Write};
+use std::io::{self, BufWriter, ErrorKind, IsTerminal, Write};
 use std::process::ExitCode;
-use vt_inspector::{Files, Status, run};
+use vt_inspector::{Files, Look, Status, run};
 
 fn main(rt: HostRuntime) -> io::Result<ExitCode> {
     let alloc = rt.alloc();
@@ -20,11 +20,28 @@ fn main(rt: HostRuntime) -> io::Result<ExitCode> {
     };
     let mut out = BufWriter::new(alloc, io::writer(&rt))?;
     let mut files = Files::new(&rt);
-    match run(alloc, words.as_slice(), &mut files, &mut out, &mut errors) {
+    let words = words.as_slice();
+    match run(
+        alloc,
+        words,
+        look_of(&rt),
+        &mut files,
+        &mut out,
+        &mut errors,
+    ) {
         Ok(status) => Ok(ExitCode::from(status.code())),
         Err(error) => {
             let _ = writeln!(errors, "segyolant: {error}");
             Ok(ExitCode::from(Status::NotJudged.code()))
         }
+    }
+}
+
+/// In colours if the standard output is a terminal.
+fn look_of(rt: &HostRuntime) -> Look {
+    if rt.stdout().is_terminal() {
+        Look::Coloured
+    } else {
+        Look::Plain
     }
 }

@@ -3,12 +3,13 @@
 //! - `Names` are the names of objects, from files of lines `ID,NAME` or `#define NAME ID`.
 //! - A `Source` is an inspected pool with its path and its names. `Source::message` returns the `Message` of an `Item`: the offset in the
 //!   file, the severity, the code and a sentence.
-//! - A `Message` writes its line for people by `Display`, and for GitHub by `GithubLine`.
+//! - A `Message` writes its line for people by `Display`, in colours by `ColouredLine`, and for GitHub by `GithubLine`.
 //!
 //! docs/POOLS.md has the codes.
 #![tactic(auto)]
 
 mod codes;
+mod colour;
 mod events;
 mod github;
 mod item;
@@ -21,6 +22,7 @@ mod spot;
 mod warning_sentences;
 
 pub use codes::{Code, code_of};
+pub use colour::ColouredLine;
 pub use events::event_name;
 pub use github::GithubLine;
 pub use item::Item;

@@ -1,20 +1,30 @@
 //! The subcommand `check`.
 
 use crate::files::{Open, read_file, read_names};
-use crate::program::Status;
+use crate::program::{Look, Status};
 use std::alloc::{AllocError, Global};
 use std::io::{self, Write};
 use vt_findings_json::{item_json, summary_json};
-use vt_findings_text::{GithubLine, Item, Names, Source, Summary};
+use vt_findings_text::{ColouredLine, GithubLine, Item, Names, Source, Summary};
 use vt_inspect::{Inspection, inspect};
 use vt_inspector_words::{CheckOptions, Format};
 use vt_needs::{TERMINAL_SIZES, Warning, warnings};
 use vt_objects::Store;
 
+/// The form of the lines.
+#[derive(Clone, Copy, Debug, PartialEq, Eq)]
+enum Lines {
+    Plain,
+    Coloured,
+    Json,
+    Github,
+}
+
 /// Checks each pool in turn. A file that cannot be read is named, and the others are checked all the same.
 pub(crate) fn run_check<F: Open, W: Write, E: Write>(
     alloc: Global,
     options: &CheckOptions<'_>,
+    look: Look,
     files: &mut F,
     out: &mut W,
     errors: &mut E,
@@ -22,10 +32,14 @@ pub(crate) fn run_check<F: Open, W: Write, E: Write>(
     let Some(names) = read_names(alloc, options.names.as_slice(), files, errors)? else {
         return Ok(Status::NotJudged);
     };
+    let lines = lines_of(options.format, look);
     let mut status = Status::Clean;
     for path in options.pools.iter() {
         let found = match read_file(alloc, path, files, errors)? {
-            Some(bytes) => check_pool(alloc, options, path, bytes.as_slice(), &names, out)?,
+            Some(bytes) => {
+                let bytes = bytes.as_slice();
+                check_pool(alloc, options, lines, path, bytes, &names, out)?
+            }
             None => Status::NotJudged,
         };
         status = status.and(found);
@@ -33,10 +47,21 @@ pub(crate) fn run_check<F: Open, W: Write, E: Write>(
     Ok(status)
 }
 
+/// The form of the lines: those for people are in colours, if the output looks so.
+fn lines_of(format: Format, look: Look) -> Lines {
+    match (format, look) {
+        (Format::Text, Look::Plain) => Lines::Plain,
+        (Format::Text, Look::Coloured) => Lines::Coloured,
+        (Format::Json, _) => Lines::Json,
+        (Format::Github, _) => Lines::Github,
+    }
+}
+
 /// Prints every finding and warning of a pool, and the counts.
 fn check_pool<W: Write>(
     alloc: Global,
     options: &CheckOptions<'_>,
+    lines: Lines,
     path: &str,
     bytes: &[u8],
     names: &Names,
@@ -52,10 +77,10 @@ fn check_pool<W: Write>(
     let items = items_of(alloc, &inspection, warnings.as_slice())?;
     let most = options.most.map_or(items.len(), |most| most as usize);
     for item in items.iter().take(most) {
-        put_item(alloc, &source, *item, options.format, out)?;
+        put_item(alloc, &source, *item, lines, out)?;
     }
     for note in inspection.notes.iter() {
-        put_item(alloc, &source, Item::Note(*note), options.format, out)?;
+        put_item(alloc, &source, Item::Note(*note), lines, out)?;
     }
     let errors = inspection.findings.len();
     let summary = Summary {
@@ -65,7 +90,7 @@ fn check_pool<W: Write>(
         objects: inspection.objects.count(),
         left_out: items.len().saturating_sub(most),
     };
-    put_summary(alloc, summary, options.format, out)?;
+    put_summary(alloc, summary, lines, out)?;
     Ok(status_of(&summary, options.denies_warnings))
 }
 
@@ -92,32 +117,33 @@ fn put_item<W: Write>(
     alloc: Global,
     source: &Source<'_>,
     item: Item<'_>,
-    format: Format,
+    lines: Lines,
     out: &mut W,
 ) -> io::Result<()> {
     let message = source.message(alloc, item)?;
-    match format {
-        Format::Text => writeln!(out, "{message}"),
-        Format::Json => {
+    match lines {
+        Lines::Plain => writeln!(out, "{message}"),
+        Lines::Coloured => writeln!(out, "{}", ColouredLine { message: &message }),
+        Lines::Json => {
             let line = item_json(alloc, source, &message, item)?;
             writeln!(out, "{line}")
         }
-        Format::Github => writeln!(out, "{}", GithubLine { message: &message }),
+        Lines::Github => writeln!(out, "{}", GithubLine { message: &message }),
     }
 }
 
 fn put_summary<W: Write>(
     alloc: Global,
     summary: Summary<'_>,
-    format: Format,
+    lines: Lines,
     out: &mut W,
 ) -> io::Result<()> {
-    match format {
-        Format::Json => {
+    match lines {
+        Lines::Json => {
             let line = summary_json(alloc, summary)?;
             writeln!(out, "{line}")
         }
-        Format::Text | Format::Github => writeln!(out, "{summary}"),
+        Lines::Plain | Lines::Coloured | Lines::Github => writeln!(out, "{summary}"),
     }
 }
 

@@ -12,4 +12,4 @@ mod program;
 mod why;
 
 pub use files::{Files, Open, Opened};
-pub use program::{Status, run};
+pub use program::{Look, Status, run};

@@ -42,11 +42,21 @@ impl Status {
     }
 }
 
+/// How the output looks.
+#[derive(Clone, Copy, Debug, PartialEq, Eq)]
+pub enum Look {
+    /// Text alone, for files and other programs.
+    Plain,
+    /// Lines for people are in colours, for a terminal.
+    Coloured,
+}
+
 /// Runs the program on its words, of which the first is its name. `errors` gets a sentence for each file that cannot be read. An error is
 /// returned if `out` cannot be written or memory is refused.
 pub fn run<S: AsStr, F: Open, W: Write, E: Write>(
     alloc: Global,
     words: &[S],
+    look: Look,
     files: &mut F,
     out: &mut W,
     errors: &mut E,
@@ -56,7 +66,7 @@ pub fn run<S: AsStr, F: Open, W: Write, E: Write>(
         Err(refusal) => return refuse(&refusal, out, errors),
     };
     let status = match &options {
-        Options::Check(options) => run_check(alloc, options, files, out, errors)?,
+        Options::Check(options) => run_check(alloc, options, look, files, out, errors)?,
         Options::Why(options) => run_why(alloc, options, files, out, errors)?,
         Options::Needs(options) => run_needs(alloc, options, files, out, errors)?,
         Options::Diff(options) => run_diff(alloc, options, files, out, errors)?,

@@ -3,7 +3,7 @@
 use std::io::{self, Error, ErrorKind};
 use std::process::Abort;
 use std::test::Fail;
-use vt_inspector::{Open, Status, run};
+use vt_inspector::{Look, Open, Status, run};
 use vt_testing::POOL;
 
 /// A pool with each warning but W06. The record of the Container 100 comes twice.
@@ -24,6 +24,11 @@ w:40: warning[W03 TextTooWide] Output String 300 `label`: 3 characters of 8 pixe
 w:40: warning[W04 TextTooHigh] Output String 300 `label`: characters of 12 pixels in a field of 8\n\
 w:10: warning[W05 Outside] Data Mask 1000: child 1, Output String 300 `label`, of 16x8 at 465,0 reaches out of its area of 480x480\n\
 w: 0 errors, 5 warnings, 6 objects\n";
+
+/// The first of them in colours, without names.
+const COLOURED: &str = "\
+w:30: \x1b[1;33mwarning[W01 Replaced]\x1b[0m Container 100: the record at 69 replaces this one\n\
+w: 0 errors, 5 warnings, 6 objects; 4 not shown\n";
 
 /// Names in both forms, with lines that are passed over, one of them not UTF-8.
 const NAMES: &[u8] =
@@ -54,7 +59,14 @@ fn expect_run(rt: &(impl Abort + AllocGlobal), wanted: &Run<'_>) -> Result<(), F
     let (words, status, text, has_messages) = *wanted;
     let mut out = Vec::new(rt.alloc());
     let mut errors = Vec::new(rt.alloc());
-    let ended = run(rt.alloc(), words, &mut Shelf, &mut out, &mut errors)?;
+    let ended = run(
+        rt.alloc(),
+        words,
+        Look::Plain,
+        &mut Shelf,
+        &mut out,
+        &mut errors,
+    )?;
     assert_eq!(rt; out.as_slice(), text.as_bytes(), "{words:?}");
     assert_eq!(rt; ended, status, "{words:?}");
     assert_eq!(rt; !errors.is_empty(), has_messages, "{words:?}");
@@ -113,6 +125,19 @@ fn other_files_are_checked_beside_a_missing_one(rt: HostRuntime) -> Result<(), F
 }
 
 #[test]
+fn lines_are_coloured_for_a_terminal(rt: HostRuntime) -> Result<(), Fail> {
+    let words = ["s", "check", "w", "--most", "1"];
+    let mut out = Vec::new(rt.alloc());
+    let mut errors = Vec::new(rt.alloc());
+    let alloc = rt.alloc();
+    let look = Look::Coloured;
+    let status = run(alloc, &words, look, &mut Shelf, &mut out, &mut errors)?;
+    assert_eq!(rt; status, Status::Clean);
+    assert_eq!(rt; out.as_slice(), COLOURED.as_bytes());
+    Ok(())
+}
+
+#[test]
 fn differences_are_by_id(rt: HostRuntime) -> Result<(), Fail> {
     expect_run(
         &rt,
@@ -158,5 +183,31 @@ fn a_pool_fits_or_does_not(rt: HostRuntime) -> Result<(), Fail> {
             does not fit: the terminal's mask is 59x25\n",
             false,
         ),
+    )
+}
+
+#[test]
+fn costs_of_events_are_taken_apart(rt: HostRuntime) -> Result<(), Fail> {
+    let none = "            0 Data Mask 1000, show\n";
+    expect_run(
+        &rt,
+        &(&["s", "why", "pool", "1000:3"], Status::Clean, none, false),
+    )?;
+    expect_run(
+        &rt,
+        &(
+            &["s", "why", "cut", "1000:3"],
+            Status::NotJudged,
+            none,
+            true,
+        ),
+    )?;
+    expect_run(
+        &rt,
+        &(&["s", "why", "pool", "1000"], Status::NotJudged, "", true),
+    )?;
+    expect_run(
+        &rt,
+        &(&["s", "why", "none", "1000:3"], Status::NotJudged, "", true),
     )
 }

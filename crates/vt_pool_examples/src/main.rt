@@ -3,10 +3,10 @@
 #![tactic(auto)]
 
 use std::io::{self, BufWriter, Write};
-use vt_inspector::{Files, run};
+use vt_inspector::{Files, Look, run};
 
 /// The words of each run, the program's name first.
-const RUNS: [&[&str]; 19] = [
+const RUNS: [&[&str]; 24] = [
     &["segyolant", "check", "sprayer.iop", "--names", "sprayer.h"],
     &[
         "segyolant",
@@ -68,6 +68,18 @@ const RUNS: [&[&str]; 19] = [
     ],
     &["segyolant", "check", "-"],
     &["segyolant", "check", "missing.iop", "pool.iop"],
+    &[
+        "segyolant",
+        "why",
+        "sprayer.iop",
+        "2002:24",
+        "--names",
+        "sprayer.h",
+    ],
+    &["segyolant", "why", "refusal-12-over-budget.iop", "1:0"],
+    &["segyolant", "why", "refusal-11-macro-circle.iop", "1:0"],
+    &["segyolant", "why", "sprayer.iop", "9999:24"],
+    &["segyolant", "why", "sprayer.iop", "2002:27"],
     &["segyolant", "needs", "sprayer.iop", "--names", "sprayer.h"],
     &[
         "segyolant",
@@ -104,7 +116,9 @@ fn run_words<W: Write>(rt: &HostRuntime, words: &[&str], out: &mut W) -> io::Res
         write!(out, " {word}")?;
     }
     writeln!(out)?;
-    let status = run(rt.alloc(), words, &mut Files::new(rt), out, &mut messages)?;
+    let alloc = rt.alloc();
+    let mut files = Files::new(rt);
+    let status = run(alloc, words, Look::Plain, &mut files, out, &mut messages)?;
     out.write_all(&messages)?;
     writeln!(out, "status {}", status.code())
 }
