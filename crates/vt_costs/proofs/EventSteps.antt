@@ -17,9 +17,13 @@ use Rattle.vt_costs.specs.declared.share.Share.{Share}
 use Rattle.vt_costs.specs.declared.share.Share.TheVariants as shares
 use Rattle.vt_costs.specs.declared.share.TheConstants.{MOST_STEPS}
 use Rattle.vt_costs.specs.CostedPools.{AreMacroSteps}
-use Rattle.vt_costs.specs.Shares.{counted, event_cost, hide_cost, IsCostliest, IsCostliestHide, hide_by, hide_steps, raised_steps, event_shares}
+use Rattle.vt_costs.specs.Shares.{counted, event_cost, hide_cost, IsCostliest, IsCostliestHide, hide_by, steps_of, event_shares}
 
 -- ---- events
+
+-- the steps of the events of the command's row
+abbrev pub raised_steps : Shape → Command → ℕ
+raised_steps shape command = sum_by (λ e. (event_cost shape e).steps) (row_listings command)
 
 pub budget_is : (shape : Shape) (e : Listing) → budget shape e.id e.event ≡ total (cost shape) shape e
 unfolding budget
@@ -64,7 +68,7 @@ module _ (shape : Shape) (masks : List ℕ) (mask : ℕ) (other : EventCost) (of
   zero_below : (n : ℕ) → n ≤ 0 → n ≡ 0
   zero_below n less = omega arith
 
-  pub costlier_more : (found : Option EventCost) → hide_steps found < other.steps → IsCostliest shape masks found → IsCostliest shape (masks ++ mask ∷ []) (Some other)
+  pub costlier_more : (found : Option EventCost) → steps_of found < other.steps → IsCostliest shape masks found → IsCostliest shape (masks ++ mask ∷ []) (Some other)
   costlier_more None more is = (
     (mask, Contains-push masks mask, of_mask),
     more,
@@ -76,7 +80,7 @@ module _ (shape : Shape) (masks : List ℕ) (mask : ℕ) (other : EventCost) (of
     λ m inside. one_more other.steps m (omega arith) (λ k before. let less = is.2 k before in omega (arith, less, more)) inside,
   )
 
-  pub costlier_kept : (found : Option EventCost) → other.steps ≤ hide_steps found → IsCostliest shape masks found → IsCostliest shape (masks ++ mask ∷ []) found
+  pub costlier_kept : (found : Option EventCost) → other.steps ≤ steps_of found → IsCostliest shape masks found → IsCostliest shape (masks ++ mask ∷ []) found
   costlier_kept None less is = λ m inside. zero_below (hide_cost shape m).steps (one_more 0 m less (λ k before. let none = is k before in omega (arith, none)) inside)
   costlier_kept (Some found) less is = (
     (is.0.0, Contains-append_left masks (mask ∷ []) is.0.0 is.0.1, is.0.2),
@@ -114,7 +118,7 @@ hidden_of : (shape : Shape) → greatest (λ mask. total (cost shape) shape (lis
 unfolding hide_total
 hidden_of shape = refl
 
-greatest_is : (shape : Shape) (hide : Option EventCost) → IsCostliestHide shape hide → hide_steps hide ≡ counted (greatest (hide_total shape) (masks shape))
+greatest_is : (shape : Shape) (hide : Option EventCost) → IsCostliestHide shape hide → steps_of hide ≡ counted (greatest (hide_total shape) (masks shape))
 greatest_is shape None is =
     let most = greatest_counted (hide_total shape) (masks shape) 0 (λ m inside. let none = is m inside in let same = hide_total_is shape m in omega (arith, none, same)) in
     omega (arith, most)
@@ -125,11 +129,11 @@ greatest_is shape (Some e) is =
     let same = hide_total_is shape is.0.0 in
     omega (arith, most, least, steps, same)
 
-hide_case : (b : Bool) (hide : Option EventCost) (n : ℕ) → hide_steps hide ≡ counted n → hide_steps (cond b hide None) ≡ counted (cond b n 0)
+hide_case : (b : Bool) (hide : Option EventCost) (n : ℕ) → steps_of hide ≡ counted n → steps_of (cond b hide None) ≡ counted (cond b n 0)
 hide_case true hide n is = is
 hide_case false hide n is = omega arith
 
-pub hide_is : (shape : Shape) (hide : Option EventCost) (command : Command) → IsCostliestHide shape hide → hide_steps (hide_by command hide) ≡ counted (hidden_cost (cost shape) shape command)
+pub hide_is : (shape : Shape) (hide : Option EventCost) (command : Command) → IsCostliestHide shape hide → steps_of (hide_by command hide) ≡ counted (hidden_cost (cost shape) shape command)
 hide_is shape hide command is =
     hide_case (changes_mask command) hide (greatest (λ mask. total (cost shape) shape (listing mask 4)) (masks shape))
     (greatest_is shape hide is ∙ ap counted (sym (hidden_of shape)))
@@ -140,7 +144,7 @@ raised_is shape command =
     (λ e inside. let same = budget_is shape e in omega (arith, same))
 
 pub command_is : (shape : Shape) (hide : Option EventCost) (command : Command) → IsCostliestHide shape hide
-    → counted (1 + hide_steps (hide_by command hide) + raised_steps shape command) ≡ counted (command_cost (cost shape) shape command)
+    → counted (1 + steps_of (hide_by command hide) + raised_steps shape command) ≡ counted (command_cost (cost shape) shape command)
 command_is shape hide command is =
     let hidden = hide_is shape hide command is in
     let raised = raised_is shape command in

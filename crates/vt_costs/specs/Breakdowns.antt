@@ -14,6 +14,8 @@ use Rattle.vt_costs.specs.Shares.{event_cost, IsCostliestHide, row_of, macro_row
 
 -- The cost of the event, and of each macro that it can run, with the shares of its commands.
 pub record IsBreakdown (shape : Shape) (event : Listing) (b : Breakdown) : Type 0 where
+  -- the bytes of each macro end with a whole command
+  pub whole : cut_short shape ≡ None
   pub of_event : b.event ≡ event_cost shape event
   pub hide : Option EventCost
   pub costliest : IsCostliestHide shape hide

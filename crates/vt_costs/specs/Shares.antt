@@ -45,13 +45,9 @@ IsCostliestHide shape hide = IsCostliest shape (masks shape) hide
 abbrev pub hide_by : Command → Option EventCost → Option EventCost
 hide_by command hide = if changes_mask command then hide else None
 
-abbrev pub hide_steps : Option EventCost → ℕ
-hide_steps None = 0
-hide_steps (Some e) = e.steps
-
--- the steps of the events of the command's row
-abbrev pub raised_steps : Shape → Command → ℕ
-raised_steps shape command = sum_by (λ e. (event_cost shape e).steps) (row_listings command)
+abbrev pub steps_of : Option EventCost → ℕ
+steps_of None = 0
+steps_of (Some e) = e.steps
 
 abbrev pub event_shares : Shape → Listing → List Share
 event_shares shape e = map (λ raised. shares.Raises (event_cost shape raised)) (if_listed shape e)

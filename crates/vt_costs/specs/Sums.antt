@@ -16,16 +16,16 @@ use Rattle.vt_costs.specs.declared.share.Share.TheVariants as shares
 use Rattle.vt_costs.specs.Shares.{counted, event_cost, IsCostliestHide, command_shares, macro_shares}
 
 -- the steps of commands in shares
-abbrev pub command_steps : Share → ℕ
-command_steps (shares.Command at function steps) = steps
-command_steps (shares.MayHide e) = 0
-command_steps (shares.Raises e) = 0
+abbrev pub steps_of_command : Share → ℕ
+steps_of_command (shares.Command at function steps) = steps
+steps_of_command (shares.MayHide e) = 0
+steps_of_command (shares.Raises e) = 0
 
 -- the steps of events in shares
-abbrev pub event_steps : Share → ℕ
-event_steps (shares.Command at function steps) = 0
-event_steps (shares.MayHide e) = e.steps
-event_steps (shares.Raises e) = e.steps
+abbrev pub steps_of_event : Share → ℕ
+steps_of_event (shares.Command at function steps) = 0
+steps_of_event (shares.MayHide e) = e.steps
+steps_of_event (shares.Raises e) = e.steps
 
 -- the steps of an event are those of its macros, repeats counted
 abbrev pub EventsAddUp : Shape → Type 0
@@ -33,19 +33,20 @@ EventsAddUp shape = (e : Listing) → (event_cost shape e).steps ≡ counted (su
 
 -- the steps of a macro are those of the commands in its shares
 abbrev pub MacrosAddUp : Shape → Option EventCost → Type 0
-MacrosAddUp shape hide = (id : ℕ) → counted (cost shape id) ≡ counted (sum_by command_steps (macro_shares shape hide id))
+MacrosAddUp shape hide = (id : ℕ) → counted (cost shape id) ≡ counted (sum_by steps_of_command (macro_shares shape hide id))
 
 -- the steps of a command are one, and those of the events in its shares
 abbrev pub CommandsAddUp : Shape → Option EventCost → Type 0
 CommandsAddUp shape hide = (at function : ℕ) (command : Command)
-    → counted (sum_by command_steps (command_shares shape hide at function command)) ≡ counted (1 + sum_by event_steps (command_shares shape hide at function command))
+    → counted (sum_by steps_of_command (command_shares shape hide at function command)) ≡ counted (1 + sum_by steps_of_event (command_shares shape hide at function command))
 
--- The costs of a pool whose macros cost the sum of their commands.
+-- Events, macros and commands cost the sum of what stands below them, counted.
 pub record AddsUp (shape : Shape) (hide : Option EventCost) : Type 0 where
   pub events : EventsAddUp shape
   pub macros : MacrosAddUp shape hide
   pub commands : CommandsAddUp shape hide
 
+-- The costs of a pool add up, if each macro costs the sum of its commands.
 abbrev pub CostsAddUp : Type 0
 CostsAddUp = (shape : Shape) (hide : Option EventCost) → MacroCostsAreTotals shape → IsCostliestHide shape hide → AddsUp shape hide
 

@@ -4,7 +4,7 @@ ghost use Rattle.std.specs.Prelude.{◌≡◌};
 ghost use Rattle.vt_stores.specs.Shapes.{shape_of};
 ghost use Rattle.vt_verify.specs.Triggers.{is_mask};
 ghost use Rattle.vt_costs.specs.CostedPools.{IsCosted};
-ghost use Rattle.vt_costs.specs.Shares.{IsCostliestHide, hide_steps};
+ghost use Rattle.vt_costs.specs.Shares.{IsCostliestHide, steps_of};
 
 use crate::costed_pool::CostedPool;
 use crate::share::EventCost;
@@ -35,7 +35,7 @@ fn is_mask(kind: Kind) -> bool
 
 /// The steps of an event; 0 if there is none.
 pub(crate) fn steps_of(event: &Option<EventCost>) -> u64
-    ensures { result ≡ hide_steps event.now }
+    ensures { result ≡ steps_of event.now }
 {
     match event {
         Some(event) => event.steps,

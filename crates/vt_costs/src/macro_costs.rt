@@ -154,7 +154,7 @@ fn command_steps(pool: &CostedPool<'_>, hide: &Option<EventCost>, command: &Comm
 
 /// The steps of the costliest Hide event, if the command may hide a mask, or else 0.
 fn hide_steps(hide: &Option<EventCost>, command: &Command<'_>) -> u64
-    ensures { result ≡ shares.hide_steps (hide_by command.now hide.now) }
+    ensures { result ≡ shares.steps_of (hide_by command.now hide.now) }
 {
     match command {
         Command::ChangeActiveMask { .. } => steps_of(hide),

@@ -16,13 +16,14 @@ pub struct EventCost {
     pub steps: u64,
 }
 
-/// A part of what a macro can cost.
+/// A command of a macro, or an event that a command of it may raise.
 #[derive(Clone, Copy, Debug, PartialEq, Eq)]
 pub enum Share {
     /// A command, by its offset in the macro's bytes and its function, with the most steps that it can take: one for itself, and
     /// those of the events up to the next command.
     Command { at: usize, function: u8, steps: u64 },
-    /// The Hide event of the mask that is the costliest to hide: the command before hides the active mask, which may be any.
+    /// The Hide event of the mask that is the costliest to hide: the command before hides the active mask, which may be any. Other masks
+    /// have no share, though their macros may run.
     MayHide(EventCost),
     /// An event that the command before raises, and at which macros run.
     Raises(EventCost),

@@ -58,7 +58,8 @@ fn write_shares<W: Write>(
                 steps,
             } => {
                 write_steps(*steps, out)?;
-                writeln!(out, "  command {function:02X} at byte {at}")?;
+                write!(out, "  command {function:02X} at byte {at}")?;
+                end_line(*steps, out)?;
             }
             Share::MayHide(event) => write_raised(source, breakdown, "may raise", event, out)?,
             Share::Raises(event) => write_raised(source, breakdown, "raises", event, out)?,
@@ -78,7 +79,8 @@ fn write_raised<W: Write>(
     write_steps(event.steps, out)?;
     write!(out, "    {verb} ")?;
     write_event(source, event.id, event.event, out)?;
-    write_listed(breakdown, event, out)
+    write_listed(breakdown, event, out)?;
+    end_line(event.steps, out)
 }
 
 /// The steps of a macro; 0 if it is missing.

@@ -53,5 +53,5 @@ pub(crate) fn write_listed<W: Write>(
     for id in breakdown.listings.at(event.id, event.event) {
         write!(out, " {id}")?;
     }
-    writeln!(out)
+    Ok(())
 }

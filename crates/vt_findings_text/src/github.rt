@@ -4,7 +4,7 @@ use crate::codes::Code;
 use crate::message::{Message, Severity};
 use std::fmt;
 
-/// A message as a workflow command, `::error file=FILE,title=CODE NAME::SENTENCE`, without a newline.
+/// A message as a workflow command, `::error file=FILE,title=CODE NAME::byte OFFSET: SENTENCE`, without a newline.
 #[derive(Clone, Copy, Drop)]
 pub struct GithubLine<'a, 'b> {
     /// The message.

@@ -89,7 +89,7 @@ impl fmt::Display for FindingSentence<'_, '_> {
 fn note_sentence(note: Note) -> &'static str {
     match note {
         Note::Unread { .. } => {
-            "the bytes from here on cannot be read, so nothing is called missing (R01, R03, R08 not judged)"
+            "the bytes from here on cannot be read, so nothing is called missing or unused (R01, R03, R08, W02 not judged)"
         }
         Note::UnknownTriggers => {
             "a macro ends inside a command, so triggers are not known (R11, R12 not judged)"

@@ -6,7 +6,7 @@ use std::alloc::{AllocError, Global};
 use std::io::{self, Write};
 use vt_findings_json::{item_json, summary_json};
 use vt_findings_text::{ColouredLine, GithubLine, Item, Names, Source, Summary};
-use vt_inspect::{Inspection, inspect};
+use vt_inspect::{Inspection, Note, inspect};
 use vt_inspector_words::{CheckOptions, Format};
 use vt_needs::{TERMINAL_SIZES, Warning, warnings};
 use vt_objects::Store;
@@ -94,7 +94,7 @@ fn check_pool<W: Write>(
     Ok(status_of(&summary, options.denies_warnings))
 }
 
-/// The findings, then the replaced records, then the warnings.
+/// The findings, then the replaced records, then the warnings. If bytes could not be read, no object is called unused.
 fn items_of<'a>(
     alloc: Global,
     inspection: &'a Inspection,
@@ -107,10 +107,18 @@ fn items_of<'a>(
     for replaced in inspection.replaced.iter() {
         items.push(Item::Replaced(replaced))?;
     }
+    let is_read = !inspection.notes.iter().any(is_unread);
     for warning in warnings {
-        items.push(Item::Warning(warning))?;
+        if is_read || !matches!(warning, Warning::Unused { .. }) {
+            items.push(Item::Warning(warning))?;
+        }
     }
     Ok(items)
+}
+
+/// Whether a note is on bytes that could not be read.
+fn is_unread(note: &Note) -> bool {
+    matches!(note, Note::Unread { .. })
 }
 
 fn put_item<W: Write>(

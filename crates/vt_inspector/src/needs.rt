@@ -3,7 +3,7 @@
 use crate::files::{Open, read_file, read_names};
 use crate::program::Status;
 use std::alloc::Global;
-use std::io::{self, Write};
+use std::io::{self, Error, ErrorKind, Write};
 use vt_findings_text::{Source, event_name};
 use vt_inspect::{Inspection, inspect};
 use vt_inspector_words::NeedsOptions;
@@ -11,8 +11,8 @@ use vt_needs::{
     Lack, Needs, Sizes, dearest_event, has_font, has_kind, lacks, longest_chain, needs_of,
 };
 use vt_objects::{Kind, Store};
-use vt_pool::read_pool;
-use vt_verify::{Accepted, verify};
+use vt_pool::{PoolFault, read_pool};
+use vt_verify::{Accepted, Refusal, verify};
 
 /// Prints what a pool needs, and whether the terminal has it.
 pub(crate) fn run_needs<F: Open, W: Write, E: Write>(
@@ -104,14 +104,17 @@ fn put_load<W: Write>(
     bytes: &[u8],
     out: &mut W,
 ) -> io::Result<bool> {
-    let Ok(pool) = read_pool(alloc, bytes) else {
-        return Ok(false);
+    let pool = match read_pool(alloc, bytes) {
+        Ok(pool) => pool,
+        Err(PoolFault::OutOfMemory { .. }) => return Err(Error::from(ErrorKind::OutOfMemory)),
+        Err(_) => return Ok(false),
     };
     match verify(alloc, &pool) {
         Ok(accepted) => {
             put_accepted(source, accepted, out)?;
             Ok(true)
         }
+        Err(Refusal::OutOfMemory) => Err(Error::from(ErrorKind::OutOfMemory)),
         Err(_) => Ok(false),
     }
 }

@@ -31,8 +31,10 @@ pub(crate) fn run_why<F: Open, W: Write, E: Write>(
         inspection: &inspection,
         names: &names,
     };
-    let is_judged = is_read(&inspection, options.pool, errors)
-        & is_there(&source, options.id, errors);
+    if !is_there(&source, options.id, errors) {
+        return Ok(Status::NotJudged);
+    }
+    let is_judged = is_read(&inspection, options.pool, errors);
     let found = break_down(alloc, &inspection.objects, options.id, options.event)?;
     let Some(breakdown) = found else {
         put_unknown(alloc, &source, out)?;
@@ -55,7 +57,7 @@ fn is_there<E: Write>(source: &Source<'_>, id: ObjectId, errors: &mut E) -> bool
     if !is_there {
         let _ = writeln!(
             errors,
-            "segyolant: {}: {} is not there",
+            "segyolant: {}: {} is not there; ID:EVENT begins with the ID of an object of the pool",
             source.path,
             source.label(id)
         );

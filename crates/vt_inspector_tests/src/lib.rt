@@ -1,4 +1,4 @@
-//! Tests of vt_needs, vt_findings_text, vt_findings_json and vt_inspector over their exports.
+//! Tests of the checker by runs of vt_inspector.
 #![tactic(auto)]
 
 #[cfg(test)]

@@ -9,7 +9,7 @@ Status: 0 nothing found, 1 something found, 2 not judged (words, file, memory)
 
   segyolant check my.iop                                every fault, and warnings
   segyolant check my.iop --names my.h --format github   the same, by names, for a workflow
-  segyolant check *.iop --format json --most 100        at most 100 lines of JSON a pool
+  segyolant check *.iop --format json --most 100        lines of JSON, at most 100 errors and warnings a pool
   segyolant why my.iop 2002:24 --names my.h             what the event 24 of the object 2002 can cost, and why
   segyolant needs my.iop --size 240x240 --keys 6        whether the pool fits a terminal
   segyolant diff old.iop new.iop                        what is removed, changed and added
@@ -28,7 +28,7 @@ A line for each finding, FILE:OFFSET: SEVERITY[CODE NAME] SENTENCE:
 /// The text of help after the options of `why`.
 const AFTER_WHY: &str = "\
 The event with its macros, then each macro that it can run, with its commands and the events that they raise. Each number is the
-sum of those below it.
+sum of those below it, up to 1000000000000.
 
   segyolant why my.iop 2002:24";
 
@@ -74,7 +74,7 @@ fn check<'a>(alloc: Global) -> Result<Command<'a>, AllocError> {
             Arg::new(alloc, "most")
                 .long("most")
                 .value_name("N")
-                .help("Print at most N lines a pool; the counts stay whole")
+                .help("Print at most N errors and warnings a pool; the counts stay whole")
                 .action(ArgAction::Set)
                 .value_parser(value_parser!(u32)),
         )?

@@ -1,4 +1,4 @@
--- The differences of two pools, by their IDs (docs/POOLS.md, "Two pools").
+-- The differences of two pools, by their IDs.
 use Rattle.std.specs.Prelude.{ℕ, Bool, not, ◌==◌, if◌then◌else◌, List, [], ◌∷◌, ◌++◌, Option, Some, None}
 use Rattle.std.specs.List.{flat_map}
 use Rattle.std.specs.Str.{bytes_eq}

@@ -20,7 +20,7 @@ pub struct Dearest {
     pub steps: u32,
 }
 
-/// The event of an accepted pool that can take the most steps, the first of several. The object is NULL if no event can take a step.
+/// An event of an accepted pool that can take the most steps. Any event if none can take a step.
 pub fn dearest_event(accepted: &Accepted) -> Dearest
     ensures { spec.IsDearest accepted.now result }
 {

@@ -6,7 +6,7 @@ use std::io::{self, BufWriter, Write};
 use vt_inspector::{Files, Look, run};
 
 /// The words of each run, the program's name first.
-const RUNS: [&[&str]; 24] = [
+const RUNS: [&[&str]; 25] = [
     &["segyolant", "check", "sprayer.iop", "--names", "sprayer.h"],
     &[
         "segyolant",
@@ -78,6 +78,7 @@ const RUNS: [&[&str]; 24] = [
     ],
     &["segyolant", "why", "refusal-12-over-budget.iop", "1:0"],
     &["segyolant", "why", "refusal-11-macro-circle.iop", "1:0"],
+    &["segyolant", "why", "refusal-06-macro-bytes.iop", "1:0"],
     &["segyolant", "why", "sprayer.iop", "9999:24"],
     &["segyolant", "why", "sprayer.iop", "2002:27"],
     &["segyolant", "needs", "sprayer.iop", "--names", "sprayer.h"],

@@ -1,4 +1,4 @@
-use Rattle.std.proofs.Common.{ℕ, min, map, ap, ◌∙◌}
+use Rattle.std.proofs.Common.{ℕ, min, map, ap, ◌∙◌, rules}
 use Rattle.vt_rank.proofs.Totals as graphs
 use Rattle.vt_stores.specs.Shapes.{shape_of}
 use Rattle.vt_verify.proofs.lemmas.graphs.SameCosts.{cost_is, costs_are_totals}
@@ -41,6 +41,7 @@ returns-clause-known c =
     let shape = shape_of c.args.objects.now in
     let t = c.in_ok-triggers.triggers in
     record {
+      whole = search rules;
       of_event = c.event_cost.ensures;
       hide = c.costliest_hide.result;
       costliest = c.costliest_hide.ensures;
