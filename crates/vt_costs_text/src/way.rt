@@ -3,7 +3,7 @@
 
 use crate::parts::{end_line, write_event, write_macro, write_steps};
 use std::io::{self, Write};
-use vt_costs::{Breakdown, Share};
+use vt_costs::{Breakdown, MacroCost, Share};
 use vt_findings_text::Source;
 use vt_objects::ObjectId;
 
@@ -27,35 +27,33 @@ pub(crate) fn write_way<W: Write>(
         write_steps(steps, out)?;
         write_event(source, id, event, out)?;
         end_line(steps, out)?;
-        let Some(index) = costliest_macro(breakdown, id, event) else {
+        let index = costliest_macro(breakdown, id, event);
+        let Some(cost) = breakdown.macros.get(index) else {
             return Ok(());
         };
-        let shares = breakdown.macros[index].shares.as_slice();
+        let shares = cost.shares.as_slice();
         let command = costliest_command(shares);
-        write_command(source, breakdown, index, command, out)?;
+        write_command(source, cost, command, out)?;
         steps = 0;
-        if let Some(next) = costliest_event(shares, command) {
-            if let Share::MayHide(raised) | Share::Raises(raised) = &shares[next] {
+        match shares.get(costliest_event(shares, command)) {
+            Some(Share::MayHide(raised) | Share::Raises(raised)) => {
                 id = raised.id;
                 event = raised.event;
                 steps = raised.steps;
             }
+            Some(Share::Command { .. }) | None => {}
         }
     }
     Ok(())
 }
 
-/// Writes a macro of the way with its costliest command, which is at an index of its shares.
+/// Writes a macro of the way with its costliest command, by its index in the shares.
 fn write_command<W: Write>(
     source: &Source<'_>,
-    breakdown: &Breakdown,
-    index: usize,
+    cost: &MacroCost,
     command: usize,
     out: &mut W,
 ) -> io::Result<()> {
-    let Some(cost) = breakdown.macros.get(index) else {
-        return Ok(());
-    };
     write_steps(cost.steps, out)?;
     write!(out, "  ")?;
     write_macro(source, cost.id, out)?;
@@ -65,14 +63,14 @@ fn write_command<W: Write>(
     end_line(cost.steps, out)
 }
 
-/// The index of the costliest macro that runs at an event, if one takes a step.
-fn costliest_macro(breakdown: &Breakdown, id: ObjectId, event: u8) -> Option<usize> {
-    let mut found = None;
+/// The index of the costliest macro that runs at an event; the number of macros if none takes a step.
+fn costliest_macro(breakdown: &Breakdown, id: ObjectId, event: u8) -> usize {
+    let mut found = breakdown.macros.len();
     let mut most = 0;
     for listed in breakdown.listings.at(id, event) {
         for (index, cost) in breakdown.macros.iter().enumerate() {
             if cost.id == *listed && cost.steps > most {
-                found = Some(index);
+                found = index;
                 most = cost.steps;
             }
         }
@@ -95,16 +93,17 @@ fn costliest_command(shares: &[Share]) -> usize {
     found
 }
 
-/// The index of the costliest event behind the command at an index, if one takes a step.
-fn costliest_event(shares: &[Share], command: usize) -> Option<usize> {
-    let mut found = None;
+/// The index of the costliest event behind the command at an index; the number of shares if none takes a step.
+fn costliest_event(shares: &[Share], command: usize) -> usize {
+    let mut found = shares.len();
     let mut most = 0;
-    for (index, share) in shares.iter().enumerate().skip(command + 1) {
+    let mut is_behind = false;
+    for (index, share) in shares.iter().enumerate() {
         match share {
-            Share::Command { .. } => return found,
+            Share::Command { .. } => is_behind = index == command,
             Share::MayHide(event) | Share::Raises(event) => {
-                if event.steps > most {
-                    found = Some(index);
+                if is_behind && event.steps > most {
+                    found = index;
                     most = event.steps;
                 }
             }
