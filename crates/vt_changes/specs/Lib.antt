@@ -1,0 +1,2 @@
+-- The specifications that the contracts of vt_changes use.
+pub mod Names

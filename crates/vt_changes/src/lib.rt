@@ -1,0 +1,24 @@
+//! The fields in which two objects of one kind differ, by name.
+//!
+//! - `changed_fields` gives their names, in the order of the record.
+//!
+//! docs/PROFILE.md, "Records", has the fields of each kind.
+#![tactic(auto)]
+
+mod attribute_objects;
+mod changes;
+mod graphs;
+mod input_fields;
+mod keys;
+mod macros;
+mod masks;
+mod names;
+mod output_fields;
+mod pictures;
+mod shapes;
+mod variables;
+
+pub use changes::changed_fields;
+
+/// The error of a failed allocation.
+pub use std::alloc::AllocError as OutOfMemory;
