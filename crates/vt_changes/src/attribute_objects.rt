@@ -1,11 +1,17 @@
 //! The changes of attribute objects.
 
+ghost use Rattle.std.specs.Prelude.{◌≡◌, IfOk};
+ghost use Rattle.vt_kinds.specs.Records.{seen_input_attributes};
+ghost use Rattle.vt_changes.specs.Fields as spec;
+
 use crate::names::Names;
 use std::alloc::{AllocError, Global};
 use vt_kinds::{FillAttributes, Font, InputAttributes, LineAttributes};
 
 /// The fields in which two fonts differ.
-pub(crate) fn font(alloc: Global, old: &Font, new: &Font) -> Result<Names, AllocError> {
+pub(crate) fn font(alloc: Global, old: &Font, new: &Font) -> Result<Names, AllocError>
+    ensures { IfOk result (λ found. found ≡ spec.font old.now new.now) }
+{
     let mut names = Names::new(alloc);
     names.put_unless(old.colour == new.colour, "font colour")?;
     names.put_unless(old.size == new.size, "size")?;
@@ -20,7 +26,9 @@ pub(crate) fn line_attributes(
     alloc: Global,
     old: &LineAttributes,
     new: &LineAttributes,
-) -> Result<Names, AllocError> {
+) -> Result<Names, AllocError>
+    ensures { IfOk result (λ found. found ≡ spec.line_attributes old.now new.now) }
+{
     let mut names = Names::new(alloc);
     names.put_unless(old.colour == new.colour, "line colour")?;
     names.put_unless(old.width == new.width, "width")?;
@@ -34,7 +42,9 @@ pub(crate) fn fill_attributes(
     alloc: Global,
     old: &FillAttributes,
     new: &FillAttributes,
-) -> Result<Names, AllocError> {
+) -> Result<Names, AllocError>
+    ensures { IfOk result (λ found. found ≡ spec.fill_attributes old.now new.now) }
+{
     let mut names = Names::new(alloc);
     names.put_unless(old.fill_type == new.fill_type, "type")?;
     names.put_unless(old.colour == new.colour, "fill colour")?;
@@ -48,7 +58,9 @@ pub(crate) fn input_attributes(
     alloc: Global,
     old: &InputAttributes<Vec<u8>>,
     new: &InputAttributes<Vec<u8>>,
-) -> Result<Names, AllocError> {
+) -> Result<Names, AllocError>
+    ensures { IfOk result (λ found. found ≡ spec.input_attributes (seen_input_attributes old.now) (seen_input_attributes new.now)) }
+{
     let mut names = Names::new(alloc);
     names.put_unless(
         old.validation_type == new.validation_type,

@@ -19,6 +19,7 @@ pub fn changed_fields(
     Ok(names.into_vec())
 }
 
+/// The changes of the kinds up to Output Number, and of those from Line on.
 fn changed(
     alloc: Global,
     old: &Object<Vec<u8>>,
@@ -44,6 +45,17 @@ fn changed(
         (Object::OutputNumber(a), Object::OutputNumber(b)) => output_fields::output_number(
             alloc, a, b,
         ),
+        _ => changed_drawings(alloc, old, new),
+    }
+}
+
+/// The changes of the kinds from Line on.
+fn changed_drawings(
+    alloc: Global,
+    old: &Object<Vec<u8>>,
+    new: &Object<Vec<u8>>,
+) -> Result<Names, AllocError> {
+    match (old, new) {
         (Object::Line(a), Object::Line(b)) => shapes::line(alloc, a, b),
         (Object::Rectangle(a), Object::Rectangle(b)) => shapes::rectangle(alloc, a, b),
         (Object::Ellipse(a), Object::Ellipse(b)) => shapes::ellipse(alloc, a, b),

@@ -1,11 +1,16 @@
 //! The changes of graphs.
 
+ghost use Rattle.std.specs.Prelude.{◌≡◌, IfOk};
+ghost use Rattle.vt_changes.specs.Fields as spec;
+
 use crate::names::Names;
 use std::alloc::{AllocError, Global};
 use vt_kinds::{ArchedBar, LinearBar, Meter};
 
 /// The fields in which two meters differ.
-pub(crate) fn meter(alloc: Global, old: &Meter, new: &Meter) -> Result<Names, AllocError> {
+pub(crate) fn meter(alloc: Global, old: &Meter, new: &Meter) -> Result<Names, AllocError>
+    ensures { IfOk result (λ found. found ≡ spec.meter old.now new.now) }
+{
     let mut names = Names::new(alloc);
     names.put_unless(old.width == new.width, "width")?;
     names.put_unless(old.needle_colour == new.needle_colour, "needle colour")?;
@@ -28,7 +33,9 @@ pub(crate) fn linear_bar(
     alloc: Global,
     old: &LinearBar,
     new: &LinearBar,
-) -> Result<Names, AllocError> {
+) -> Result<Names, AllocError>
+    ensures { IfOk result (λ found. found ≡ spec.linear_bar old.now new.now) }
+{
     let mut names = Names::new(alloc);
     names.put_unless(old.width == new.width, "width")?;
     names.put_unless(old.height == new.height, "height")?;
@@ -54,7 +61,9 @@ pub(crate) fn arched_bar(
     alloc: Global,
     old: &ArchedBar,
     new: &ArchedBar,
-) -> Result<Names, AllocError> {
+) -> Result<Names, AllocError>
+    ensures { IfOk result (λ found. found ≡ spec.arched_bar old.now new.now) }
+{
     let mut names = Names::new(alloc);
     names.put_unless(old.width == new.width, "width")?;
     names.put_unless(old.height == new.height, "height")?;

@@ -1,6 +1,10 @@
 //! The changes of input fields.
 
-use crate::names::Names;
+ghost use Rattle.std.specs.Prelude.{◌≡◌, IfOk};
+ghost use Rattle.vt_kinds.specs.Records.{seen_input_string};
+ghost use Rattle.vt_changes.specs.Fields as spec;
+
+use crate::names::{Names, are_equal};
 use std::alloc::{AllocError, Global};
 use vt_kinds::{InputBoolean, InputList, InputNumber, InputString};
 
@@ -9,7 +13,9 @@ pub(crate) fn input_boolean(
     alloc: Global,
     old: &InputBoolean,
     new: &InputBoolean,
-) -> Result<Names, AllocError> {
+) -> Result<Names, AllocError>
+    ensures { IfOk result (λ found. found ≡ spec.input_boolean old.now new.now) }
+{
     let mut names = Names::new(alloc);
     names.put_unless(old.colour == new.colour, "background colour")?;
     names.put_unless(old.width == new.width, "width")?;
@@ -26,7 +32,9 @@ pub(crate) fn input_string(
     alloc: Global,
     old: &InputString<Vec<u8>>,
     new: &InputString<Vec<u8>>,
-) -> Result<Names, AllocError> {
+) -> Result<Names, AllocError>
+    ensures { IfOk result (λ found. found ≡ spec.input_string (seen_input_string old.now) (seen_input_string new.now)) }
+{
     let mut names = Names::new(alloc);
     names.put_unless(old.width == new.width, "width")?;
     names.put_unless(old.height == new.height, "height")?;
@@ -50,7 +58,9 @@ pub(crate) fn input_number(
     alloc: Global,
     old: &InputNumber,
     new: &InputNumber,
-) -> Result<Names, AllocError> {
+) -> Result<Names, AllocError>
+    ensures { IfOk result (λ found. found ≡ spec.input_number old.now new.now) }
+{
     let mut names = Names::new(alloc);
     names.put_unless(old.width == new.width, "width")?;
     names.put_unless(old.height == new.height, "height")?;
@@ -61,7 +71,7 @@ pub(crate) fn input_number(
     names.put_unless(old.value == new.value, "value")?;
     names.put_unless(old.min == new.min, "min")?;
     names.put_unless(old.max == new.max, "max")?;
-    names.put_unless(old.offset == new.offset, "offset")?;
+    names.put_unless(are_equal(old.offset, new.offset), "offset")?;
     names.put_unless(old.scale == new.scale, "scale")?;
     names.put_unless(old.decimals == new.decimals, "decimals")?;
     names.put_unless(old.format == new.format, "format")?;
@@ -76,7 +86,9 @@ pub(crate) fn input_list(
     alloc: Global,
     old: &InputList,
     new: &InputList,
-) -> Result<Names, AllocError> {
+) -> Result<Names, AllocError>
+    ensures { IfOk result (λ found. found ≡ spec.input_list old.now new.now) }
+{
     let mut names = Names::new(alloc);
     names.put_unless(old.width == new.width, "width")?;
     names.put_unless(old.height == new.height, "height")?;

@@ -1,5 +1,8 @@
 //! The changes of soft key masks, keys and buttons.
 
+ghost use Rattle.std.specs.Prelude.{◌≡◌, IfOk};
+ghost use Rattle.vt_changes.specs.Fields as spec;
+
 use crate::names::Names;
 use std::alloc::{AllocError, Global};
 use vt_kinds::{Button, Key, SoftKeyMask};
@@ -9,7 +12,9 @@ pub(crate) fn soft_key_mask(
     alloc: Global,
     old: &SoftKeyMask,
     new: &SoftKeyMask,
-) -> Result<Names, AllocError> {
+) -> Result<Names, AllocError>
+    ensures { IfOk result (λ found. found ≡ spec.soft_key_mask old.now new.now) }
+{
     let mut names = Names::new(alloc);
     names.put_unless(old.colour == new.colour, "background colour")?;
     names.put_unless(old.keys.as_slice() == new.keys.as_slice(), "keys")?;
@@ -18,7 +23,9 @@ pub(crate) fn soft_key_mask(
 }
 
 /// The fields in which two keys differ.
-pub(crate) fn key(alloc: Global, old: &Key, new: &Key) -> Result<Names, AllocError> {
+pub(crate) fn key(alloc: Global, old: &Key, new: &Key) -> Result<Names, AllocError>
+    ensures { IfOk result (λ found. found ≡ spec.key old.now new.now) }
+{
     let mut names = Names::new(alloc);
     names.put_unless(old.colour == new.colour, "background colour")?;
     names.put_unless(old.key_code == new.key_code, "key code")?;
@@ -31,7 +38,9 @@ pub(crate) fn key(alloc: Global, old: &Key, new: &Key) -> Result<Names, AllocErr
 }
 
 /// The fields in which two buttons differ.
-pub(crate) fn button(alloc: Global, old: &Button, new: &Button) -> Result<Names, AllocError> {
+pub(crate) fn button(alloc: Global, old: &Button, new: &Button) -> Result<Names, AllocError>
+    ensures { IfOk result (λ found. found ≡ spec.button old.now new.now) }
+{
     let mut names = Names::new(alloc);
     names.put_unless(old.width == new.width, "width")?;
     names.put_unless(old.height == new.height, "height")?;

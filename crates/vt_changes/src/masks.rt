@@ -1,5 +1,8 @@
 //! The changes of masks and containers.
 
+ghost use Rattle.std.specs.Prelude.{◌≡◌, IfOk};
+ghost use Rattle.vt_changes.specs.Fields as spec;
+
 use crate::names::Names;
 use std::alloc::{AllocError, Global};
 use vt_kinds::{AlarmMask, Container, DataMask, WorkingSet};
@@ -9,7 +12,9 @@ pub(crate) fn working_set(
     alloc: Global,
     old: &WorkingSet,
     new: &WorkingSet,
-) -> Result<Names, AllocError> {
+) -> Result<Names, AllocError>
+    ensures { IfOk result (λ found. found ≡ spec.working_set old.now new.now) }
+{
     let mut names = Names::new(alloc);
     names.put_unless(old.colour == new.colour, "background colour")?;
     names.put_unless(old.selectable == new.selectable, "selectable")?;
@@ -27,11 +32,9 @@ pub(crate) fn working_set(
 }
 
 /// The fields in which two data masks differ.
-pub(crate) fn data_mask(
-    alloc: Global,
-    old: &DataMask,
-    new: &DataMask,
-) -> Result<Names, AllocError> {
+pub(crate) fn data_mask(alloc: Global, old: &DataMask, new: &DataMask) -> Result<Names, AllocError>
+    ensures { IfOk result (λ found. found ≡ spec.data_mask old.now new.now) }
+{
     let mut names = Names::new(alloc);
     names.put_unless(old.colour == new.colour, "background colour")?;
     names.put_unless(old.soft_key_mask == new.soft_key_mask, "soft key mask")?;
@@ -48,7 +51,9 @@ pub(crate) fn alarm_mask(
     alloc: Global,
     old: &AlarmMask,
     new: &AlarmMask,
-) -> Result<Names, AllocError> {
+) -> Result<Names, AllocError>
+    ensures { IfOk result (λ found. found ≡ spec.alarm_mask old.now new.now) }
+{
     let mut names = Names::new(alloc);
     names.put_unless(old.colour == new.colour, "background colour")?;
     names.put_unless(old.soft_key_mask == new.soft_key_mask, "soft key mask")?;
@@ -67,7 +72,9 @@ pub(crate) fn container(
     alloc: Global,
     old: &Container,
     new: &Container,
-) -> Result<Names, AllocError> {
+) -> Result<Names, AllocError>
+    ensures { IfOk result (λ found. found ≡ spec.container old.now new.now) }
+{
     let mut names = Names::new(alloc);
     names.put_unless(old.width == new.width, "width")?;
     names.put_unless(old.height == new.height, "height")?;

@@ -1,6 +1,7 @@
 //! The names of the fields in which two objects differ.
 
 ghost use Rattle.std.specs.Prelude.{◌≡◌, ◌++◌, [], OnOk};
+ghost use Rattle.std.specs.Ordering.{int_eq};
 ghost use Rattle.vt_changes.specs.Names.{named, words};
 
 use std::alloc::{AllocError, Global};
@@ -47,4 +48,11 @@ impl Names {
     {
         self.names
     }
+}
+
+/// Whether two signed numbers are equal.
+pub(crate) fn are_equal(old: i32, new: i32) -> bool
+    ensures { result ≡ int_eq old new }
+{
+    old == new
 }

@@ -1,6 +1,10 @@
 //! The changes of output fields.
 
-use crate::names::Names;
+ghost use Rattle.std.specs.Prelude.{◌≡◌, IfOk};
+ghost use Rattle.vt_kinds.specs.Records.{seen_output_string};
+ghost use Rattle.vt_changes.specs.Fields as spec;
+
+use crate::names::{Names, are_equal};
 use std::alloc::{AllocError, Global};
 use vt_kinds::{OutputNumber, OutputString};
 
@@ -9,7 +13,9 @@ pub(crate) fn output_string(
     alloc: Global,
     old: &OutputString<Vec<u8>>,
     new: &OutputString<Vec<u8>>,
-) -> Result<Names, AllocError> {
+) -> Result<Names, AllocError>
+    ensures { IfOk result (λ found. found ≡ spec.output_string (seen_output_string old.now) (seen_output_string new.now)) }
+{
     let mut names = Names::new(alloc);
     names.put_unless(old.width == new.width, "width")?;
     names.put_unless(old.height == new.height, "height")?;
@@ -28,7 +34,9 @@ pub(crate) fn output_number(
     alloc: Global,
     old: &OutputNumber,
     new: &OutputNumber,
-) -> Result<Names, AllocError> {
+) -> Result<Names, AllocError>
+    ensures { IfOk result (λ found. found ≡ spec.output_number old.now new.now) }
+{
     let mut names = Names::new(alloc);
     names.put_unless(old.width == new.width, "width")?;
     names.put_unless(old.height == new.height, "height")?;
@@ -37,7 +45,7 @@ pub(crate) fn output_number(
     names.put_unless(old.options == new.options, "options")?;
     names.put_unless(old.variable == new.variable, "variable")?;
     names.put_unless(old.value == new.value, "value")?;
-    names.put_unless(old.offset == new.offset, "offset")?;
+    names.put_unless(are_equal(old.offset, new.offset), "offset")?;
     names.put_unless(old.scale == new.scale, "scale")?;
     names.put_unless(old.decimals == new.decimals, "decimals")?;
     names.put_unless(old.format == new.format, "format")?;

@@ -1,5 +1,9 @@
 //! The changes of pictures.
 
+ghost use Rattle.std.specs.Prelude.{◌≡◌, IfOk};
+ghost use Rattle.vt_kinds.specs.Records.{seen_picture};
+ghost use Rattle.vt_changes.specs.Fields as spec;
+
 use crate::names::Names;
 use std::alloc::{AllocError, Global};
 use vt_kinds::Picture;
@@ -9,7 +13,9 @@ pub(crate) fn picture(
     alloc: Global,
     old: &Picture<Vec<u8>>,
     new: &Picture<Vec<u8>>,
-) -> Result<Names, AllocError> {
+) -> Result<Names, AllocError>
+    ensures { IfOk result (λ found. found ≡ spec.picture (seen_picture old.now) (seen_picture new.now)) }
+{
     let mut names = Names::new(alloc);
     names.put_unless(old.width == new.width, "width")?;
     names.put_unless(old.actual_width == new.actual_width, "actual width")?;

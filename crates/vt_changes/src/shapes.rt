@@ -1,11 +1,16 @@
 //! The changes of shapes.
 
+ghost use Rattle.std.specs.Prelude.{◌≡◌, IfOk};
+ghost use Rattle.vt_changes.specs.Fields as spec;
+
 use crate::names::Names;
 use std::alloc::{AllocError, Global};
 use vt_kinds::{Ellipse, Line, Polygon, Rectangle};
 
 /// The fields in which two lines differ.
-pub(crate) fn line(alloc: Global, old: &Line, new: &Line) -> Result<Names, AllocError> {
+pub(crate) fn line(alloc: Global, old: &Line, new: &Line) -> Result<Names, AllocError>
+    ensures { IfOk result (λ found. found ≡ spec.line old.now new.now) }
+{
     let mut names = Names::new(alloc);
     names.put_unless(
         old.line_attributes == new.line_attributes,
@@ -23,7 +28,9 @@ pub(crate) fn rectangle(
     alloc: Global,
     old: &Rectangle,
     new: &Rectangle,
-) -> Result<Names, AllocError> {
+) -> Result<Names, AllocError>
+    ensures { IfOk result (λ found. found ≡ spec.rectangle old.now new.now) }
+{
     let mut names = Names::new(alloc);
     names.put_unless(
         old.line_attributes == new.line_attributes,
@@ -38,7 +45,9 @@ pub(crate) fn rectangle(
 }
 
 /// The fields in which two ellipses differ.
-pub(crate) fn ellipse(alloc: Global, old: &Ellipse, new: &Ellipse) -> Result<Names, AllocError> {
+pub(crate) fn ellipse(alloc: Global, old: &Ellipse, new: &Ellipse) -> Result<Names, AllocError>
+    ensures { IfOk result (λ found. found ≡ spec.ellipse old.now new.now) }
+{
     let mut names = Names::new(alloc);
     names.put_unless(
         old.line_attributes == new.line_attributes,
@@ -55,7 +64,9 @@ pub(crate) fn ellipse(alloc: Global, old: &Ellipse, new: &Ellipse) -> Result<Nam
 }
 
 /// The fields in which two polygons differ.
-pub(crate) fn polygon(alloc: Global, old: &Polygon, new: &Polygon) -> Result<Names, AllocError> {
+pub(crate) fn polygon(alloc: Global, old: &Polygon, new: &Polygon) -> Result<Names, AllocError>
+    ensures { IfOk result (λ found. found ≡ spec.polygon old.now new.now) }
+{
     let mut names = Names::new(alloc);
     names.put_unless(old.width == new.width, "width")?;
     names.put_unless(old.height == new.height, "height")?;

@@ -1,0 +1,2 @@
+-- The lemmas of vt_changes.
+pub mod Steps

@@ -1,0 +1,14 @@
+use Rattle.std.proofs.Common.{refl, ap}
+use Rattle.vt_changes.specs.Names.{named}
+use Rattle.vt_changes.proofs.Steps.{begun, grown, same_lists}
+use Rattle.vt_changes.proofs.masks.data_mask.Goals as goal
+
+pub returns : goal.returns
+returns c =
+    grown c.in_ok-put_unless-4.ensures
+    (grown c.in_ok-put_unless-3.ensures
+    (grown c.in_ok-put_unless-2.ensures
+    (begun c.in_ok-put_unless.ensures c.new-names.ensures refl)
+    (ap (λ r. named _ r) c.eq.ensures))
+    (ap (λ r. named _ r) (same_lists _ c.eq-2.ensures c.as_slice.ensures.value c.as_slice-2.ensures.value)))
+    (ap (λ r. named _ r) (same_lists _ c.eq-3.ensures c.as_slice-3.ensures.value c.as_slice-4.ensures.value))
