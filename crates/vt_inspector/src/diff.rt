@@ -4,10 +4,12 @@ use crate::files::{Open, read_file, read_names};
 use crate::program::{Status, is_read};
 use std::alloc::Global;
 use std::io::{self, Write};
+use vt_changes::changed_fields;
 use vt_findings_text::Source;
 use vt_inspect::inspect;
 use vt_inspector_words::DiffOptions;
 use vt_needs::{Difference, compare};
+use vt_objects::{ObjectId, Store};
 
 /// Prints the differences of two pools, as far as their bytes can be read.
 pub(crate) fn run_diff<F: Open, W: Write, E: Write>(
@@ -41,7 +43,7 @@ pub(crate) fn run_diff<F: Open, W: Write, E: Write>(
         names: &names,
     };
     for difference in found.iter() {
-        put_difference(&before, &after, *difference, out)?;
+        put_difference(alloc, &before, &after, *difference, out)?;
     }
     if !is_judged {
         return Ok(Status::NotJudged);
@@ -54,6 +56,7 @@ pub(crate) fn run_diff<F: Open, W: Write, E: Write>(
 }
 
 fn put_difference<W: Write>(
+    alloc: Global,
     before: &Source<'_>,
     after: &Source<'_>,
     difference: Difference,
@@ -67,7 +70,28 @@ fn put_difference<W: Write>(
             after.label(id),
             before.label(id)
         ),
-        Difference::Changed { id } => writeln!(out, "changed {}", after.label(id)),
+        Difference::Changed { id } => put_changed(alloc, before, after, id, out),
         Difference::Added { id } => writeln!(out, "added {}", after.label(id)),
     }
+}
+
+/// Prints an object of both pools, with the names of the fields in which it differs.
+fn put_changed<W: Write>(
+    alloc: Global,
+    before: &Source<'_>,
+    after: &Source<'_>,
+    id: ObjectId,
+    out: &mut W,
+) -> io::Result<()> {
+    write!(out, "changed {}", after.label(id))?;
+    if let Some(old) = before.inspection.objects.get(id)
+        && let Some(new) = after.inspection.objects.get(id)
+    {
+        let names = changed_fields(alloc, old, new)?;
+        for (index, name) in names.iter().enumerate() {
+            let mark = if index == 0 { ": " } else { ", " };
+            write!(out, "{mark}{name}")?;
+        }
+    }
+    writeln!(out)
 }

@@ -144,7 +144,7 @@ fn differences_are_by_id(rt: HostRuntime) -> Result<(), Fail> {
         &(
             &["s", "diff", "pool", "w"],
             Status::Found,
-            "changed Data Mask 1000\nadded Font Attributes 200\nadded Number Variable 201\nadded Output String 300\n",
+            "changed Data Mask 1000: children\nadded Font Attributes 200\nadded Number Variable 201\nadded Output String 300\n",
             false,
         ),
     )?;
@@ -154,7 +154,7 @@ fn differences_are_by_id(rt: HostRuntime) -> Result<(), Fail> {
         &(
             &["s", "diff", "pool", "cut"],
             Status::NotJudged,
-            "removed Container 100\nchanged Data Mask 1000\n",
+            "removed Container 100\nchanged Data Mask 1000: children\n",
             true,
         ),
     )
