@@ -96,6 +96,7 @@ const RUNS: [&[&str]; 25] = [
     &["segyolant", "diff", "pool.iop", "pool.iop"],
     &["segyolant", "diff", "pool.iop", "refusal-03-missing.iop"],
     &["segyolant", "diff", "pool.iop", "fault-1-truncated.iop"],
+    &["segyolant", "diff", "pool.iop", "refusal-05-too-deep.iop"],
     &["segyolant"],
     &["segyolant", "check", "--format", "xml", "pool.iop"],
     &["segyolant", "--help"],
