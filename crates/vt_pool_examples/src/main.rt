@@ -6,7 +6,7 @@ use std::io::{self, BufWriter, Write};
 use vt_inspector::{Files, Look, run};
 
 /// The words of each run, the program's name first.
-const RUNS: [&[&str]; 25] = [
+const RUNS: [&[&str]; 26] = [
     &["segyolant", "check", "sprayer.iop", "--names", "sprayer.h"],
     &[
         "segyolant",
