@@ -1,4 +1,4 @@
--- The fields of each kind in which two objects differ, by name and in the order of the record (docs/PROFILE.md, "Records").
+-- The fields of each kind in which two objects differ, by name and in the order of the record (docs/PROFILE.md, "Objects").
 use Rattle.std.specs.Prelude.{ℕ, List, ◌++◌, ◌==◌, codes}
 use Rattle.std.specs.Ordering.{int_eq}
 use Rattle.std.specs.Cmp.Lexicographic.{pointwise}
@@ -283,7 +283,7 @@ abbrev pub font : Font → Font → List Name
 font old new =
     named (codes "font colour") (old.colour == new.colour)
     ++ named (codes "size") (old.size == new.size)
-    ++ named (codes "type") (old.font_type == new.font_type)
+    ++ named (codes "font type") (old.font_type == new.font_type)
     ++ named (codes "style") (old.style == new.style)
     ++ named (codes "macros") (pointwise same_entry old.macros new.macros)
 
@@ -296,7 +296,7 @@ line_attributes old new =
 
 abbrev pub fill_attributes : FillAttributes → FillAttributes → List Name
 fill_attributes old new =
-    named (codes "type") (old.fill_type == new.fill_type)
+    named (codes "fill type") (old.fill_type == new.fill_type)
     ++ named (codes "fill colour") (old.colour == new.colour)
     ++ named (codes "pattern") (old.pattern == new.pattern)
     ++ named (codes "macros") (pointwise same_entry old.macros new.macros)

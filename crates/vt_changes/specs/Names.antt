@@ -1,4 +1,4 @@
--- The names of fields that differ, and when two entries of a list are the same.
+-- The names of fields that differ, and when two entries or scales are the same.
 use Rattle.std.specs.Prelude.{ℕ, Bool, List, [], ◌∷◌, if◌then◌else◌, ◌==◌, ◌&&◌, map}
 use Rattle.std.specs.Ordering.{int_eq}
 use denote.Ref.{Bor}

@@ -15,7 +15,7 @@ pub(crate) fn font(alloc: Global, old: &Font, new: &Font) -> Result<Names, Alloc
     let mut names = Names::new(alloc);
     names.put_unless(old.colour == new.colour, "font colour")?;
     names.put_unless(old.size == new.size, "size")?;
-    names.put_unless(old.font_type == new.font_type, "type")?;
+    names.put_unless(old.font_type == new.font_type, "font type")?;
     names.put_unless(old.style == new.style, "style")?;
     names.put_unless(old.macros.as_slice() == new.macros.as_slice(), "macros")?;
     Ok(names)
@@ -46,7 +46,7 @@ pub(crate) fn fill_attributes(
     ensures { IfOk result (λ found. found ≡ spec.fill_attributes old.now new.now) }
 {
     let mut names = Names::new(alloc);
-    names.put_unless(old.fill_type == new.fill_type, "type")?;
+    names.put_unless(old.fill_type == new.fill_type, "fill type")?;
     names.put_unless(old.colour == new.colour, "fill colour")?;
     names.put_unless(old.pattern == new.pattern, "pattern")?;
     names.put_unless(old.macros.as_slice() == new.macros.as_slice(), "macros")?;

@@ -2,7 +2,7 @@
 //!
 //! - `changed_fields` gives their names, in the order of the record.
 //!
-//! docs/PROFILE.md, "Records", has the fields of each kind.
+//! docs/PROFILE.md, "Objects", has the fields of each kind.
 #![tactic(auto)]
 
 mod attribute_objects;

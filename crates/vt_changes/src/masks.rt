@@ -1,4 +1,4 @@
-//! The changes of masks and containers.
+//! The changes of working sets, masks and containers.
 
 ghost use Rattle.std.specs.Prelude.{◌≡◌, IfOk};
 ghost use Rattle.vt_changes.specs.Fields as spec;
