@@ -6,7 +6,7 @@ use std::alloc::Global;
 use std::io::{self, Write};
 use vt_changes::changed_fields;
 use vt_findings_text::Source;
-use vt_inspect::inspect;
+use vt_inspect::{Finding, Inspection, inspect};
 use vt_inspector_words::DiffOptions;
 use vt_needs::{Difference, compare};
 use vt_objects::{ObjectId, Store};
@@ -30,7 +30,7 @@ pub(crate) fn run_diff<F: Open, W: Write, E: Write>(
     };
     let old = inspect(alloc, old_bytes.as_slice())?;
     let new = inspect(alloc, new_bytes.as_slice())?;
-    let is_judged = is_read(&old, options.old, errors) & is_read(&new, options.new, errors);
+    let is_judged = is_exact(&old, options.old, errors) & is_exact(&new, options.new, errors);
     let found = compare(alloc, &old.objects, &new.objects)?;
     let before = Source {
         path: options.old,
@@ -53,6 +53,26 @@ pub(crate) fn run_diff<F: Open, W: Write, E: Write>(
     } else {
         Status::Found
     })
+}
+
+/// Whether each value of a pool is that of its bytes; if not, `errors` says so.
+fn is_exact<E: Write>(inspection: &Inspection, path: &str, errors: &mut E) -> bool {
+    if !is_read(inspection, path, errors) {
+        return false;
+    }
+    let is_exact = !inspection.findings.iter().any(is_of_record);
+    if !is_exact {
+        let _ = writeln!(
+            errors,
+            "segyolant: {path}: a wrong scale is compared as 1, and wrong decimals as 7; segyolant check says where"
+        );
+    }
+    is_exact
+}
+
+/// Whether a finding is the fault of a record.
+fn is_of_record(finding: &Finding) -> bool {
+    matches!(finding, Finding::Record(_))
 }
 
 fn put_difference<W: Write>(

@@ -31,10 +31,10 @@ pub(crate) fn run_why<F: Open, W: Write, E: Write>(
         inspection: &inspection,
         names: &names,
     };
+    let is_judged = is_read(&inspection, options.pool, errors);
     if !is_there(&source, options.id, errors) {
         return Ok(Status::NotJudged);
     }
-    let is_judged = is_read(&inspection, options.pool, errors);
     let found = break_down(alloc, &inspection.objects, options.id, options.event)?;
     let Some(breakdown) = found else {
         put_unknown(alloc, &source, out)?;

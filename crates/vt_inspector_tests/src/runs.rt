@@ -17,6 +17,13 @@ const WARNED: &[u8] = &[
     201, 0, 21, 7, 0, 0, 0, // the Number Variable 201, at 79
 ];
 
+/// The pool `POOL`, but its mask has another colour and its container is a Key.
+const RECOLOURED: &[u8] = &[
+    0, 0, 0, 0, 1, 0xE8, 3, 0, 0, 0, // the Working Set 0
+    0xE8, 3, 1, 9, 0xFF, 0xFF, 1, 0, 100, 0, 11, 0, 5, 0, // the Data Mask 1000
+    100, 0, 5, 0, 7, 0, 0, // the Key 100
+];
+
 const WARNINGS: &str = "\
 w:30: warning[W01 Replaced] Container 100 `box`: the record at 69 replaces this one\n\
 w:79: warning[W02 Unused] Number Variable 201 `rate`: no object names it\n\
@@ -45,6 +52,7 @@ impl Open for Shelf {
         match path {
             "pool" => Ok(POOL),
             "w" => Ok(WARNED),
+            "recoloured" => Ok(RECOLOURED),
             "names" => Ok(NAMES),
             "cut" => Ok(&WARNED[..35]),
             _ => Err(Error::from(ErrorKind::NotFound)),
@@ -145,6 +153,15 @@ fn differences_are_by_id(rt: HostRuntime) -> Result<(), Fail> {
             &["s", "diff", "pool", "w"],
             Status::Found,
             "changed Data Mask 1000: children\nadded Font Attributes 200\nadded Number Variable 201\nadded Output String 300\n",
+            false,
+        ),
+    )?;
+    expect_run(
+        &rt,
+        &(
+            &["s", "diff", "pool", "recoloured"],
+            Status::Found,
+            "other kind Key 100, was Container 100\nchanged Data Mask 1000: background colour, children\n",
             false,
         ),
     )?;

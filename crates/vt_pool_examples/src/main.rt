@@ -6,7 +6,7 @@ use std::io::{self, BufWriter, Write};
 use vt_inspector::{Files, Look, run};
 
 /// The words of each run, the program's name first.
-const RUNS: [&[&str]; 26] = [
+const RUNS: [&[&str]; 28] = [
     &["segyolant", "check", "sprayer.iop", "--names", "sprayer.h"],
     &[
         "segyolant",
@@ -96,7 +96,14 @@ const RUNS: [&[&str]; 26] = [
     &["segyolant", "diff", "pool.iop", "pool.iop"],
     &["segyolant", "diff", "pool.iop", "refusal-03-missing.iop"],
     &["segyolant", "diff", "pool.iop", "fault-1-truncated.iop"],
+    &["segyolant", "diff", "pool.iop", "refusal-04-wrong-kind.iop"],
     &["segyolant", "diff", "pool.iop", "refusal-05-too-deep.iop"],
+    &[
+        "segyolant",
+        "diff",
+        "fault-4-scale.iop",
+        "fault-5-decimals.iop",
+    ],
     &["segyolant"],
     &["segyolant", "check", "--format", "xml", "pool.iop"],
     &["segyolant", "--help"],
