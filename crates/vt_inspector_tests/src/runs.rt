@@ -6,7 +6,7 @@ use std::test::Fail;
 use vt_inspector::{Look, Open, Status, run};
 use vt_testing::POOL;
 
-/// A pool with each warning but W06. The record of the Container 100 comes twice.
+/// A pool with each warning but ExtraKeys. The record of the Container 100 comes twice.
 const WARNED: &[u8] = &[
     0, 0, 0, 0, 1, 0xE8, 3, 0, 0, 0, // the Working Set 0
     0xE8, 3, 1, 0, 0xFF, 0xFF, 2, 0, 100, 0, 10, 0, 5, 0, 44, 1, 0xD1, 1, 0, 0, // the Data Mask 1000, at 10

@@ -40,22 +40,22 @@ pub struct Element {
 /// Something that a pool's maker may have overlooked. A terminal accepts the pool all the same. docs/PROFILE.md, "Warnings".
 #[derive(Clone, Copy, Debug, PartialEq, Eq)]
 pub enum Warning {
-    /// W02: no slot, no macro entry and no command of a macro names the object.
+    /// No slot, no macro entry and no command of a macro names the object.
     Unused {
         id: ObjectId,
     },
-    /// W03: a text in one line is wider than its field.
+    /// A text in one line is wider than its field.
     TextTooWide(TextField),
-    /// W04: a character is higher than its field.
+    /// A character is higher than its field.
     TextTooHigh(TextField),
-    /// W05: a child reaches out of the area of its mask, container, button or key.
+    /// A child reaches out of the area of its mask, container, button or key.
     Outside {
         /// The child.
         element: Element,
         /// The area of the object that has the child.
         area: Area,
     },
-    /// W06: a soft key mask has more keys than the terminal.
+    /// A soft key mask has more keys than the terminal.
     ExtraKeys {
         /// The soft key mask.
         id: ObjectId,
