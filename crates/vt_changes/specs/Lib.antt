@@ -1,3 +1,4 @@
 -- The specifications that the contracts of vt_changes use.
-pub mod Fields
+pub mod Changes
+pub mod FieldNames
 pub mod Names

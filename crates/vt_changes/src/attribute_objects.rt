@@ -1,72 +1,102 @@
 //! The changes of attribute objects.
 
 ghost use Rattle.std.specs.Prelude.{◌≡◌, IfOk};
-ghost use Rattle.vt_kinds.specs.Records.{seen_input_attributes};
-ghost use Rattle.vt_changes.specs.Fields as spec;
+ghost use Rattle.vt_kinds.specs.declared.object.Object.TheVariants as objects;
+ghost use Rattle.vt_kinds.specs.Records.{seen};
+ghost use Rattle.vt_changes.specs.Changes.{changed};
+ghost use Rattle.vt_changes.specs.Names.{words};
 
-use crate::names::Names;
+use crate::names::changed_among;
 use std::alloc::{AllocError, Global};
-use vt_kinds::{FillAttributes, Font, InputAttributes, LineAttributes};
+use vt_kinds::{FillAttributes, Font, InputAttributes, LineAttributes, Object};
 
-/// The fields in which two fonts differ.
-pub(crate) fn font(alloc: Global, old: &Font, new: &Font) -> Result<Names, AllocError>
-    ensures { IfOk result (λ found. found ≡ spec.font old.now new.now) }
+/// The fields in which two fonts differ; none for an object of another kind.
+pub(crate) fn font(
+    alloc: Global,
+    old: &Font,
+    new: &Object<Vec<u8>>,
+) -> Result<Vec<&'static str>, AllocError>
+    ensures { IfOk result (λ found. words found.items ≡ changed (objects.Font old.now) (seen new.now)) }
 {
-    let mut names = Names::new(alloc);
-    names.put_unless(old.colour == new.colour, "font colour")?;
-    names.put_unless(old.size == new.size, "size")?;
-    names.put_unless(old.font_type == new.font_type, "font type")?;
-    names.put_unless(old.style == new.style, "style")?;
-    names.put_unless(old.macros.as_slice() == new.macros.as_slice(), "macros")?;
-    Ok(names)
+    let Object::Font(new) = new else {
+        return Ok(Vec::new(alloc));
+    };
+    changed_among(
+        alloc,
+        &[
+            ("font colour", old.colour == new.colour),
+            ("size", old.size == new.size),
+            ("font type", old.font_type == new.font_type),
+            ("style", old.style == new.style),
+            ("macros", old.macros.as_slice() == new.macros.as_slice()),
+        ],
+    )
 }
 
-/// The fields in which two Line Attributes differ.
+/// The fields in which two Line Attributes differ; none for an object of another kind.
 pub(crate) fn line_attributes(
     alloc: Global,
     old: &LineAttributes,
-    new: &LineAttributes,
-) -> Result<Names, AllocError>
-    ensures { IfOk result (λ found. found ≡ spec.line_attributes old.now new.now) }
+    new: &Object<Vec<u8>>,
+) -> Result<Vec<&'static str>, AllocError>
+    ensures { IfOk result (λ found. words found.items ≡ changed (objects.LineAttributes old.now) (seen new.now)) }
 {
-    let mut names = Names::new(alloc);
-    names.put_unless(old.colour == new.colour, "line colour")?;
-    names.put_unless(old.width == new.width, "width")?;
-    names.put_unless(old.line_art == new.line_art, "line art")?;
-    names.put_unless(old.macros.as_slice() == new.macros.as_slice(), "macros")?;
-    Ok(names)
+    let Object::LineAttributes(new) = new else {
+        return Ok(Vec::new(alloc));
+    };
+    changed_among(
+        alloc,
+        &[
+            ("line colour", old.colour == new.colour),
+            ("width", old.width == new.width),
+            ("line art", old.line_art == new.line_art),
+            ("macros", old.macros.as_slice() == new.macros.as_slice()),
+        ],
+    )
 }
 
-/// The fields in which two Fill Attributes differ.
+/// The fields in which two Fill Attributes differ; none for an object of another kind.
 pub(crate) fn fill_attributes(
     alloc: Global,
     old: &FillAttributes,
-    new: &FillAttributes,
-) -> Result<Names, AllocError>
-    ensures { IfOk result (λ found. found ≡ spec.fill_attributes old.now new.now) }
+    new: &Object<Vec<u8>>,
+) -> Result<Vec<&'static str>, AllocError>
+    ensures { IfOk result (λ found. words found.items ≡ changed (objects.FillAttributes old.now) (seen new.now)) }
 {
-    let mut names = Names::new(alloc);
-    names.put_unless(old.fill_type == new.fill_type, "fill type")?;
-    names.put_unless(old.colour == new.colour, "fill colour")?;
-    names.put_unless(old.pattern == new.pattern, "pattern")?;
-    names.put_unless(old.macros.as_slice() == new.macros.as_slice(), "macros")?;
-    Ok(names)
+    let Object::FillAttributes(new) = new else {
+        return Ok(Vec::new(alloc));
+    };
+    changed_among(
+        alloc,
+        &[
+            ("fill type", old.fill_type == new.fill_type),
+            ("fill colour", old.colour == new.colour),
+            ("pattern", old.pattern == new.pattern),
+            ("macros", old.macros.as_slice() == new.macros.as_slice()),
+        ],
+    )
 }
 
-/// The fields in which two Input Attributes differ.
+/// The fields in which two Input Attributes differ; none for an object of another kind.
 pub(crate) fn input_attributes(
     alloc: Global,
     old: &InputAttributes<Vec<u8>>,
-    new: &InputAttributes<Vec<u8>>,
-) -> Result<Names, AllocError>
-    ensures { IfOk result (λ found. found ≡ spec.input_attributes (seen_input_attributes old.now) (seen_input_attributes new.now)) }
+    new: &Object<Vec<u8>>,
+) -> Result<Vec<&'static str>, AllocError>
+    ensures { IfOk result (λ found. words found.items ≡ changed (seen (objects.InputAttributes old.now)) (seen new.now)) }
 {
-    let mut names = Names::new(alloc);
-    names.put_unless(
-        old.validation_type == new.validation_type,
-        "validation type",
-    )?;
-    names.put_unless(old.text.as_slice() == new.text.as_slice(), "text")?;
-    names.put_unless(old.macros.as_slice() == new.macros.as_slice(), "macros")?;
-    Ok(names)
+    let Object::InputAttributes(new) = new else {
+        return Ok(Vec::new(alloc));
+    };
+    changed_among(
+        alloc,
+        &[
+            (
+                "validation type",
+                old.validation_type == new.validation_type,
+            ),
+            ("text", old.text.as_slice() == new.text.as_slice()),
+            ("macros", old.macros.as_slice() == new.macros.as_slice()),
+        ],
+    )
 }

@@ -1,87 +1,112 @@
 //! The changes of graphs.
 
 ghost use Rattle.std.specs.Prelude.{◌≡◌, IfOk};
-ghost use Rattle.vt_changes.specs.Fields as spec;
+ghost use Rattle.vt_kinds.specs.declared.object.Object.TheVariants as objects;
+ghost use Rattle.vt_kinds.specs.Records.{seen};
+ghost use Rattle.vt_changes.specs.Changes.{changed};
+ghost use Rattle.vt_changes.specs.Names.{words};
 
-use crate::names::Names;
+use crate::names::changed_among;
 use std::alloc::{AllocError, Global};
-use vt_kinds::{ArchedBar, LinearBar, Meter};
+use vt_kinds::{ArchedBar, LinearBar, Meter, Object};
 
-/// The fields in which two meters differ.
-pub(crate) fn meter(alloc: Global, old: &Meter, new: &Meter) -> Result<Names, AllocError>
-    ensures { IfOk result (λ found. found ≡ spec.meter old.now new.now) }
+/// The fields in which two meters differ; none for an object of another kind.
+pub(crate) fn meter(
+    alloc: Global,
+    old: &Meter,
+    new: &Object<Vec<u8>>,
+) -> Result<Vec<&'static str>, AllocError>
+    ensures { IfOk result (λ found. words found.items ≡ changed (objects.Meter old.now) (seen new.now)) }
 {
-    let mut names = Names::new(alloc);
-    names.put_unless(old.width == new.width, "width")?;
-    names.put_unless(old.needle_colour == new.needle_colour, "needle colour")?;
-    names.put_unless(old.border_colour == new.border_colour, "border colour")?;
-    names.put_unless(old.arc_colour == new.arc_colour, "arc colour")?;
-    names.put_unless(old.options == new.options, "options")?;
-    names.put_unless(old.ticks == new.ticks, "ticks")?;
-    names.put_unless(old.start == new.start, "start angle")?;
-    names.put_unless(old.end == new.end, "end angle")?;
-    names.put_unless(old.min == new.min, "min")?;
-    names.put_unless(old.max == new.max, "max")?;
-    names.put_unless(old.variable == new.variable, "variable")?;
-    names.put_unless(old.value == new.value, "value")?;
-    names.put_unless(old.macros.as_slice() == new.macros.as_slice(), "macros")?;
-    Ok(names)
+    let Object::Meter(new) = new else {
+        return Ok(Vec::new(alloc));
+    };
+    changed_among(
+        alloc,
+        &[
+            ("width", old.width == new.width),
+            ("needle colour", old.needle_colour == new.needle_colour),
+            ("border colour", old.border_colour == new.border_colour),
+            ("arc colour", old.arc_colour == new.arc_colour),
+            ("options", old.options == new.options),
+            ("ticks", old.ticks == new.ticks),
+            ("start angle", old.start == new.start),
+            ("end angle", old.end == new.end),
+            ("min", old.min == new.min),
+            ("max", old.max == new.max),
+            ("variable", old.variable == new.variable),
+            ("value", old.value == new.value),
+            ("macros", old.macros.as_slice() == new.macros.as_slice()),
+        ],
+    )
 }
 
-/// The fields in which two linear bars differ.
+/// The fields in which two linear bars differ; none for an object of another kind.
 pub(crate) fn linear_bar(
     alloc: Global,
     old: &LinearBar,
-    new: &LinearBar,
-) -> Result<Names, AllocError>
-    ensures { IfOk result (λ found. found ≡ spec.linear_bar old.now new.now) }
+    new: &Object<Vec<u8>>,
+) -> Result<Vec<&'static str>, AllocError>
+    ensures { IfOk result (λ found. words found.items ≡ changed (objects.LinearBar old.now) (seen new.now)) }
 {
-    let mut names = Names::new(alloc);
-    names.put_unless(old.width == new.width, "width")?;
-    names.put_unless(old.height == new.height, "height")?;
-    names.put_unless(old.colour == new.colour, "bar colour")?;
-    names.put_unless(old.target_colour == new.target_colour, "target colour")?;
-    names.put_unless(old.options == new.options, "options")?;
-    names.put_unless(old.ticks == new.ticks, "ticks")?;
-    names.put_unless(old.min == new.min, "min")?;
-    names.put_unless(old.max == new.max, "max")?;
-    names.put_unless(old.variable == new.variable, "variable")?;
-    names.put_unless(old.value == new.value, "value")?;
-    names.put_unless(
-        old.target_variable == new.target_variable,
-        "target variable",
-    )?;
-    names.put_unless(old.target == new.target, "target")?;
-    names.put_unless(old.macros.as_slice() == new.macros.as_slice(), "macros")?;
-    Ok(names)
+    let Object::LinearBar(new) = new else {
+        return Ok(Vec::new(alloc));
+    };
+    changed_among(
+        alloc,
+        &[
+            ("width", old.width == new.width),
+            ("height", old.height == new.height),
+            ("bar colour", old.colour == new.colour),
+            ("target colour", old.target_colour == new.target_colour),
+            ("options", old.options == new.options),
+            ("ticks", old.ticks == new.ticks),
+            ("min", old.min == new.min),
+            ("max", old.max == new.max),
+            ("variable", old.variable == new.variable),
+            ("value", old.value == new.value),
+            (
+                "target variable",
+                old.target_variable == new.target_variable,
+            ),
+            ("target", old.target == new.target),
+            ("macros", old.macros.as_slice() == new.macros.as_slice()),
+        ],
+    )
 }
 
-/// The fields in which two arched bars differ.
+/// The fields in which two arched bars differ; none for an object of another kind.
 pub(crate) fn arched_bar(
     alloc: Global,
     old: &ArchedBar,
-    new: &ArchedBar,
-) -> Result<Names, AllocError>
-    ensures { IfOk result (λ found. found ≡ spec.arched_bar old.now new.now) }
+    new: &Object<Vec<u8>>,
+) -> Result<Vec<&'static str>, AllocError>
+    ensures { IfOk result (λ found. words found.items ≡ changed (objects.ArchedBar old.now) (seen new.now)) }
 {
-    let mut names = Names::new(alloc);
-    names.put_unless(old.width == new.width, "width")?;
-    names.put_unless(old.height == new.height, "height")?;
-    names.put_unless(old.colour == new.colour, "bar colour")?;
-    names.put_unless(old.target_colour == new.target_colour, "target colour")?;
-    names.put_unless(old.options == new.options, "options")?;
-    names.put_unless(old.start == new.start, "start angle")?;
-    names.put_unless(old.end == new.end, "end angle")?;
-    names.put_unless(old.bar_width == new.bar_width, "bar width")?;
-    names.put_unless(old.min == new.min, "min")?;
-    names.put_unless(old.max == new.max, "max")?;
-    names.put_unless(old.variable == new.variable, "variable")?;
-    names.put_unless(old.value == new.value, "value")?;
-    names.put_unless(
-        old.target_variable == new.target_variable,
-        "target variable",
-    )?;
-    names.put_unless(old.target == new.target, "target")?;
-    names.put_unless(old.macros.as_slice() == new.macros.as_slice(), "macros")?;
-    Ok(names)
+    let Object::ArchedBar(new) = new else {
+        return Ok(Vec::new(alloc));
+    };
+    changed_among(
+        alloc,
+        &[
+            ("width", old.width == new.width),
+            ("height", old.height == new.height),
+            ("bar colour", old.colour == new.colour),
+            ("target colour", old.target_colour == new.target_colour),
+            ("options", old.options == new.options),
+            ("start angle", old.start == new.start),
+            ("end angle", old.end == new.end),
+            ("bar width", old.bar_width == new.bar_width),
+            ("min", old.min == new.min),
+            ("max", old.max == new.max),
+            ("variable", old.variable == new.variable),
+            ("value", old.value == new.value),
+            (
+                "target variable",
+                old.target_variable == new.target_variable,
+            ),
+            ("target", old.target == new.target),
+            ("macros", old.macros.as_slice() == new.macros.as_slice()),
+        ],
+    )
 }

@@ -1,101 +1,127 @@
 //! The changes of input fields.
 
 ghost use Rattle.std.specs.Prelude.{◌≡◌, IfOk};
-ghost use Rattle.vt_kinds.specs.Records.{seen_input_string};
-ghost use Rattle.vt_changes.specs.Fields as spec;
+ghost use Rattle.vt_kinds.specs.declared.object.Object.TheVariants as objects;
+ghost use Rattle.vt_kinds.specs.Records.{seen};
+ghost use Rattle.vt_changes.specs.Changes.{changed};
+ghost use Rattle.vt_changes.specs.Names.{words};
 
-use crate::names::{Names, are_equal};
+use crate::names::{are_equal, changed_among};
 use std::alloc::{AllocError, Global};
-use vt_kinds::{InputBoolean, InputList, InputNumber, InputString};
+use vt_kinds::{InputBoolean, InputList, InputNumber, InputString, Object};
 
-/// The fields in which two Input Booleans differ.
+/// The fields in which two Input Booleans differ; none for an object of another kind.
 pub(crate) fn input_boolean(
     alloc: Global,
     old: &InputBoolean,
-    new: &InputBoolean,
-) -> Result<Names, AllocError>
-    ensures { IfOk result (λ found. found ≡ spec.input_boolean old.now new.now) }
+    new: &Object<Vec<u8>>,
+) -> Result<Vec<&'static str>, AllocError>
+    ensures { IfOk result (λ found. words found.items ≡ changed (objects.InputBoolean old.now) (seen new.now)) }
 {
-    let mut names = Names::new(alloc);
-    names.put_unless(old.colour == new.colour, "background colour")?;
-    names.put_unless(old.width == new.width, "width")?;
-    names.put_unless(old.font == new.font, "font")?;
-    names.put_unless(old.variable == new.variable, "variable")?;
-    names.put_unless(old.value == new.value, "value")?;
-    names.put_unless(old.enabled == new.enabled, "enabled")?;
-    names.put_unless(old.macros.as_slice() == new.macros.as_slice(), "macros")?;
-    Ok(names)
+    let Object::InputBoolean(new) = new else {
+        return Ok(Vec::new(alloc));
+    };
+    changed_among(
+        alloc,
+        &[
+            ("background colour", old.colour == new.colour),
+            ("width", old.width == new.width),
+            ("font", old.font == new.font),
+            ("variable", old.variable == new.variable),
+            ("value", old.value == new.value),
+            ("enabled", old.enabled == new.enabled),
+            ("macros", old.macros.as_slice() == new.macros.as_slice()),
+        ],
+    )
 }
 
-/// The fields in which two Input Strings differ.
+/// The fields in which two Input Strings differ; none for an object of another kind.
 pub(crate) fn input_string(
     alloc: Global,
     old: &InputString<Vec<u8>>,
-    new: &InputString<Vec<u8>>,
-) -> Result<Names, AllocError>
-    ensures { IfOk result (λ found. found ≡ spec.input_string (seen_input_string old.now) (seen_input_string new.now)) }
+    new: &Object<Vec<u8>>,
+) -> Result<Vec<&'static str>, AllocError>
+    ensures { IfOk result (λ found. words found.items ≡ changed (seen (objects.InputString old.now)) (seen new.now)) }
 {
-    let mut names = Names::new(alloc);
-    names.put_unless(old.width == new.width, "width")?;
-    names.put_unless(old.height == new.height, "height")?;
-    names.put_unless(old.colour == new.colour, "background colour")?;
-    names.put_unless(old.font == new.font, "font")?;
-    names.put_unless(
-        old.input_attributes == new.input_attributes,
-        "input attributes",
-    )?;
-    names.put_unless(old.options == new.options, "options")?;
-    names.put_unless(old.variable == new.variable, "variable")?;
-    names.put_unless(old.justification == new.justification, "justification")?;
-    names.put_unless(old.text.as_slice() == new.text.as_slice(), "text")?;
-    names.put_unless(old.enabled == new.enabled, "enabled")?;
-    names.put_unless(old.macros.as_slice() == new.macros.as_slice(), "macros")?;
-    Ok(names)
+    let Object::InputString(new) = new else {
+        return Ok(Vec::new(alloc));
+    };
+    changed_among(
+        alloc,
+        &[
+            ("width", old.width == new.width),
+            ("height", old.height == new.height),
+            ("background colour", old.colour == new.colour),
+            ("font", old.font == new.font),
+            (
+                "input attributes",
+                old.input_attributes == new.input_attributes,
+            ),
+            ("options", old.options == new.options),
+            ("variable", old.variable == new.variable),
+            ("justification", old.justification == new.justification),
+            ("text", old.text.as_slice() == new.text.as_slice()),
+            ("enabled", old.enabled == new.enabled),
+            ("macros", old.macros.as_slice() == new.macros.as_slice()),
+        ],
+    )
 }
 
-/// The fields in which two Input Numbers differ.
+/// The fields in which two Input Numbers differ; none for an object of another kind.
 pub(crate) fn input_number(
     alloc: Global,
     old: &InputNumber,
-    new: &InputNumber,
-) -> Result<Names, AllocError>
-    ensures { IfOk result (λ found. found ≡ spec.input_number old.now new.now) }
+    new: &Object<Vec<u8>>,
+) -> Result<Vec<&'static str>, AllocError>
+    ensures { IfOk result (λ found. words found.items ≡ changed (objects.InputNumber old.now) (seen new.now)) }
 {
-    let mut names = Names::new(alloc);
-    names.put_unless(old.width == new.width, "width")?;
-    names.put_unless(old.height == new.height, "height")?;
-    names.put_unless(old.colour == new.colour, "background colour")?;
-    names.put_unless(old.font == new.font, "font")?;
-    names.put_unless(old.options == new.options, "options")?;
-    names.put_unless(old.variable == new.variable, "variable")?;
-    names.put_unless(old.value == new.value, "value")?;
-    names.put_unless(old.min == new.min, "min")?;
-    names.put_unless(old.max == new.max, "max")?;
-    names.put_unless(are_equal(old.offset, new.offset), "offset")?;
-    names.put_unless(old.scale == new.scale, "scale")?;
-    names.put_unless(old.decimals == new.decimals, "decimals")?;
-    names.put_unless(old.format == new.format, "format")?;
-    names.put_unless(old.justification == new.justification, "justification")?;
-    names.put_unless(old.options_two == new.options_two, "second options")?;
-    names.put_unless(old.macros.as_slice() == new.macros.as_slice(), "macros")?;
-    Ok(names)
+    let Object::InputNumber(new) = new else {
+        return Ok(Vec::new(alloc));
+    };
+    changed_among(
+        alloc,
+        &[
+            ("width", old.width == new.width),
+            ("height", old.height == new.height),
+            ("background colour", old.colour == new.colour),
+            ("font", old.font == new.font),
+            ("options", old.options == new.options),
+            ("variable", old.variable == new.variable),
+            ("value", old.value == new.value),
+            ("min", old.min == new.min),
+            ("max", old.max == new.max),
+            ("offset", are_equal(old.offset, new.offset)),
+            ("scale", old.scale == new.scale),
+            ("decimals", old.decimals == new.decimals),
+            ("format", old.format == new.format),
+            ("justification", old.justification == new.justification),
+            ("second options", old.options_two == new.options_two),
+            ("macros", old.macros.as_slice() == new.macros.as_slice()),
+        ],
+    )
 }
 
-/// The fields in which two Input Lists differ.
+/// The fields in which two Input Lists differ; none for an object of another kind.
 pub(crate) fn input_list(
     alloc: Global,
     old: &InputList,
-    new: &InputList,
-) -> Result<Names, AllocError>
-    ensures { IfOk result (λ found. found ≡ spec.input_list old.now new.now) }
+    new: &Object<Vec<u8>>,
+) -> Result<Vec<&'static str>, AllocError>
+    ensures { IfOk result (λ found. words found.items ≡ changed (objects.InputList old.now) (seen new.now)) }
 {
-    let mut names = Names::new(alloc);
-    names.put_unless(old.width == new.width, "width")?;
-    names.put_unless(old.height == new.height, "height")?;
-    names.put_unless(old.variable == new.variable, "variable")?;
-    names.put_unless(old.value == new.value, "value")?;
-    names.put_unless(old.options == new.options, "options")?;
-    names.put_unless(old.items.as_slice() == new.items.as_slice(), "items")?;
-    names.put_unless(old.macros.as_slice() == new.macros.as_slice(), "macros")?;
-    Ok(names)
+    let Object::InputList(new) = new else {
+        return Ok(Vec::new(alloc));
+    };
+    changed_among(
+        alloc,
+        &[
+            ("width", old.width == new.width),
+            ("height", old.height == new.height),
+            ("variable", old.variable == new.variable),
+            ("value", old.value == new.value),
+            ("options", old.options == new.options),
+            ("items", old.items.as_slice() == new.items.as_slice()),
+            ("macros", old.macros.as_slice() == new.macros.as_slice()),
+        ],
+    )
 }

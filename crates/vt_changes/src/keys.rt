@@ -1,57 +1,86 @@
 //! The changes of soft key masks, keys and buttons.
 
 ghost use Rattle.std.specs.Prelude.{◌≡◌, IfOk};
-ghost use Rattle.vt_changes.specs.Fields as spec;
+ghost use Rattle.vt_kinds.specs.declared.object.Object.TheVariants as objects;
+ghost use Rattle.vt_kinds.specs.Records.{seen};
+ghost use Rattle.vt_changes.specs.Changes.{changed};
+ghost use Rattle.vt_changes.specs.Names.{words};
 
-use crate::names::Names;
+use crate::names::changed_among;
 use std::alloc::{AllocError, Global};
-use vt_kinds::{Button, Key, SoftKeyMask};
+use vt_kinds::{Button, Key, Object, SoftKeyMask};
 
-/// The fields in which two soft key masks differ.
+/// The fields in which two soft key masks differ; none for an object of another kind.
 pub(crate) fn soft_key_mask(
     alloc: Global,
     old: &SoftKeyMask,
-    new: &SoftKeyMask,
-) -> Result<Names, AllocError>
-    ensures { IfOk result (λ found. found ≡ spec.soft_key_mask old.now new.now) }
+    new: &Object<Vec<u8>>,
+) -> Result<Vec<&'static str>, AllocError>
+    ensures { IfOk result (λ found. words found.items ≡ changed (objects.SoftKeyMask old.now) (seen new.now)) }
 {
-    let mut names = Names::new(alloc);
-    names.put_unless(old.colour == new.colour, "background colour")?;
-    names.put_unless(old.keys.as_slice() == new.keys.as_slice(), "keys")?;
-    names.put_unless(old.macros.as_slice() == new.macros.as_slice(), "macros")?;
-    Ok(names)
+    let Object::SoftKeyMask(new) = new else {
+        return Ok(Vec::new(alloc));
+    };
+    changed_among(
+        alloc,
+        &[
+            ("background colour", old.colour == new.colour),
+            ("keys", old.keys.as_slice() == new.keys.as_slice()),
+            ("macros", old.macros.as_slice() == new.macros.as_slice()),
+        ],
+    )
 }
 
-/// The fields in which two keys differ.
-pub(crate) fn key(alloc: Global, old: &Key, new: &Key) -> Result<Names, AllocError>
-    ensures { IfOk result (λ found. found ≡ spec.key old.now new.now) }
+/// The fields in which two keys differ; none for an object of another kind.
+pub(crate) fn key(
+    alloc: Global,
+    old: &Key,
+    new: &Object<Vec<u8>>,
+) -> Result<Vec<&'static str>, AllocError>
+    ensures { IfOk result (λ found. words found.items ≡ changed (objects.Key old.now) (seen new.now)) }
 {
-    let mut names = Names::new(alloc);
-    names.put_unless(old.colour == new.colour, "background colour")?;
-    names.put_unless(old.key_code == new.key_code, "key code")?;
-    names.put_unless(
-        old.children.as_slice() == new.children.as_slice(),
-        "children",
-    )?;
-    names.put_unless(old.macros.as_slice() == new.macros.as_slice(), "macros")?;
-    Ok(names)
+    let Object::Key(new) = new else {
+        return Ok(Vec::new(alloc));
+    };
+    changed_among(
+        alloc,
+        &[
+            ("background colour", old.colour == new.colour),
+            ("key code", old.key_code == new.key_code),
+            (
+                "children",
+                old.children.as_slice() == new.children.as_slice(),
+            ),
+            ("macros", old.macros.as_slice() == new.macros.as_slice()),
+        ],
+    )
 }
 
-/// The fields in which two buttons differ.
-pub(crate) fn button(alloc: Global, old: &Button, new: &Button) -> Result<Names, AllocError>
-    ensures { IfOk result (λ found. found ≡ spec.button old.now new.now) }
+/// The fields in which two buttons differ; none for an object of another kind.
+pub(crate) fn button(
+    alloc: Global,
+    old: &Button,
+    new: &Object<Vec<u8>>,
+) -> Result<Vec<&'static str>, AllocError>
+    ensures { IfOk result (λ found. words found.items ≡ changed (objects.Button old.now) (seen new.now)) }
 {
-    let mut names = Names::new(alloc);
-    names.put_unless(old.width == new.width, "width")?;
-    names.put_unless(old.height == new.height, "height")?;
-    names.put_unless(old.colour == new.colour, "background colour")?;
-    names.put_unless(old.border == new.border, "border colour")?;
-    names.put_unless(old.key_code == new.key_code, "key code")?;
-    names.put_unless(old.options == new.options, "options")?;
-    names.put_unless(
-        old.children.as_slice() == new.children.as_slice(),
-        "children",
-    )?;
-    names.put_unless(old.macros.as_slice() == new.macros.as_slice(), "macros")?;
-    Ok(names)
+    let Object::Button(new) = new else {
+        return Ok(Vec::new(alloc));
+    };
+    changed_among(
+        alloc,
+        &[
+            ("width", old.width == new.width),
+            ("height", old.height == new.height),
+            ("background colour", old.colour == new.colour),
+            ("border colour", old.border == new.border),
+            ("key code", old.key_code == new.key_code),
+            ("options", old.options == new.options),
+            (
+                "children",
+                old.children.as_slice() == new.children.as_slice(),
+            ),
+            ("macros", old.macros.as_slice() == new.macros.as_slice()),
+        ],
+    )
 }

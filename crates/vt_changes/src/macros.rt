@@ -1,22 +1,28 @@
 //! The changes of macros.
 
 ghost use Rattle.std.specs.Prelude.{◌≡◌, IfOk};
-ghost use Rattle.vt_kinds.specs.Records.{seen_macro_object};
-ghost use Rattle.vt_changes.specs.Fields as spec;
+ghost use Rattle.vt_kinds.specs.declared.object.Object.TheVariants as objects;
+ghost use Rattle.vt_kinds.specs.Records.{seen};
+ghost use Rattle.vt_changes.specs.Changes.{changed};
+ghost use Rattle.vt_changes.specs.Names.{words};
 
-use crate::names::Names;
+use crate::names::changed_among;
 use std::alloc::{AllocError, Global};
-use vt_kinds::Macro;
+use vt_kinds::{Macro, Object};
 
-/// The fields in which two macros differ.
+/// The fields in which two macros differ; none for an object of another kind.
 pub(crate) fn macro_object(
     alloc: Global,
     old: &Macro<Vec<u8>>,
-    new: &Macro<Vec<u8>>,
-) -> Result<Names, AllocError>
-    ensures { IfOk result (λ found. found ≡ spec.macro_object (seen_macro_object old.now) (seen_macro_object new.now)) }
+    new: &Object<Vec<u8>>,
+) -> Result<Vec<&'static str>, AllocError>
+    ensures { IfOk result (λ found. words found.items ≡ changed (seen (objects.Macro old.now)) (seen new.now)) }
 {
-    let mut names = Names::new(alloc);
-    names.put_unless(old.bytes.as_slice() == new.bytes.as_slice(), "bytes")?;
-    Ok(names)
+    let Object::Macro(new) = new else {
+        return Ok(Vec::new(alloc));
+    };
+    changed_among(
+        alloc,
+        &[("bytes", old.bytes.as_slice() == new.bytes.as_slice())],
+    )
 }

@@ -1,53 +1,26 @@
 //! The names of the fields in which two objects differ.
 
-ghost use Rattle.std.specs.Prelude.{◌≡◌, ◌++◌, [], OnOk};
+ghost use Rattle.std.specs.Prelude.{◌≡◌, IfOk};
+ghost use Rattle.std.specs.List.{flat_map};
 ghost use Rattle.std.specs.Ordering.{int_eq};
 ghost use Rattle.vt_changes.specs.Names.{named, words};
 
 use std::alloc::{AllocError, Global};
-use std::marker::Model;
 
-/// The names of fields.
-#[derive(Drop)]
-pub(crate) struct Names {
-    names: Vec<&'static str>,
-}
-
-impl Model for Names {
-    ghost use Rattle.std.specs.Prelude.{List};
-    ghost use Rattle.vt_changes.specs.Names.{Name, words};
-
-    ghost Value = { List Name };
-
-    ghost view = { λ n. words n.names.items };
-}
-
-impl Names {
-    /// No names.
-    pub(crate) fn new(alloc: Global) -> Names
-        ensures { result ≡ [] }
-    {
-        Names {
-            names: Vec::new(alloc),
+/// The names among `fields` whose values are not equal; a field is its name and whether its two values are equal.
+pub(crate) fn changed_among(
+    alloc: Global,
+    fields: &[(&'static str, bool)],
+) -> Result<Vec<&'static str>, AllocError>
+    ensures { IfOk result (λ found. words found.items ≡ flat_map (λ f. named f.0.now f.1) fields.now) }
+{
+    let mut names = Vec::new(alloc);
+    for (name, is_equal) in fields {
+        if !*is_equal {
+            names.push(*name)?;
         }
     }
-
-    /// Appends the name of a field, unless its values are equal.
-    pub(crate) fn put_unless(&mut self, equal: bool, name: &'static str) -> Result<(), AllocError>
-        ensures { OnOk result (self.new ≡ self.old ++ named name.now equal) }
-    {
-        if !equal {
-            self.names.push(name)?;
-        }
-        Ok(())
-    }
-
-    /// The names as a vector.
-    pub(crate) fn into_vec(self) -> Vec<&'static str>
-        ensures { words result.items ≡ self }
-    {
-        self.names
-    }
+    Ok(names)
 }
 
 /// Whether two signed numbers are equal.

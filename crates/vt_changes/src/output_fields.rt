@@ -1,55 +1,69 @@
 //! The changes of output fields.
 
 ghost use Rattle.std.specs.Prelude.{◌≡◌, IfOk};
-ghost use Rattle.vt_kinds.specs.Records.{seen_output_string};
-ghost use Rattle.vt_changes.specs.Fields as spec;
+ghost use Rattle.vt_kinds.specs.declared.object.Object.TheVariants as objects;
+ghost use Rattle.vt_kinds.specs.Records.{seen};
+ghost use Rattle.vt_changes.specs.Changes.{changed};
+ghost use Rattle.vt_changes.specs.Names.{words};
 
-use crate::names::{Names, are_equal};
+use crate::names::{are_equal, changed_among};
 use std::alloc::{AllocError, Global};
-use vt_kinds::{OutputNumber, OutputString};
+use vt_kinds::{Object, OutputNumber, OutputString};
 
-/// The fields in which two Output Strings differ.
+/// The fields in which two Output Strings differ; none for an object of another kind.
 pub(crate) fn output_string(
     alloc: Global,
     old: &OutputString<Vec<u8>>,
-    new: &OutputString<Vec<u8>>,
-) -> Result<Names, AllocError>
-    ensures { IfOk result (λ found. found ≡ spec.output_string (seen_output_string old.now) (seen_output_string new.now)) }
+    new: &Object<Vec<u8>>,
+) -> Result<Vec<&'static str>, AllocError>
+    ensures { IfOk result (λ found. words found.items ≡ changed (seen (objects.OutputString old.now)) (seen new.now)) }
 {
-    let mut names = Names::new(alloc);
-    names.put_unless(old.width == new.width, "width")?;
-    names.put_unless(old.height == new.height, "height")?;
-    names.put_unless(old.colour == new.colour, "background colour")?;
-    names.put_unless(old.font == new.font, "font")?;
-    names.put_unless(old.options == new.options, "options")?;
-    names.put_unless(old.variable == new.variable, "variable")?;
-    names.put_unless(old.justification == new.justification, "justification")?;
-    names.put_unless(old.text.as_slice() == new.text.as_slice(), "text")?;
-    names.put_unless(old.macros.as_slice() == new.macros.as_slice(), "macros")?;
-    Ok(names)
+    let Object::OutputString(new) = new else {
+        return Ok(Vec::new(alloc));
+    };
+    changed_among(
+        alloc,
+        &[
+            ("width", old.width == new.width),
+            ("height", old.height == new.height),
+            ("background colour", old.colour == new.colour),
+            ("font", old.font == new.font),
+            ("options", old.options == new.options),
+            ("variable", old.variable == new.variable),
+            ("justification", old.justification == new.justification),
+            ("text", old.text.as_slice() == new.text.as_slice()),
+            ("macros", old.macros.as_slice() == new.macros.as_slice()),
+        ],
+    )
 }
 
-/// The fields in which two Output Numbers differ.
+/// The fields in which two Output Numbers differ; none for an object of another kind.
 pub(crate) fn output_number(
     alloc: Global,
     old: &OutputNumber,
-    new: &OutputNumber,
-) -> Result<Names, AllocError>
-    ensures { IfOk result (λ found. found ≡ spec.output_number old.now new.now) }
+    new: &Object<Vec<u8>>,
+) -> Result<Vec<&'static str>, AllocError>
+    ensures { IfOk result (λ found. words found.items ≡ changed (objects.OutputNumber old.now) (seen new.now)) }
 {
-    let mut names = Names::new(alloc);
-    names.put_unless(old.width == new.width, "width")?;
-    names.put_unless(old.height == new.height, "height")?;
-    names.put_unless(old.colour == new.colour, "background colour")?;
-    names.put_unless(old.font == new.font, "font")?;
-    names.put_unless(old.options == new.options, "options")?;
-    names.put_unless(old.variable == new.variable, "variable")?;
-    names.put_unless(old.value == new.value, "value")?;
-    names.put_unless(are_equal(old.offset, new.offset), "offset")?;
-    names.put_unless(old.scale == new.scale, "scale")?;
-    names.put_unless(old.decimals == new.decimals, "decimals")?;
-    names.put_unless(old.format == new.format, "format")?;
-    names.put_unless(old.justification == new.justification, "justification")?;
-    names.put_unless(old.macros.as_slice() == new.macros.as_slice(), "macros")?;
-    Ok(names)
+    let Object::OutputNumber(new) = new else {
+        return Ok(Vec::new(alloc));
+    };
+    changed_among(
+        alloc,
+        &[
+            ("width", old.width == new.width),
+            ("height", old.height == new.height),
+            ("background colour", old.colour == new.colour),
+            ("font", old.font == new.font),
+            ("options", old.options == new.options),
+            ("variable", old.variable == new.variable),
+            ("value", old.value == new.value),
+            ("offset", are_equal(old.offset, new.offset)),
+            ("scale", old.scale == new.scale),
+            ("decimals", old.decimals == new.decimals),
+            ("format", old.format == new.format),
+            ("justification", old.justification == new.justification),
+            ("macros", old.macros.as_slice() == new.macros.as_slice()),
+        ],
+    )
 }

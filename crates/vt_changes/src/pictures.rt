@@ -1,29 +1,37 @@
 //! The changes of pictures.
 
 ghost use Rattle.std.specs.Prelude.{◌≡◌, IfOk};
-ghost use Rattle.vt_kinds.specs.Records.{seen_picture};
-ghost use Rattle.vt_changes.specs.Fields as spec;
+ghost use Rattle.vt_kinds.specs.declared.object.Object.TheVariants as objects;
+ghost use Rattle.vt_kinds.specs.Records.{seen};
+ghost use Rattle.vt_changes.specs.Changes.{changed};
+ghost use Rattle.vt_changes.specs.Names.{words};
 
-use crate::names::Names;
+use crate::names::changed_among;
 use std::alloc::{AllocError, Global};
-use vt_kinds::Picture;
+use vt_kinds::{Object, Picture};
 
-/// The fields in which two pictures differ.
+/// The fields in which two pictures differ; none for an object of another kind.
 pub(crate) fn picture(
     alloc: Global,
     old: &Picture<Vec<u8>>,
-    new: &Picture<Vec<u8>>,
-) -> Result<Names, AllocError>
-    ensures { IfOk result (λ found. found ≡ spec.picture (seen_picture old.now) (seen_picture new.now)) }
+    new: &Object<Vec<u8>>,
+) -> Result<Vec<&'static str>, AllocError>
+    ensures { IfOk result (λ found. words found.items ≡ changed (seen (objects.Picture old.now)) (seen new.now)) }
 {
-    let mut names = Names::new(alloc);
-    names.put_unless(old.width == new.width, "width")?;
-    names.put_unless(old.actual_width == new.actual_width, "actual width")?;
-    names.put_unless(old.actual_height == new.actual_height, "actual height")?;
-    names.put_unless(old.format == new.format, "format")?;
-    names.put_unless(old.options == new.options, "options")?;
-    names.put_unless(old.transparency == new.transparency, "transparency")?;
-    names.put_unless(old.bytes.as_slice() == new.bytes.as_slice(), "bytes")?;
-    names.put_unless(old.macros.as_slice() == new.macros.as_slice(), "macros")?;
-    Ok(names)
+    let Object::Picture(new) = new else {
+        return Ok(Vec::new(alloc));
+    };
+    changed_among(
+        alloc,
+        &[
+            ("width", old.width == new.width),
+            ("actual width", old.actual_width == new.actual_width),
+            ("actual height", old.actual_height == new.actual_height),
+            ("format", old.format == new.format),
+            ("options", old.options == new.options),
+            ("transparency", old.transparency == new.transparency),
+            ("bytes", old.bytes.as_slice() == new.bytes.as_slice()),
+            ("macros", old.macros.as_slice() == new.macros.as_slice()),
+        ],
+    )
 }

@@ -1,48 +1,56 @@
 //! The changes of variables and object pointers.
 
 ghost use Rattle.std.specs.Prelude.{◌≡◌, IfOk};
-ghost use Rattle.vt_kinds.specs.Records.{seen_string_variable};
-ghost use Rattle.vt_changes.specs.Fields as spec;
+ghost use Rattle.vt_kinds.specs.declared.object.Object.TheVariants as objects;
+ghost use Rattle.vt_kinds.specs.Records.{seen};
+ghost use Rattle.vt_changes.specs.Changes.{changed};
+ghost use Rattle.vt_changes.specs.Names.{words};
 
-use crate::names::Names;
+use crate::names::changed_among;
 use std::alloc::{AllocError, Global};
-use vt_kinds::{NumberVariable, ObjectPointer, StringVariable};
+use vt_kinds::{NumberVariable, Object, ObjectPointer, StringVariable};
 
-/// The fields in which two Number Variables differ.
+/// The fields in which two Number Variables differ; none for an object of another kind.
 pub(crate) fn number_variable(
     alloc: Global,
     old: &NumberVariable,
-    new: &NumberVariable,
-) -> Result<Names, AllocError>
-    ensures { IfOk result (λ found. found ≡ spec.number_variable old.now new.now) }
+    new: &Object<Vec<u8>>,
+) -> Result<Vec<&'static str>, AllocError>
+    ensures { IfOk result (λ found. words found.items ≡ changed (objects.NumberVariable old.now) (seen new.now)) }
 {
-    let mut names = Names::new(alloc);
-    names.put_unless(old.value == new.value, "value")?;
-    Ok(names)
+    let Object::NumberVariable(new) = new else {
+        return Ok(Vec::new(alloc));
+    };
+    changed_among(alloc, &[("value", old.value == new.value)])
 }
 
-/// The fields in which two String Variables differ.
+/// The fields in which two String Variables differ; none for an object of another kind.
 pub(crate) fn string_variable(
     alloc: Global,
     old: &StringVariable<Vec<u8>>,
-    new: &StringVariable<Vec<u8>>,
-) -> Result<Names, AllocError>
-    ensures { IfOk result (λ found. found ≡ spec.string_variable (seen_string_variable old.now) (seen_string_variable new.now)) }
+    new: &Object<Vec<u8>>,
+) -> Result<Vec<&'static str>, AllocError>
+    ensures { IfOk result (λ found. words found.items ≡ changed (seen (objects.StringVariable old.now)) (seen new.now)) }
 {
-    let mut names = Names::new(alloc);
-    names.put_unless(old.text.as_slice() == new.text.as_slice(), "text")?;
-    Ok(names)
+    let Object::StringVariable(new) = new else {
+        return Ok(Vec::new(alloc));
+    };
+    changed_among(
+        alloc,
+        &[("text", old.text.as_slice() == new.text.as_slice())],
+    )
 }
 
-/// The fields in which two object pointers differ.
+/// The fields in which two object pointers differ; none for an object of another kind.
 pub(crate) fn object_pointer(
     alloc: Global,
     old: &ObjectPointer,
-    new: &ObjectPointer,
-) -> Result<Names, AllocError>
-    ensures { IfOk result (λ found. found ≡ spec.object_pointer old.now new.now) }
+    new: &Object<Vec<u8>>,
+) -> Result<Vec<&'static str>, AllocError>
+    ensures { IfOk result (λ found. words found.items ≡ changed (objects.ObjectPointer old.now) (seen new.now)) }
 {
-    let mut names = Names::new(alloc);
-    names.put_unless(old.value == new.value, "value")?;
-    Ok(names)
+    let Object::ObjectPointer(new) = new else {
+        return Ok(Vec::new(alloc));
+    };
+    changed_among(alloc, &[("value", old.value == new.value)])
 }

@@ -1,22 +1,19 @@
-use Rattle.std.proofs.Common.{refl, ap}
-use Rattle.vt_changes.specs.Names.{named}
-use Rattle.vt_changes.proofs.Steps.{begun, grown, same_lists}
+use Rattle.std.proofs.Common.{ap, refl}
+use Rattle.vt_kinds.specs.declared.object.Object.TheVariants as objects
+use Rattle.vt_kinds.specs.Records.{seen}
+use Rattle.vt_changes.proofs.Steps.{also, compared, none, same_children, same_macros}
 use Rattle.vt_changes.proofs.keys.button.Goals as goal
 
 pub returns : goal.returns
 returns c =
-    grown c.in_ok-put_unless-8.ensures
-    (grown c.in_ok-put_unless-7.ensures
-    (grown c.in_ok-put_unless-6.ensures
-    (grown c.in_ok-put_unless-5.ensures
-    (grown c.in_ok-put_unless-4.ensures
-    (grown c.in_ok-put_unless-3.ensures
-    (grown c.in_ok-put_unless-2.ensures
-    (begun c.in_ok-put_unless.ensures c.new-names.ensures refl)
-    refl)
-    refl)
-    refl)
-    refl)
-    refl)
-    (ap (λ r. named _ r) (same_lists _ c.eq.ensures c.as_slice.ensures.value c.as_slice-2.ensures.value)))
-    (ap (λ r. named _ r) (same_lists _ c.eq-2.ensures c.as_slice-3.ensures.value c.as_slice-4.ensures.value))
+    compared c.changed_among.result _ _ c.changed_among.ensures
+    (objects.Button c.args.old.now) (objects.Button c.in-Button.new) (ap seen c.in-Button.is) refl refl
+    (also refl
+    (also refl
+    (also refl
+    (also refl
+    (also refl
+    (also refl
+    (also (same_children c.eq.ensures c.as_slice.ensures.value c.as_slice-2.ensures.value)
+    (also (same_macros c.eq-2.ensures c.as_slice-3.ensures.value c.as_slice-4.ensures.value)
+    none))))))))

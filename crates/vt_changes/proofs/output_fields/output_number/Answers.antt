@@ -1,32 +1,24 @@
-use Rattle.std.proofs.Common.{refl, ap, rules, ◌∙◌}
-use Rattle.vt_changes.specs.Names.{named}
-use Rattle.vt_changes.proofs.Steps.{begun, grown, same_lists, same_scales}
+use Rattle.std.proofs.Common.{ap, refl, rules, ◌∙◌}
+use Rattle.vt_kinds.specs.declared.object.Object.TheVariants as objects
+use Rattle.vt_kinds.specs.Records.{seen}
+use Rattle.vt_changes.proofs.Steps.{also, compared, none, same_macros, same_scales}
 use Rattle.vt_changes.proofs.output_fields.output_number.Goals as goal
 
 pub returns : goal.returns
 returns c =
-    grown c.in_ok-put_unless-13.ensures
-    (grown c.in_ok-put_unless-12.ensures
-    (grown c.in_ok-put_unless-11.ensures
-    (grown c.in_ok-put_unless-10.ensures
-    (grown c.in_ok-put_unless-9.ensures
-    (grown c.in_ok-put_unless-8.ensures
-    (grown c.in_ok-put_unless-7.ensures
-    (grown c.in_ok-put_unless-6.ensures
-    (grown c.in_ok-put_unless-5.ensures
-    (grown c.in_ok-put_unless-4.ensures
-    (grown c.in_ok-put_unless-3.ensures
-    (grown c.in_ok-put_unless-2.ensures
-    (begun c.in_ok-put_unless.ensures c.new-names.ensures refl)
-    refl)
-    refl)
-    (ap (λ r. named _ r) c.eq.ensures))
-    refl)
-    (ap (λ r. named _ r) c.eq-2.ensures))
-    refl)
-    (ap (λ r. named _ r) (search (c.are_equal.ensures, rules))))
-    (ap (λ r. named _ r) (c.eq-3.ensures ∙ same_scales c.args.old.now.scale c.args.new.now.scale)))
-    (ap (λ r. named _ r) c.eq-4.ensures))
-    refl)
-    refl)
-    (ap (λ r. named _ r) (same_lists _ c.eq-5.ensures c.as_slice.ensures.value c.as_slice-2.ensures.value))
+    compared c.changed_among.result _ _ c.changed_among.ensures
+    (objects.OutputNumber c.args.old.now) (objects.OutputNumber c.in-OutputNumber.new) (ap seen c.in-OutputNumber.is) refl refl
+    (also refl
+    (also refl
+    (also refl
+    (also c.eq.ensures
+    (also refl
+    (also c.eq-2.ensures
+    (also refl
+    (also (search (c.are_equal.ensures, rules))
+    (also (c.eq-3.ensures ∙ same_scales c.args.old.now.scale c.in-OutputNumber.new.scale)
+    (also c.eq-4.ensures
+    (also refl
+    (also refl
+    (also (same_macros c.eq-5.ensures c.as_slice.ensures.value c.as_slice-2.ensures.value)
+    none)))))))))))))
