@@ -1,2 +1,3 @@
 -- The lemmas of vt_changes.
 pub mod Steps
+pub mod Unchanged

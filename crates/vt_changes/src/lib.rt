@@ -1,6 +1,7 @@
 //! The fields in which two objects of one kind differ, by name.
 //!
 //! - `changed_fields` gives their names, in the order of the record.
+//! - `laws::unchanged_records_are_equal` is the law that no difference is left out.
 //!
 //! docs/PROFILE.md, "Objects", has the fields of each kind.
 #![tactic(auto)]
@@ -10,6 +11,7 @@ mod changes;
 mod graphs;
 mod input_fields;
 mod keys;
+pub mod laws;
 mod macros;
 mod masks;
 mod names;

@@ -1,5 +1,7 @@
 //! The parts of lines: steps, events, macros and commands.
 
+ghost use Rattle.std.specs.Prelude.{◌≡◌, nat_lt};
+
 use std::io::{self, Write};
 use vt_costs::{Breakdown, EventCost, MOST_STEPS};
 use vt_findings_text::{Source, event_name};
@@ -7,7 +9,9 @@ use vt_objects::ObjectId;
 use vt_verify::TERMINAL_LIMITS;
 
 /// Whether so many steps are more than an event or a macro of an accepted pool can take.
-pub fn is_over(steps: u64) -> bool {
+pub fn is_over(steps: u64) -> bool
+    ensures { result ≡ nat_lt 1000000 steps }
+{
     steps > u64::from(TERMINAL_LIMITS.steps)
 }
 

@@ -1,11 +1,11 @@
 //! The subcommand `check`.
 
 use crate::files::{Open, read_file, read_names};
-use crate::program::{Look, Status};
+use crate::program::{Look, Status, put_message};
 use std::alloc::{AllocError, Global};
 use std::io::{self, Write};
 use vt_findings_json::{item_json, summary_json};
-use vt_findings_text::{ColouredLine, GithubLine, Item, Names, Source, Summary};
+use vt_findings_text::{GithubLine, Item, Names, Source, Summary};
 use vt_inspect::{Inspection, Note, inspect};
 use vt_inspector_words::{CheckOptions, Format};
 use vt_needs::{TERMINAL_SIZES, Warning, warnings};
@@ -14,8 +14,7 @@ use vt_objects::Store;
 /// The form of the lines.
 #[derive(Clone, Copy, Debug, PartialEq, Eq)]
 enum Lines {
-    Plain,
-    Coloured,
+    Text(Look),
     Json,
     Github,
 }
@@ -47,13 +46,12 @@ pub(crate) fn run_check<F: Open, W: Write, E: Write>(
     Ok(status)
 }
 
-/// The form of the lines: those for people are in colours, if the output looks so.
+/// The form of the lines: those for people have the look of the output.
 fn lines_of(format: Format, look: Look) -> Lines {
-    match (format, look) {
-        (Format::Text, Look::Plain) => Lines::Plain,
-        (Format::Text, Look::Coloured) => Lines::Coloured,
-        (Format::Json, _) => Lines::Json,
-        (Format::Github, _) => Lines::Github,
+    match format {
+        Format::Text => Lines::Text(look),
+        Format::Json => Lines::Json,
+        Format::Github => Lines::Github,
     }
 }
 
@@ -130,8 +128,7 @@ fn put_item<W: Write>(
 ) -> io::Result<()> {
     let message = source.message(alloc, item)?;
     match lines {
-        Lines::Plain => writeln!(out, "{message}"),
-        Lines::Coloured => writeln!(out, "{}", ColouredLine { message: &message }),
+        Lines::Text(look) => put_message(&message, look, out),
         Lines::Json => {
             let line = item_json(alloc, source, &message, item)?;
             writeln!(out, "{line}")
@@ -151,7 +148,7 @@ fn put_summary<W: Write>(
             let line = summary_json(alloc, summary)?;
             writeln!(out, "{line}")
         }
-        Lines::Plain | Lines::Coloured | Lines::Github => writeln!(out, "{summary}"),
+        Lines::Text(_) | Lines::Github => writeln!(out, "{summary}"),
     }
 }
 

@@ -1,5 +1,8 @@
 //! A run of the program, from its words to its status.
 
+ghost use Rattle.std.specs.Prelude.{◌≡◌};
+ghost use Rattle.vt_inspector.specs.Statuses.{status_code};
+
 use crate::check::run_check;
 use crate::diff::run_diff;
 use crate::files::Open;
@@ -8,6 +11,7 @@ use crate::why::run_why;
 use std::alloc::Global;
 use std::convert::AsStr;
 use std::io::{self, Write};
+use vt_findings_text::{ColouredLine, Message};
 use vt_inspect::{Inspection, Note};
 use vt_inspector_words::{Options, UsageError};
 
@@ -24,7 +28,9 @@ pub enum Status {
 
 impl Status {
     /// The exit status of the process.
-    pub fn code(self) -> u8 {
+    pub fn code(self) -> u8
+        ensures { result ≡ status_code self }
+    {
         match self {
             Status::Clean => 0,
             Status::Found => 1,
@@ -67,7 +73,7 @@ pub fn run<S: AsStr, F: Open, W: Write, E: Write>(
     };
     let status = match &options {
         Options::Check(options) => run_check(alloc, options, look, files, out, errors)?,
-        Options::Why(options) => run_why(alloc, options, files, out, errors)?,
+        Options::Why(options) => run_why(alloc, options, look, files, out, errors)?,
         Options::Needs(options) => run_needs(alloc, options, files, out, errors)?,
         Options::Diff(options) => run_diff(alloc, options, files, out, errors)?,
     };
@@ -87,6 +93,18 @@ fn refuse<W: Write, E: Write>(
     }
     let _ = write!(errors, "{refusal}");
     Ok(Status::NotJudged)
+}
+
+/// Writes a message as its line for people.
+pub(crate) fn put_message<W: Write>(
+    message: &Message<'_>,
+    look: Look,
+    out: &mut W,
+) -> io::Result<()> {
+    match look {
+        Look::Plain => writeln!(out, "{message}"),
+        Look::Coloured => writeln!(out, "{}", ColouredLine { message }),
+    }
 }
 
 /// Whether all bytes of a pool were read; if not, `errors` says from where on.

@@ -1,7 +1,7 @@
 //! The subcommand `why`.
 
 use crate::files::{Open, read_file, read_names};
-use crate::program::{Status, is_read};
+use crate::program::{Look, Status, is_read, put_message};
 use std::alloc::Global;
 use std::io::{self, Write};
 use vt_costs::break_down;
@@ -15,6 +15,7 @@ use vt_objects::{ObjectId, Store};
 pub(crate) fn run_why<F: Open, W: Write, E: Write>(
     alloc: Global,
     options: &WhyOptions<'_>,
+    look: Look,
     files: &mut F,
     out: &mut W,
     errors: &mut E,
@@ -37,7 +38,7 @@ pub(crate) fn run_why<F: Open, W: Write, E: Write>(
     }
     let found = break_down(alloc, &inspection.objects, options.id, options.event)?;
     let Some(breakdown) = found else {
-        put_unknown(alloc, &source, out)?;
+        put_unknown(alloc, &source, look, out)?;
         return Ok(Status::NotJudged);
     };
     write_breakdown(&source, &breakdown, out)?;
@@ -66,19 +67,24 @@ fn is_there<E: Write>(source: &Source<'_>, id: ObjectId, errors: &mut E) -> bool
 }
 
 /// Prints why no costs are known: macros that end inside a command, or circles of macros.
-fn put_unknown<W: Write>(alloc: Global, source: &Source<'_>, out: &mut W) -> io::Result<()> {
+fn put_unknown<W: Write>(
+    alloc: Global,
+    source: &Source<'_>,
+    look: Look,
+    out: &mut W,
+) -> io::Result<()> {
     for finding in source.inspection.findings.iter() {
         if matches!(
             finding,
             Finding::MacroBytes { .. } | Finding::MacroCircle { .. }
         ) {
             let message = source.message(alloc, Item::Finding(finding))?;
-            writeln!(out, "{message}")?;
+            put_message(&message, look, out)?;
         }
     }
     for note in source.inspection.notes.iter() {
         let message = source.message(alloc, Item::Note(*note))?;
-        writeln!(out, "{message}")?;
+        put_message(&message, look, out)?;
     }
     Ok(())
 }

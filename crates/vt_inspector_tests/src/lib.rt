@@ -3,3 +3,7 @@
 
 #[cfg(test)]
 mod runs;
+#[cfg(test)]
+mod shelf;
+#[cfg(test)]
+mod want_of_memory;

@@ -1,30 +1,11 @@
 //! Runs of the program on pools in memory: output, messages and status.
 
-use std::io::{self, Error, ErrorKind};
+use crate::shelf::Shelf;
 use std::process::Abort;
 use std::test::Fail;
-use vt_inspector::{Look, Open, Status, run};
-use vt_testing::POOL;
+use vt_inspector::{Look, Status, run};
 
-/// A pool with each warning but ExtraKeys. The record of the Container 100 comes twice.
-const WARNED: &[u8] = &[
-    0, 0, 0, 0, 1, 0xE8, 3, 0, 0, 0, // the Working Set 0
-    0xE8, 3, 1, 0, 0xFF, 0xFF, 2, 0, 100, 0, 10, 0, 5, 0, 44, 1, 0xD1, 1, 0, 0, // the Data Mask 1000, at 10
-    100, 0, 3, 50, 0, 20, 0, 0, 0, 0, // the Container 100, at 30
-    44, 1, 11, 16, 0, 8, 0, 0, 200, 0, 0, 0xFF, 0xFF, 0, 4, 0, 0x41, 0x42, 0x43, 0x20, 0, // the Output String 300, at 40
-    200, 0, 23, 0, 2, 0, 0, 0, // the Font Attributes 200, of 8x12, at 61
-    100, 0, 3, 50, 0, 20, 0, 0, 0, 0, // the Container 100, at 69
-    201, 0, 21, 7, 0, 0, 0, // the Number Variable 201, at 79
-];
-
-/// The pool `POOL`, but its mask has another colour and its container is a Key.
-const RECOLOURED: &[u8] = &[
-    0, 0, 0, 0, 1, 0xE8, 3, 0, 0, 0, // the Working Set 0
-    0xE8, 3, 1, 9, 0xFF, 0xFF, 1, 0, 100, 0, 11, 0, 5, 0, // the Data Mask 1000
-    100, 0, 5, 0, 7, 0, 0, // the Key 100
-];
-
-const WARNINGS: &str = "\
+pub(crate) const WARNINGS: &str = "\
 w:30: warning[W01 Replaced] Container 100 `box`: the record at 69 replaces this one\n\
 w:79: warning[W02 Unused] Number Variable 201 `rate`: no object names it\n\
 w:40: warning[W03 TextTooWide] Output String 300 `label`: 3 characters of 8 pixels in a field of 16\n\
@@ -36,29 +17,6 @@ w: 0 errors, 5 warnings, 6 objects\n";
 const COLOURED: &str = "\
 w:30: \x1b[1;33mwarning[W01 Replaced]\x1b[0m Container 100: the record at 69 replaces this one\n\
 w: 0 errors, 5 warnings, 6 objects; 4 not shown\n";
-
-/// Names in both forms, with lines that are passed over, one of them not UTF-8.
-const NAMES: &[u8] =
-    b"// a comment\n100,old\n#define box 0x64 // of the mask\n\xFF,7\r\n300, label \r\n#define\n#define rate 201\n65536,big\n5,\n";
-
-/// The files of the tests.
-#[derive(Drop)]
-struct Shelf;
-
-impl Open for Shelf {
-    type Reader = &'static [u8];
-
-    fn open(&mut self, path: &str) -> io::Result<&'static [u8]> {
-        match path {
-            "pool" => Ok(POOL),
-            "w" => Ok(WARNED),
-            "recoloured" => Ok(RECOLOURED),
-            "names" => Ok(NAMES),
-            "cut" => Ok(&WARNED[..35]),
-            _ => Err(Error::from(ErrorKind::NotFound)),
-        }
-    }
-}
 
 /// A run: its words, then its status, its output, and whether there are messages.
 type Run<'a> = (&'a [&'a str], Status, &'a str, bool);
@@ -130,6 +88,23 @@ fn other_files_are_checked_beside_a_missing_one(rt: HostRuntime) -> Result<(), F
         ),
     )?;
     expect_run(&rt, &(&["s", "check"], Status::NotJudged, "", true))
+}
+
+/// Words that ask for the standard input twice, and words without a subcommand.
+const REFUSED: [&[&str]; 4] = [
+    &["s", "check", "-", "-"],
+    &["s", "check", "-", "--names", "-"],
+    &["s", "diff", "-", "-"],
+    &["s"],
+];
+
+#[test]
+fn the_standard_input_is_read_once(rt: HostRuntime) -> Result<(), Fail> {
+    for words in REFUSED {
+        expect_run(&rt, &(words, Status::NotJudged, "", true))?;
+    }
+    let one = "-: 0 errors, 0 warnings, 3 objects\n";
+    expect_run(&rt, &(&["s", "check", "-"], Status::Clean, one, false))
 }
 
 #[test]

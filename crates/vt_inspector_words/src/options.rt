@@ -92,6 +92,10 @@ pub enum UsageError<'a> {
     Size(&'a str),
     /// The word for the event is no object's ID and event's number.
     Event(&'a str),
+    /// There is no subcommand.
+    NoSubcommand,
+    /// More than one of the files is the standard input.
+    InputTwice,
     /// An allocation was refused.
     Memory,
 }
@@ -101,7 +105,11 @@ impl UsageError<'_> {
     pub fn is_help(&self) -> bool {
         match self {
             UsageError::Words(error) => !error.use_stderr(),
-            UsageError::Size(_) | UsageError::Event(_) | UsageError::Memory => false,
+            UsageError::Size(_)
+            | UsageError::Event(_)
+            | UsageError::NoSubcommand
+            | UsageError::InputTwice
+            | UsageError::Memory => false,
         }
     }
 }
@@ -122,6 +130,14 @@ impl fmt::Display for UsageError<'_> {
                     "error: {value}: an object's ID and an event's number are wanted, as 2002:24; events are 0 to 26"
                 )
             }
+            UsageError::NoSubcommand => writeln!(
+                f,
+                "error: a subcommand is wanted: check, why, needs or diff; segyolant --help says what each does"
+            ),
+            UsageError::InputTwice => writeln!(
+                f,
+                "error: - is given more than once, but the standard input can be read once; give the other files by their paths"
+            ),
             UsageError::Memory => writeln!(f, "segyolant: out of memory"),
         }
     }
@@ -146,15 +162,34 @@ impl<'a> Options<'a> {
     /// Reads the words, of which the first is the program's name.
     pub fn parse<S: AsStr>(alloc: Global, words: &'a [S]) -> Result<Options<'a>, UsageError<'a>> {
         let matches = command(alloc)?.try_get_matches_from(words)?;
-        match matches.subcommand() {
-            Some(("why", matches)) => Ok(Options::Why(why_options(alloc, matches)?)),
-            Some(("needs", matches)) => Ok(Options::Needs(needs_options(alloc, matches)?)),
-            Some(("diff", matches)) => Ok(Options::Diff(diff_options(alloc, matches)?)),
-            Some((_, matches)) => Ok(Options::Check(check_options(alloc, matches)?)),
-            // The command requires a subcommand.
-            None => Err(UsageError::Memory),
+        let options = match matches.subcommand() {
+            Some(("why", matches)) => Options::Why(why_options(alloc, matches)?),
+            Some(("needs", matches)) => Options::Needs(needs_options(alloc, matches)?),
+            Some(("diff", matches)) => Options::Diff(diff_options(alloc, matches)?),
+            Some((_, matches)) => Options::Check(check_options(alloc, matches)?),
+            None => return Err(UsageError::NoSubcommand),
+        };
+        if options.inputs() > 1 {
+            return Err(UsageError::InputTwice);
         }
+        Ok(options)
     }
+
+    /// How many of the files are the standard input.
+    fn inputs(&self) -> usize {
+        let (files, names) = match self {
+            Options::Check(options) => (inputs_among(options.pools.as_slice()), &options.names),
+            Options::Why(options) => (inputs_among(&[options.pool]), &options.names),
+            Options::Needs(options) => (inputs_among(&[options.pool]), &options.names),
+            Options::Diff(options) => (inputs_among(&[options.old, options.new]), &options.names),
+        };
+        files.saturating_add(inputs_among(names.as_slice()))
+    }
+}
+
+/// How many of the paths are that of the standard input.
+fn inputs_among(paths: &[&str]) -> usize {
+    paths.iter().filter(|path| **path == "-").count()
 }
 
 fn check_options<'a>(
