@@ -18,6 +18,11 @@ const COLOURED: &str = "\
 w:30: \x1b[1;33mwarning[W01 Replaced]\x1b[0m Container 100: the record at 69 replaces this one\n\
 w: 0 errors, 5 warnings, 6 objects; 4 not shown\n";
 
+/// Why no cost is known, in colours.
+const UNKNOWN: &str = "\
+cut macro:18: \x1b[1;31merror[R06 MacroBytes]\x1b[0m Macro 5: the bytes end inside a command\n\
+cut macro:0: \x1b[1;34mnote[N02 UnknownTriggers]\x1b[0m a macro ends inside a command, so triggers are not known (R11, R12 not judged)\n";
+
 /// A run: its words, then its status, its output, and whether there are messages.
 type Run<'a> = (&'a [&'a str], Status, &'a str, bool);
 
@@ -107,17 +112,29 @@ fn the_standard_input_is_read_once(rt: HostRuntime) -> Result<(), Fail> {
     expect_run(&rt, &(&["s", "check", "-"], Status::Clean, one, false))
 }
 
-#[test]
-fn lines_are_coloured_for_a_terminal(rt: HostRuntime) -> Result<(), Fail> {
-    let words = ["s", "check", "w", "--most", "1"];
+/// A run of the program, whose output is coloured.
+fn expect_coloured(
+    rt: &(impl Abort + AllocGlobal),
+    words: &[&str],
+    status: Status,
+    text: &str,
+) -> Result<(), Fail> {
     let mut out = Vec::new(rt.alloc());
     let mut errors = Vec::new(rt.alloc());
     let alloc = rt.alloc();
     let look = Look::Coloured;
-    let status = run(alloc, &words, look, &mut Shelf, &mut out, &mut errors)?;
-    assert_eq!(rt; status, Status::Clean);
-    assert_eq!(rt; out.as_slice(), COLOURED.as_bytes());
+    let ended = run(alloc, words, look, &mut Shelf, &mut out, &mut errors)?;
+    assert_eq!(rt; ended, status);
+    assert_eq!(rt; out.as_slice(), text.as_bytes());
     Ok(())
+}
+
+#[test]
+fn lines_are_coloured_for_a_terminal(rt: HostRuntime) -> Result<(), Fail> {
+    let words = ["s", "check", "w", "--most", "1"];
+    expect_coloured(&rt, &words, Status::Clean, COLOURED)?;
+    let words = ["s", "why", "cut macro", "1000:3"];
+    expect_coloured(&rt, &words, Status::NotJudged, UNKNOWN)
 }
 
 #[test]

@@ -22,6 +22,13 @@ const RECOLOURED: &[u8] = &[
     100, 0, 5, 0, 7, 0, 0, // the Key 100
 ];
 
+/// A working set with a mask, and a macro whose command is cut short.
+const CUT_MACRO: &[u8] = &[
+    0, 0, 0, 0, 1, 0xE8, 3, 0, 0, 0, // the Working Set 0
+    0xE8, 3, 1, 0, 0xFF, 0xFF, 0, 0, // the Data Mask 1000, at 10
+    5, 0, 28, 1, 0, 0xA0, // the Macro 5, at 18
+];
+
 /// Names in both forms, with lines that are passed over, one of them not UTF-8.
 const NAMES: &[u8] =
     b"// a comment\n100,old\n#define box 0x64 // of the mask\n\xFF,7\r\n300, label \r\n#define\n#define rate 201\n65536,big\n5,\n";
@@ -40,6 +47,7 @@ impl Open for Shelf {
             "recoloured" => Ok(RECOLOURED),
             "names" => Ok(NAMES),
             "cut" => Ok(&WARNED[..35]),
+            "cut macro" => Ok(CUT_MACRO),
             _ => Err(Error::from(ErrorKind::NotFound)),
         }
     }
