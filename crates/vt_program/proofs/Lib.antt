@@ -1,4 +1,2 @@
 mod Chains
-mod Keeping
-mod Loading
-mod OneReplay
+pub mod Loading

@@ -7,7 +7,6 @@
 
 mod fault;
 mod files;
-pub mod laws;
 mod messages;
 mod options;
 mod pool_sentences;

@@ -22,10 +22,10 @@ use Rattle.vt_kinds.specs.Records.{Seen}
 use Rattle.vt_pool.specs.Pools.{PoolEntry, AreRecords, contents, joined}
 use Rattle.vt_program.specs.declared.options.Options.{Options}
 use Rattle.vt_program.specs.declared.options.Preload.{Preload}
-use Rattle.vt_program.specs.Certain.{AppendSame, IsKnown, IsPoolKnown, ReplaysAreOne}
-use Rattle.vt_program.specs.Promises.{given_pools}
+use Rattle.vt_replay_laws.specs.Certain.{AppendSame, IsKnown, IsPoolKnown, ReplaysAreOne}
+use Rattle.vt_replay_laws.specs.Promises.{given_pools}
 use Rattle.vt_program.specs.Runs.{FileContents, HasReplayed, IsPoolOf, IsPreloaded, IsStart, WritesReplay, new_state}
-use Rattle.vt_program.proofs.Keeping.{start-in-force}
+use Rattle.vt_replay_laws.proofs.Keeping.{start-in-force}
 use Rattle.vt_records.proofs.ReadInvertsWrite.{same_record}
 use Rattle.vt_server.specs.Judgements.{IsEventOf, IsJudgedRight}
 use Rattle.vt_server.specs.Outputs.{outputs_of}

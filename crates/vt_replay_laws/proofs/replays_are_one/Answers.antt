@@ -1,5 +1,5 @@
-use Rattle.vt_program.proofs.OneReplay.{replays-one}
-use Rattle.vt_program.proofs.laws.replays_are_one.Goals as goal
+use Rattle.vt_replay_laws.proofs.OneReplay.{replays-one}
+use Rattle.vt_replay_laws.proofs.replays_are_one.Goals as goal
 
 pub returns : goal.returns
 returns c = replays-one (record {

@@ -1,7 +1,12 @@
-//! Laws on whole runs of the program. Each function is a law, and calling it changes nothing.
+//! Laws on whole runs of the program.
+//!
+//! Each function is a law: its contract is a statement over the definitions of vt_program and the crates below, which the code
+//! meets by its contracts, and calling it changes nothing. `replays_never_stick` is the headline of a replay. docs/PROOFS.md
+//! explains each law.
+#![tactic(auto)]
 
-ghost use Rattle.vt_program.specs.Certain.{ReplaysAreOne};
-ghost use Rattle.vt_program.specs.Promises.{ReplaysNeverStick};
+ghost use Rattle.vt_replay_laws.specs.Certain.{ReplaysAreOne};
+ghost use Rattle.vt_replay_laws.specs.Promises.{ReplaysNeverStick};
 
 /// The headline of a replay. The terminal that the options give has the pool of their file in force. Whatever log is replayed, to its
 /// end or to a fault, each run of the machine ends unstuck within the budgets of its events, and no drawing gets stuck. `run` promises

@@ -15,7 +15,7 @@ use Rattle.vt_logs.specs.LineEffects.{ReplayState, Follows, TakesReadings}
 use Rattle.vt_logs.specs.Texts.{LineReading}
 use Rattle.vt_program.specs.declared.options.Options.{Options}
 use Rattle.vt_program.specs.declared.options.Preload.{Preload}
-use Rattle.vt_program.specs.Promises.{AreInputsOfLines, LinesKeep, given_pools, reading_behind, readings_taken}
+use Rattle.vt_replay_laws.specs.Promises.{AreInputsOfLines, LinesKeep, given_pools, reading_behind, readings_taken}
 use Rattle.vt_program.specs.Runs.{FileContents, IsPreloaded, IsStart, new_state}
 use Rattle.vt_program.proofs.Loading.{map_again}
 

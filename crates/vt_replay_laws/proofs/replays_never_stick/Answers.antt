@@ -1,5 +1,5 @@
-use Rattle.vt_program.proofs.Keeping.{replay-keeps, start-in-force, stopped-keeps}
-use Rattle.vt_program.proofs.laws.replays_never_stick.Goals as goal
+use Rattle.vt_replay_laws.proofs.Keeping.{replay-keeps, start-in-force, stopped-keeps}
+use Rattle.vt_replay_laws.proofs.replays_never_stick.Goals as goal
 
 pub returns : goal.returns
 returns c = record {
