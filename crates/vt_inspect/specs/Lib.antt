@@ -3,7 +3,6 @@ pub mod Circles
 pub mod Costs
 pub mod Findings
 pub mod Inspections
-pub mod Laws
 pub mod Lists
 pub mod Missing
 pub mod Places

@@ -3,8 +3,8 @@
 //! - `inspect` returns the `Inspection` of a pool's bytes: the objects in force with their records, the replaced
 //!   records, each `Finding`, and a `Note` for each rule that was not judged. `Inspection::offset` is the index of a
 //!   finding's first byte.
-//! - `laws` has the theorems about the definitions.
 //!
+//! The laws about the definitions are in the crate vt_inspect_laws.
 //! docs/PROFILE.md, "Verification of a pool", has the rules, and "Pools and faults" the faults of records.
 #![tactic(auto)]
 
@@ -12,7 +12,6 @@ mod finding;
 mod in_force;
 mod inclusions;
 mod inspection;
-pub mod laws;
 mod macros;
 mod records;
 mod references;

@@ -1,12 +1,12 @@
 -- The commands of a macro, one after another.
-use Rattle.std.proofs.Common.{◌≡◌, ℕ, ◌-◌, ◌≤◌, Bool, true, false, cond, List, [], ◌++◌, map, length, Option, Some, None, refl, sym, ap, ◌∙◌}
+use Rattle.std.proofs.Common.{◌≡◌, ℕ, Bool, true, false, cond, List, [], ◌++◌, map, Option, Some, None, refl, sym, ap, ◌∙◌}
 use Rattle.std.proofs.lemmas.List.{append-nil, map-append}
-use Rattle.std.specs.Prelude.{IsTrue, is_some, OnOk, IfOk, Result, Ok, Err}
+use Rattle.std.specs.Prelude.{is_some, OnOk, IfOk, Result, Ok, Err}
 use Rattle.std.specs.Option.{option_to_list}
 use Rattle.std.specs.List.{flat_map}
 use Rattle.vt_commands.specs.declared.command.Command.{Command}
 use Rattle.vt_commands.specs.declared.target.Target.{Target}
-use Rattle.vt_commands.specs.Pieces.{cut, IsSplit, CutIsOne}
+use Rattle.vt_commands.specs.Pieces.{cut}
 use Rattle.vt_commands.specs.Targets.{object_of, targets}
 use Rattle.vt_stores.specs.Shapes.{Shape, Fixed}
 use Rattle.vt_verify.specs.Macros.{Piece, with_offsets, cut_or_none, macro_bytes_in, named_macro, pieces_of, macro_command}

@@ -42,19 +42,6 @@ module _ {A B : Type 0} (test : B → Bool) (f : A → B) where
   none_first [] none = refl
   none_first (x ∷ xs) none = first_case (test (f x)) x (all_failing (λ x. test (f x)) xs) (first_failing test (map f xs)) (none_first xs) none
 
-  all_case : (b : Bool) (x : A) (rest : List A) (later : Option B) → (later ≡ None → rest ≡ []) → cond b later (Some (f x)) ≡ None → cond (not b) (x ∷ rest) rest ≡ []
-  all_case true x rest later next none = next none
-  all_case false x rest later next none = absurd cc
-
-  -- where there is no first failure, nothing fails
-  pub none_all : (xs : List A) → first_failing test (map f xs) ≡ None → all_failing (λ x. test (f x)) xs ≡ []
-  none_all [] none = refl
-  none_all (x ∷ xs) none = all_case (test (f x)) x (all_failing (λ x. test (f x)) xs) (first_failing test (map f xs)) (none_all xs) none
-
-pub same_list : {A : Type 0} (xs : List A) → map (λ x. x) xs ≡ xs
-same_list [] = refl
-same_list (x ∷ xs) = ap (λ l. x ∷ l) (same_list xs)
-
 of_slots : (parent : ℕ) (slots : List Slot) → map (λ (r : ReferenceAt). r.reference) (map (slot_at parent) slots) ≡ map (of_slot parent) slots
 of_slots parent [] = refl
 of_slots parent (s ∷ slots) = ap (λ l. of_slot parent s ∷ l) (of_slots parent slots)

@@ -30,14 +30,14 @@ use Rattle.vt_inspect.specs.Circles.{AreCircles}
 use Rattle.vt_inspect.specs.Findings.{working_set_ids, set_findings, IsDeepest, cut_findings, command_findings, value_finding, value_findings, target_findings, AreOfTriggers, slot_findings, macro_findings, AreFindings}
 use Rattle.vt_inspect.specs.Findings.AreOfTriggers.{Cut, Circles, Costs}
 use Rattle.vt_inspect.specs.Inspections.{is_none}
-use Rattle.vt_inspect.specs.Laws.{IsAcceptablePool, FindsNothing}
 use Rattle.vt_inspect.specs.Readings.{FoundAt, entry_of, found_from, faults_from, objects_of}
 use Rattle.vt_inspect.specs.References.{function_of, missing_at, wrong_kinds_at, slots_at, slot_values_at, own_references_at, failing_targets_at}
-use Rattle.vt_inspect.proofs.lemmas.NoneOver.{map_none, both_none, within, none_over}
-use Rattle.vt_inspect.proofs.lemmas.SameReferences.{values_are, macro_references_are}
-use Rattle.vt_inspect.proofs.lemmas.Whole.{none_fails, all_whole, none_first, none_all, same_list, references_are, none_missing}
-use Rattle.vt_inspect.proofs.lemmas.WholeReadings.{whole_outcome}
-use Rattle.vt_inspect.proofs.lemmas.WholeReadings.Outcome.{Whole, Faulty}
+use Rattle.vt_inspect.proofs.lemmas.Whole.{none_fails, all_whole, none_first, references_are, none_missing}
+use Rattle.vt_inspect_laws.specs.Laws.{IsAcceptablePool, FindsNothing}
+use Rattle.vt_inspect_laws.proofs.NoneOver.{map_none, both_none, within, none_over}
+use Rattle.vt_inspect_laws.proofs.SameReferences.{values_are, macro_references_are}
+use Rattle.vt_inspect_laws.proofs.WholeReadings.{whole_outcome}
+use Rattle.vt_inspect_laws.proofs.WholeReadings.Outcome.{Whole, Faulty}
 
 -- ---- working sets
 
@@ -82,6 +82,20 @@ none_value shape (p ∷ ps) none =
     value_case shape (has_attribute shape p) p (all_failing (has_attribute shape) ps) (first_failing (has_attribute shape) ps) refl (none_value shape ps) none
 
 -- ---- lists without a first failure
+
+module _ {A B : Type 0} (test : B → Bool) (f : A → B) where
+  all_case : (b : Bool) (x : A) (rest : List A) (later : Option B) → (later ≡ None → rest ≡ []) → cond b later (Some (f x)) ≡ None → cond (not b) (x ∷ rest) rest ≡ []
+  all_case true x rest later next none = next none
+  all_case false x rest later next none = absurd cc
+
+  -- where there is no first failure, nothing fails
+  none_all : (xs : List A) → first_failing test (map f xs) ≡ None → all_failing (λ x. test (f x)) xs ≡ []
+  none_all [] none = refl
+  none_all (x ∷ xs) none = all_case (test (f x)) x (all_failing (λ x. test (f x)) xs) (first_failing test (map f xs)) (none_all xs) none
+
+pub same_list : {A : Type 0} (xs : List A) → map (λ x. x) xs ≡ xs
+same_list [] = refl
+same_list (x ∷ xs) = ap (λ l. x ∷ l) (same_list xs)
 
 nothing_fails : {A : Type 0} (test : A → Bool) (xs : List A) → first_failing test xs ≡ None → all_failing test xs ≡ []
 nothing_fails test xs none = none_all test (λ x. x) xs (ap (first_failing test) (same_list xs) ∙ none)

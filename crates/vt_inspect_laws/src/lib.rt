@@ -1,6 +1,10 @@
-//! Theorems about inspections. Each is the contract of a function with an empty body.
+//! Theorems about inspections of a pool's bytes, and about the findings of the rules.
+//!
+//! Each function is a law: its contract is a statement over the definitions of vt_inspect and the crates below, which the
+//! code meets by its contracts, and calling it changes nothing. docs/PROOFS.md explains each law.
+#![tactic(auto)]
 
-ghost use Rattle.vt_inspect.specs.Laws.{FindingsAreTrue, FindsNothing, FirstIsTheFault, FirstIsTheRefusal, LastRecordsCount, NoCulpritIsLeftOut};
+ghost use Rattle.vt_inspect_laws.specs.Laws.{FindingsAreTrue, FindsNothing, FirstIsTheFault, FirstIsTheRefusal, LastRecordsCount, NoCulpritIsLeftOut};
 
 /// An inspection finds nothing exactly if the pool is acceptable.
 pub fn finds_nothing()

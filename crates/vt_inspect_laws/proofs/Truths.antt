@@ -28,9 +28,9 @@ use Rattle.vt_inspect.specs.Circles.{without, AreCircles}
 use Rattle.vt_inspect.specs.Costs.{costs_too_much, event_costs_too_much, macro_finding, event_finding, over_findings}
 use Rattle.vt_inspect.specs.Findings.{if_all, working_set_ids, set_findings, IsDeepest, cut_findings, command_findings, value_finding, value_findings, target_findings, AreOfTriggers, slot_findings, macro_findings}
 use Rattle.vt_inspect.specs.Findings.AreOfTriggers.{Cut, Circles, Costs}
-use Rattle.vt_inspect.specs.Laws.{IsCulprit, FindingsAreTrue}
 use Rattle.vt_inspect.specs.References.{function_of, passes_at, missing_at, wrong_kinds_at, slots_at, slot_values_at, own_references_at, failing_targets_at}
-use Rattle.vt_inspect.proofs.lemmas.Nothing.{ids_are}
+use Rattle.vt_inspect_laws.specs.Laws.{IsCulprit, FindingsAreTrue}
+use Rattle.vt_inspect_laws.proofs.Nothing.{ids_are}
 
 -- ---- elements of lists that are made of others
 

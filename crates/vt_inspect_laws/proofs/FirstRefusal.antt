@@ -40,19 +40,19 @@ use Rattle.vt_inspect.specs.Costs.{costs_too_much, event_costs_too_much, macro_f
 use Rattle.vt_inspect.specs.Findings.{working_set_ids, set_findings, IsDeepest, cut_findings, command_findings, value_finding, value_findings, target_findings, AreOfTriggers, slot_findings, macro_findings, AreFindings}
 use Rattle.vt_inspect.specs.Findings.AreOfTriggers.{Cut, Circles, Costs}
 use Rattle.vt_inspect.specs.Inspections.{is_none}
-use Rattle.vt_inspect.specs.Laws.{refusal_of, FirstIsTheRefusal}
 use Rattle.vt_inspect.specs.Readings.{FoundAt, entry_of, found_from, objects_of}
 use Rattle.vt_inspect.specs.References.{function_of, missing_at, wrong_kinds_at, slots_at, slot_values_at, own_references_at, failing_targets_at}
-use Rattle.vt_inspect.proofs.lemmas.FirstOver.{first_macro, first_object}
-use Rattle.vt_inspect.proofs.lemmas.Heads.{head_case, map_head, first_of_all}
-use Rattle.vt_inspect.proofs.lemmas.NoneOver.{map_none, both_none}
-use Rattle.vt_inspect.proofs.lemmas.Nothing.{ids_are, one_id, none_value, some_value, rules_hold, last_objects}
-use Rattle.vt_inspect.proofs.lemmas.Truths.{fails}
 use Rattle.vt_chains.proofs.Elements.{Contains-head}
-use Rattle.vt_inspect.proofs.lemmas.SameReferences.{values_are, macro_references_are}
-use Rattle.vt_inspect.proofs.lemmas.Whole.{none_fails, all_whole, none_first, same_list, references_are, none_missing}
-use Rattle.vt_inspect.proofs.lemmas.WholeReadings.{whole_outcome}
-use Rattle.vt_inspect.proofs.lemmas.WholeReadings.Outcome.{Whole, Faulty}
+use Rattle.vt_inspect.proofs.lemmas.Whole.{none_fails, all_whole, none_first, references_are, none_missing}
+use Rattle.vt_inspect_laws.specs.Laws.{refusal_of, FirstIsTheRefusal}
+use Rattle.vt_inspect_laws.proofs.FirstOver.{first_macro, first_object}
+use Rattle.vt_inspect_laws.proofs.Heads.{head_case, map_head, first_of_all}
+use Rattle.vt_inspect_laws.proofs.NoneOver.{map_none, both_none}
+use Rattle.vt_inspect_laws.proofs.Nothing.{same_list, ids_are, one_id, none_value, some_value, rules_hold, last_objects}
+use Rattle.vt_inspect_laws.proofs.Truths.{fails}
+use Rattle.vt_inspect_laws.proofs.SameReferences.{values_are, macro_references_are}
+use Rattle.vt_inspect_laws.proofs.WholeReadings.{whole_outcome}
+use Rattle.vt_inspect_laws.proofs.WholeReadings.Outcome.{Whole, Faulty}
 
 first_fails : {A : Type 0} (test : A → Bool) (xs : List A) (x : A) (rest : List A) → all_failing test xs ≡ x ∷ rest → first_failing test xs ≡ Some x
 first_fails test xs x rest is = ap (first_failing test) (sym (same_list xs)) ∙ first_of_all test (λ x. x) xs x rest is

@@ -26,12 +26,12 @@ use Rattle.vt_inspect.specs.Lists.{all_failing}
 use Rattle.vt_inspect.specs.Costs.{costs_too_much, event_costs_too_much, macro_finding, event_finding}
 use Rattle.vt_inspect.specs.Findings.{if_all, working_set_ids, set_findings, IsDeepest, cut_findings, command_findings, value_finding, value_findings, target_findings, AreOfTriggers, slot_findings, macro_findings}
 use Rattle.vt_inspect.specs.Findings.AreOfTriggers.{Cut, Circles, Costs}
-use Rattle.vt_inspect.specs.Laws.{SharesMacro, NoCulpritIsLeftOut}
 use Rattle.vt_inspect.specs.References.{function_of, passes_at, missing_at, wrong_kinds_at, slots_at, slot_values_at, own_references_at, failing_targets_at}
 use Rattle.vt_inspect.proofs.lemmas.Missing.{fails_among}
-use Rattle.vt_inspect.proofs.lemmas.NoneOver.{is_named, free}
-use Rattle.vt_inspect.proofs.lemmas.Nothing.{ids_are}
-use Rattle.vt_inspect.proofs.lemmas.Truths.{map_in, flat_map_in, passes_kept}
+use Rattle.vt_inspect_laws.specs.Laws.{SharesMacro, NoCulpritIsLeftOut}
+use Rattle.vt_inspect_laws.proofs.NoneOver.{is_named, free}
+use Rattle.vt_inspect_laws.proofs.Nothing.{ids_are}
+use Rattle.vt_inspect_laws.proofs.Truths.{map_in, flat_map_in, passes_kept}
 
 no_ids : (ids : List ℕ) → length ids ≡ 0 → Contains (set_findings true ids) findings.NoWorkingSet
 no_ids [] none = Contains-head findings.NoWorkingSet []

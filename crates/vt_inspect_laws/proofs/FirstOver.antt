@@ -21,8 +21,8 @@ use Rattle.vt_verify.specs.Rules.IsFirstOver.{Macro, Object}
 use Rattle.vt_verify.specs.TriggerGraphs.{if_any, if_listed, event_numbers, listed_events}
 use Rattle.vt_verify.specs.Triggers.{listing, listed, run_by_name}
 use Rattle.vt_inspect.specs.Costs.{costs_too_much, event_costs_too_much}
-use Rattle.vt_inspect.proofs.lemmas.NoneOver.{is_named, free, no_cost_over, event_listed, none_alone}
-use Rattle.vt_inspect.proofs.lemmas.Truths.{kept_passes}
+use Rattle.vt_inspect_laws.proofs.NoneOver.{is_named, free, no_cost_over, event_listed, none_alone}
+use Rattle.vt_inspect_laws.proofs.Truths.{kept_passes}
 
 -- ---- macros by rising ID
 

@@ -1,0 +1,11 @@
+pub mod Culprits
+pub mod FirstFault
+pub mod FirstOver
+pub mod FirstRefusal
+pub mod Heads
+pub mod LastRecords
+pub mod NoneOver
+pub mod Nothing
+pub mod SameReferences
+pub mod Truths
+pub mod WholeReadings
