@@ -10,12 +10,14 @@ pub mod FirstRefusal
 pub mod Heads
 pub mod InForce
 pub mod LastRecords
+pub mod Marks
 pub mod Missing
 pub mod NoneOver
 pub mod Nothing
 pub mod Objects
 pub mod OverBudget
 pub mod Readings
+pub mod ReducedGraphs
 pub mod SameReferences
 pub mod Truths
 pub mod Whole

@@ -15,6 +15,7 @@ mod inspection;
 pub mod laws;
 mod macros;
 mod records;
+mod reduced_graph;
 mod references;
 mod rules;
 mod targets;
