@@ -5,8 +5,8 @@ pub mod Findings
 pub mod Inspections
 pub mod Laws
 pub mod Lists
-pub mod Marks
 pub mod Missing
 pub mod Places
 pub mod Readings
+pub mod ReducedGraphs
 pub mod References

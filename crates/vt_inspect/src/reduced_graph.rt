@@ -1,18 +1,18 @@
-//! Smaller graphs with the same triggers.
+//! Graphs with the same triggers and fewer items.
 
 ghost use Rattle.std.specs.Prelude.{◌≡◌, ℕ, ◌<◌, [], ◌∷◌, IfOk, slice_index_or};
 ghost use Rattle.vt_rank.specs.Graphs.{lists, items_of, nodes_of, triggered};
 ghost use Rattle.vt_rank.specs.declared.graph.Item.TheVariants.{Most, Group};
-ghost use Rattle.vt_inspect.specs.Marks.{Marks, AreMarksOf, HaveSameMembers, HaveSameTriggers};
+ghost use Rattle.vt_inspect.specs.ReducedGraphs.{Marks, AreMarked, HaveSameMembers, HasEachOnce, IsReduced};
 
 use std::alloc::{AllocError, Global};
 use vt_rank::{Graph, Item};
 
-/// Returns a graph in which each node triggers the same nodes, by one item for a group without repeats.
+/// Returns a graph with the same triggers, in which each node has one item: a group without repeats.
 ///
 /// Reads each item once, with its nodes, and the groups of `Graph::most` once.
 pub(crate) fn reduced(alloc: Global, graph: &Graph) -> Result<Graph, AllocError>
-    ensures { IfOk result (λ small. HaveSameTriggers (triggered graph.now) (triggered small)) }
+    ensures { IfOk result (λ small. IsReduced graph.now small) }
 {
     let nodes = single_items(alloc)?;
     let groups = all_targets(alloc, graph)?;
@@ -44,7 +44,7 @@ fn single_item(alloc: Global, group: usize) -> Result<Vec<Item>, AllocError>
 
 /// The nodes that each node triggers, without repeats.
 fn all_targets(alloc: Global, graph: &Graph) -> Result<Vec<Vec<u8>>, AllocError>
-    ensures { IfOk result (λ rows. (n : ℕ) → n < 256 → HaveSameMembers (triggered graph.now n) (slice_index_or (lists rows) n [])) }
+    ensures { IfOk result (λ rows. (n : ℕ) → n < 256 → HasEachOnce (triggered graph.now n) (slice_index_or (lists rows) n [])) }
 {
     let most = targets_of_most(alloc, graph)?;
     let mut rows = Vec::new(alloc);
@@ -56,7 +56,7 @@ fn all_targets(alloc: Global, graph: &Graph) -> Result<Vec<Vec<u8>>, AllocError>
 
 /// The nodes of `Item::Most`, without repeats.
 fn targets_of_most(alloc: Global, graph: &Graph) -> Result<Vec<u8>, AllocError>
-    ensures { IfOk result (λ nodes. HaveSameMembers (nodes_of graph.now Most) nodes.items) }
+    ensures { IfOk result (λ nodes. HasEachOnce (nodes_of graph.now Most) nodes.items) }
 {
     let mut marks = [false; 256];
     for group in &graph.most {
@@ -66,14 +66,9 @@ fn targets_of_most(alloc: Global, graph: &Graph) -> Result<Vec<u8>, AllocError>
 }
 
 /// The nodes that a node triggers, without repeats. `most` has the nodes of `Item::Most`.
-fn targets(
-    alloc: Global,
-    graph: &Graph,
-    node: u8,
-    most: &[u8],
-) -> Result<Vec<u8>, AllocError>
+fn targets(alloc: Global, graph: &Graph, node: u8, most: &[u8]) -> Result<Vec<u8>, AllocError>
     requires { HaveSameMembers (nodes_of graph.now Most) most.now }
-    ensures { IfOk result (λ nodes. HaveSameMembers (triggered graph.now node) nodes.items) }
+    ensures { IfOk result (λ nodes. HasEachOnce (triggered graph.now node) nodes.items) }
 {
     let mut marks = [false; 256];
     for item in items(graph, node) {
@@ -115,7 +110,7 @@ fn mark(marks: &mut [bool; 256], nodes: &[u8])
 
 /// The nodes that are marked, without repeats.
 fn marked(alloc: Global, marks: &[bool; 256]) -> Result<Vec<u8>, AllocError>
-    ensures { IfOk result (λ nodes. AreMarksOf marks.now nodes.items) }
+    ensures { IfOk result (λ nodes. AreMarked marks.now nodes.items) }
 {
     let mut nodes = Vec::new(alloc);
     for node in 0..256usize {

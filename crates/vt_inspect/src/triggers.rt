@@ -48,12 +48,9 @@ pub(crate) fn put_triggers(
 /// Appends the circles of a graph: the one of the least macro, then, without the commands of its macros, the next, until
 /// there is none.
 ///
-/// Reads the commands of the graph once. Each circle costs at most as much as 256 commands with 256 macros each.
-fn put_circles(
-    alloc: Global,
-    graph: &Graph,
-    findings: &mut Vec<Finding>,
-) -> Result<(), AllocError>
+/// Reads the commands of the graph once, however many circles there are. Each circle costs as much as 256 commands of
+/// at most 256 macros each.
+fn put_circles(alloc: Global, graph: &Graph, findings: &mut Vec<Finding>) -> Result<(), AllocError>
     ensures { OnOk result (PutsCircles (triggered graph.now) findings.old.items findings.new.items) }
 {
     let mut small = reduced(alloc, graph)?;

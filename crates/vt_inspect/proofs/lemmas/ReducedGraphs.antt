@@ -3,16 +3,14 @@ use Rattle.std.proofs.Common.{◌≡◌, ℕ, ◌+◌, ◌<◌, ◌≤◌, Bool,
 use Rattle.std.proofs.lemmas.Bool.{cases_lt}
 use Rattle.std.proofs.lemmas.List.{append-nil, get_or-take, get_or_past, get_or_push, get_or_append_left, length-take, length_push, map_push}
 use Rattle.std.specs.List.{flat_map, list_any}
-use Rattle.arrayvec.specs.ArrayVec.{ArrayVec}
 use Rattle.vt_rank.specs.declared.graph.Graph.{Graph}
-use Rattle.vt_rank.specs.declared.graph.Item.{Item}
 use Rattle.vt_rank.specs.declared.graph.Item.TheVariants.{Group}
 use Rattle.vt_rank.specs.Graphs.{lists, items_of, group_of, nodes_of, triggered}
 use Rattle.vt_rank.specs.Paths.{IsPath, IsCircle, HasNoCircle, IsLeastOnCircles}
 use Rattle.vt_inspect.specs.declared.finding.Finding.{Finding}
 use Rattle.vt_inspect.specs.declared.finding.Finding.TheVariants as findings
-use Rattle.vt_inspect.specs.Circles.{without, IsLeastCircle, AreCircles, PutsCircles}
-use Rattle.vt_inspect.specs.Marks.{HaveSameMembers, HaveSameTriggers}
+use Rattle.vt_inspect.specs.Circles.{without, AreCircles, PutsCircles}
+use Rattle.vt_inspect.specs.ReducedGraphs.{HaveSameMembers, HaveSameTriggers, HasEachOnce, IsReduced}
 
 -- ---- the triggers of a graph with one group for each node
 
@@ -35,27 +33,37 @@ module _ (g : Graph) where
   own_triggers : (n : ℕ) → n < 256 → get_or (lists g.nodes) n [] ≡ Group n ∷ [] → triggered g n ≡ get_or (lists g.groups) n []
   own_triggers n small is = ap (flat_map (nodes_of g)) (own_item n small is) ∙ append-nil (group_of g n) ∙ own_group n
 
-pub same_by_groups : (g h : Graph) → ((n : ℕ) → n < 256 → get_or (lists h.nodes) n [] ≡ Group n ∷ [])
-    → ((n : ℕ) → n < 256 → HaveSameMembers (triggered g n) (get_or (lists h.groups) n [])) → HaveSameTriggers (triggered g) (triggered h)
-same_by_groups g h nodes groups n = elim (cases_lt n 256) [
-  | inl small ↦ subst (HaveSameMembers (triggered g n)) (sym (own_triggers h n small (nodes n small))) (groups n small)
-  | inr past ↦ subst (λ (l : List ℕ). HaveSameMembers l (triggered h n)) (sym (no_triggers g n past))
-      (subst (HaveSameMembers []) (sym (no_triggers h n past)) (λ k. (λ is. is, λ is. is)))
-]
+pub reduced_by_groups : (g h : Graph) → ((n : ℕ) → n < 256 → get_or (lists h.nodes) n [] ≡ Group n ∷ [])
+    → ((n : ℕ) → n < 256 → HasEachOnce (triggered g n) (get_or (lists h.groups) n [])) → IsReduced g h
+reduced_by_groups g h nodes groups = record {
+  same = λ n. (each n).same;
+  once = λ n. (each n).once;
+  items = λ n. elim (cases_lt n 256) [
+    | inl small ↦ let one : length (items_of h n) ≡ 1 = ap length (own_item h n small (nodes n small)) in omega arith
+    | inr past ↦ let none : length (items_of h n) ≡ 0 = ap length (no_items h n past) in omega arith
+  ];
+}
+  where
+    each : (n : ℕ) → HasEachOnce (triggered g n) (triggered h n)
+    each n = elim (cases_lt n 256) [
+      | inl small ↦ subst (HasEachOnce (triggered g n)) (sym (own_triggers h n small (nodes n small))) (groups n small)
+      | inr past ↦ subst (λ (l : List ℕ). HasEachOnce l (triggered h n)) (sym (no_triggers g n past))
+          (subst (HasEachOnce []) (sym (no_triggers h n past)) (record { same = λ k. (λ is. is, λ is. is); once = tt }))
+    ]
 
 -- the rows of the nodes below a node
 abbrev pub AreRows : (ℕ → List ℕ) → List (List ℕ) → ℕ → Type 0
-AreRows next rows i = (length rows ≡ i) × ((n : ℕ) → n < i → HaveSameMembers (next n) (get_or rows n []))
+AreRows next rows i = (length rows ≡ i) × ((n : ℕ) → n < i → HasEachOnce (next n) (get_or rows n []))
 
-row_more : (next : ℕ → List ℕ) (rows : List (List ℕ)) (row : List ℕ) (i : ℕ) → HaveSameMembers (next i) row → AreRows next rows i → AreRows next (rows ++ row ∷ []) (i + 1)
+row_more : (next : ℕ → List ℕ) (rows : List (List ℕ)) (row : List ℕ) (i : ℕ) → HasEachOnce (next i) row → AreRows next rows i → AreRows next (rows ++ row ∷ []) (i + 1)
 row_more next rows row i same are = (
   length_push rows row ∙ ap (λ (n : ℕ). n + 1) are.0,
   below_more _ _
-  (λ n small. subst (HaveSameMembers (next n)) (sym (get_or_append_left rows (row ∷ []) [] n (omega (arith, small, are.0)))) (are.1 n small))
-  (subst (HaveSameMembers (next i)) (sym (get_or_push rows row [] i are.0)) same),
+      (λ n small. subst (HasEachOnce (next n)) (sym (get_or_append_left rows (row ∷ []) [] n (omega (arith, small, are.0)))) (are.1 n small))
+      (subst (HasEachOnce (next i)) (sym (get_or_push rows row [] i are.0)) same),
 )
 
-pub rows_more : {A : Type 0} (next : ℕ → List ℕ) (before after : Vec (Vec ℕ A) A) (row : Vec ℕ A) (i : ℕ) → after.items ≡ before.items ++ row ∷ [] → HaveSameMembers (next i) row.items
+pub rows_more : {A : Type 0} (next : ℕ → List ℕ) (before after : Vec (Vec ℕ A) A) (row : Vec ℕ A) (i : ℕ) → after.items ≡ before.items ++ row ∷ [] → HasEachOnce (next i) row.items
     → AreRows next (lists before) i → AreRows next (lists after) (i + 1)
 rows_more {A} next before after row i made same are =
     let is : lists after ≡ lists before ++ row.items ∷ [] = ap (map (λ (v : Vec ℕ A). v.items)) made ∙ map_push (λ (v : Vec ℕ A). v.items) before.items row in

@@ -1,7 +1,7 @@
-use Rattle.std.proofs.Common.{◌≡◌, ◌<◌, ℕ, [], ◌∷◌, length, get_or, true, set, sym, ◌∙◌, subst, arith, rules}
+use Rattle.std.proofs.Common.{◌<◌, ℕ, [], ◌∷◌, length, true, set, ◌∙◌, subst, arith, rules}
 use Rattle.std.proofs.lemmas.List.{length-set}
 use Rattle.vt_rank.proofs.SetsAfterInsertions.{one_by_one}
-use Rattle.vt_inspect.specs.Marks.{Marks}
+use Rattle.vt_inspect.specs.ReducedGraphs.{Marks}
 use Rattle.vt_inspect.proofs.lemmas.Marks.{marking_begins, marking_more, marking_done, marked_one}
 use Rattle.vt_inspect.proofs.reduced_graph.mark.Goals as goal
 

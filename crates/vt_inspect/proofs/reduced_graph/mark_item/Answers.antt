@@ -1,7 +1,7 @@
 use Rattle.std.proofs.Common.{sym, subst}
 use Rattle.vt_rank.specs.declared.graph.Item.{Item}
 use Rattle.vt_rank.specs.Graphs.{nodes_of}
-use Rattle.vt_inspect.specs.Marks.{Marks}
+use Rattle.vt_inspect.specs.ReducedGraphs.{Marks}
 use Rattle.vt_inspect.proofs.lemmas.Marks.{marked_too}
 use Rattle.vt_inspect.proofs.reduced_graph.mark_item.Goals as goal
 

@@ -3,7 +3,7 @@ use Rattle.std.specs.List.{flat_map}
 use Rattle.vt_rank.specs.declared.graph.Item.{Item}
 use Rattle.vt_rank.specs.declared.graph.Item.TheVariants.{Step}
 use Rattle.vt_rank.specs.Graphs.{nodes_of}
-use Rattle.vt_inspect.specs.Marks.{Marks}
+use Rattle.vt_inspect.specs.ReducedGraphs.{Marks}
 use Rattle.vt_inspect.proofs.lemmas.Marks.{marking_more, marking_done, marked_ok}
 use Rattle.vt_inspect.proofs.reduced_graph.targets.Goals as goal
 

@@ -1,7 +1,7 @@
 use Rattle.std.proofs.Common.{false, replicate, ℕ, List, subst}
 use Rattle.std.specs.List.{flat_map}
 use Rattle.vt_rank.specs.Graphs.{group_of}
-use Rattle.vt_inspect.specs.Marks.{Marks}
+use Rattle.vt_inspect.specs.ReducedGraphs.{Marks}
 use Rattle.vt_inspect.proofs.lemmas.Marks.{marking_more, marking_done, marked_ok}
 use Rattle.vt_inspect.proofs.reduced_graph.targets_of_most.Goals as goal
 

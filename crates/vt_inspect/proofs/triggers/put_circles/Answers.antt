@@ -4,4 +4,4 @@ use Rattle.vt_inspect.proofs.triggers.put_circles.Goals as goal
 
 pub returns : goal.returns
 returns c =
-    on_ok c.take_circles.result c.take_circles.ensures (same_circles_put _ _ _ _ c.in_ok-small.ensures)
+    on_ok c.take_circles.result c.take_circles.ensures (same_circles_put _ _ _ _ c.in_ok-small.ensures.same)
