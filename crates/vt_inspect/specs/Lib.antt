@@ -7,4 +7,5 @@ pub mod Lists
 pub mod Missing
 pub mod Places
 pub mod Readings
+pub mod ReducedGraphs
 pub mod References

@@ -14,6 +14,7 @@ mod inclusions;
 mod inspection;
 mod macros;
 mod records;
+mod reduced_graph;
 mod references;
 mod rules;
 mod targets;

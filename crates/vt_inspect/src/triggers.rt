@@ -17,6 +17,7 @@ ghost use Rattle.vt_inspect.specs.Findings.{cut_findings, PutsTriggers};
 
 use crate::finding::Finding;
 use crate::inspection::Note;
+use crate::reduced_graph::reduced;
 use std::alloc::{AllocError, Global};
 use vt_objects::{Object, ObjectId, SortedStore};
 use vt_rank::{Graph, Item, Ranks, cost_of_nodes, costs_up_to, rank};
@@ -33,11 +34,11 @@ pub(crate) fn put_triggers(
     requires { cut_findings (shape_of objects.now) ≡ [] }
     ensures { OnOk result (PutsTriggers (shape_of objects.now) findings.old.items findings.new.items notes.old.items notes.new.items) }
 {
-    let mut triggers = TriggerGraph::of_objects(alloc, objects)?;
+    let triggers = TriggerGraph::of_objects(alloc, objects)?;
     match rank(&triggers.graph) {
         Ok(ranks) => put_over(objects, &triggers, &ranks, findings),
         Err(_) => {
-            put_circles(&mut triggers.graph, findings)?;
+            put_circles(alloc, &triggers.graph, findings)?;
             notes.push(Note::UnknownCosts)?;
             Ok(())
         }
@@ -46,7 +47,18 @@ pub(crate) fn put_triggers(
 
 /// Appends the circles of a graph: the one of the least macro, then, without the commands of its macros, the next, until
 /// there is none.
-fn put_circles(graph: &mut Graph, findings: &mut Vec<Finding>) -> Result<(), AllocError>
+///
+/// Reads the commands of the graph once, however many circles there are. Each circle costs as much as 256 commands of
+/// at most 256 macros each.
+fn put_circles(alloc: Global, graph: &Graph, findings: &mut Vec<Finding>) -> Result<(), AllocError>
+    ensures { OnOk result (PutsCircles (triggered graph.now) findings.old.items findings.new.items) }
+{
+    let mut small = reduced(alloc, graph)?;
+    take_circles(&mut small, findings)
+}
+
+/// Appends the circles of a graph, and takes the commands of their macros out of it.
+fn take_circles(graph: &mut Graph, findings: &mut Vec<Finding>) -> Result<(), AllocError>
     ensures { OnOk result (PutsCircles (triggered graph.old) findings.old.items findings.new.items) }
 {
     while let Err(circle) = rank(graph) {
