@@ -1,6 +1,6 @@
 -- Objects of one kind for which no field is named have one record: their named values are equal, and a count is the length of
 -- the list that it counts.
-use Rattle.std.proofs.Common.{◌≡◌, refl, Bool, true, false, ◌&&◌, ◌==◌, ℕ, List, [], ◌∷◌, ◌++◌, map, length, ◌∙◌, sym, ap, ap₂, subst, true≢false, if◌then◌else◌, eqb-true, eq-eqb}
+use Rattle.std.proofs.Common.{◌≡◌, refl, Bool, true, false, ◌&&◌, ◌==◌, ℕ, suc, List, [], ◌∷◌, ◌++◌, map, length, ◌∙◌, sym, ap, ap₂, subst, true≢false, if◌then◌else◌, eqb-true, eq-eqb}
 use Rattle.std.proofs.lemmas.Bool.Decides.{Decides-int_eq}
 use Rattle.std.specs.Cmp.Lexicographic.{pointwise}
 use Rattle.byteorder.specs.Endian.{little_bytes}
@@ -44,6 +44,32 @@ equal_values (rows a) (bytes b) h = absurd (true≢false (sym h))
 equal_values (bytes a) (number b) h = absurd (true≢false (sym h))
 equal_values (bytes a) (rows b) h = absurd (true≢false (sym h))
 equal_values (bytes a) (bytes b) h = ap bytes (each_equal (λ x y. x == y) eqb-true a b h)
+
+-- ---- an object beside itself
+
+each_own : {A : Type 0} (same : A → A → Bool) → ((a : A) → same a a ≡ true) → (xs : List A) → pointwise same xs xs ≡ true
+each_own same own [] = refl
+each_own same own (x ∷ xs) = ap₂ (λ a b. a && b) (own x) (each_own same own xs)
+
+own_numeral : (a : Numeral) → same_numeral a a ≡ true
+own_numeral (natural a) = eq-eqb a a refl
+own_numeral (integer a) = (Decides-int_eq a a).1 refl
+
+own_value : (a : Value) → same_value a a ≡ true
+own_value (number a) = own_numeral a
+own_value (rows a) = each_own (pointwise same_numeral) (each_own same_numeral own_numeral) a
+own_value (bytes a) = each_own (λ x y. x == y) (λ x. eq-eqb x x refl) a
+
+none_of_own : (names : List Name) (vs : List Value) → differing names vs vs ≡ []
+none_of_own [] vs = refl
+none_of_own (n ∷ ns) [] = refl
+none_of_own (n ∷ ns) (v ∷ vs) = ap (λ s. named n s ++ differing ns vs vs) (own_value v) ∙ none_of_own ns vs
+
+pub own_unchanged : (o : Seen) → changed o o ≡ []
+own_unchanged o =
+    let names = differing (field_names (kind_of o)) (named_values o) (named_values o) in
+    ap (λ (b : Bool). if b then names else []) (eq-eqb (kind_number (kind_of o)) (kind_number (kind_of o)) refl)
+    ∙ none_of_own (field_names (kind_of o)) (named_values o)
 
 -- ---- a name for each value
 
@@ -101,6 +127,15 @@ all_named (objects.FillAttributes o) = tt
 all_named (objects.InputAttributes o) = tt
 all_named (objects.ObjectPointer o) = tt
 all_named (objects.Macro o) = tt
+
+equal_lengths : (names : List Name) (vs : List Value) → AllNamed names vs → length names ≡ length vs
+equal_lengths [] [] p = refl
+equal_lengths [] (v ∷ vs) p = absurd p
+equal_lengths (n ∷ ns) [] p = absurd p
+equal_lengths (n ∷ ns) (v ∷ vs) p = ap suc (equal_lengths ns vs p)
+
+pub one_name_each : (o : Seen) → length (field_names (kind_of o)) ≡ length (named_values o)
+one_name_each o = equal_lengths (field_names (kind_of o)) (named_values o) (all_named o)
 
 -- ---- the counts, from the lists
 

@@ -7,8 +7,8 @@ abbrev pub Name : Type 0
 Name = List ℕ
 
 -- the bytes of names
-abbrev pub words : List (Bor Name) → List Name
-words names = map (λ n. n.now) names
+abbrev pub name_bytes : List (Bor Name) → List Name
+name_bytes names = map (λ n. n.now) names
 
 -- the name of a field, unless its values are equal
 abbrev pub named : Name → Bool → List Name

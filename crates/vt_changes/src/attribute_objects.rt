@@ -4,7 +4,7 @@ ghost use Rattle.std.specs.Prelude.{◌≡◌, IfOk};
 ghost use Rattle.vt_kinds.specs.declared.object.Object.TheVariants as objects;
 ghost use Rattle.vt_kinds.specs.Records.{seen};
 ghost use Rattle.vt_changes.specs.Changes.{changed};
-ghost use Rattle.vt_changes.specs.Names.{words};
+ghost use Rattle.vt_changes.specs.Names.{name_bytes};
 
 use crate::names::changed_among;
 use std::alloc::{AllocError, Global};
@@ -16,7 +16,7 @@ pub(crate) fn font(
     old: &Font,
     new: &Object<Vec<u8>>,
 ) -> Result<Vec<&'static str>, AllocError>
-    ensures { IfOk result (λ found. words found.items ≡ changed (objects.Font old.now) (seen new.now)) }
+    ensures { IfOk result (λ found. name_bytes found.items ≡ changed (objects.Font old.now) (seen new.now)) }
 {
     let Object::Font(new) = new else {
         return Ok(Vec::new(alloc));
@@ -39,7 +39,7 @@ pub(crate) fn line_attributes(
     old: &LineAttributes,
     new: &Object<Vec<u8>>,
 ) -> Result<Vec<&'static str>, AllocError>
-    ensures { IfOk result (λ found. words found.items ≡ changed (objects.LineAttributes old.now) (seen new.now)) }
+    ensures { IfOk result (λ found. name_bytes found.items ≡ changed (objects.LineAttributes old.now) (seen new.now)) }
 {
     let Object::LineAttributes(new) = new else {
         return Ok(Vec::new(alloc));
@@ -61,7 +61,7 @@ pub(crate) fn fill_attributes(
     old: &FillAttributes,
     new: &Object<Vec<u8>>,
 ) -> Result<Vec<&'static str>, AllocError>
-    ensures { IfOk result (λ found. words found.items ≡ changed (objects.FillAttributes old.now) (seen new.now)) }
+    ensures { IfOk result (λ found. name_bytes found.items ≡ changed (objects.FillAttributes old.now) (seen new.now)) }
 {
     let Object::FillAttributes(new) = new else {
         return Ok(Vec::new(alloc));
@@ -83,7 +83,7 @@ pub(crate) fn input_attributes(
     old: &InputAttributes<Vec<u8>>,
     new: &Object<Vec<u8>>,
 ) -> Result<Vec<&'static str>, AllocError>
-    ensures { IfOk result (λ found. words found.items ≡ changed (seen (objects.InputAttributes old.now)) (seen new.now)) }
+    ensures { IfOk result (λ found. name_bytes found.items ≡ changed (seen (objects.InputAttributes old.now)) (seen new.now)) }
 {
     let Object::InputAttributes(new) = new else {
         return Ok(Vec::new(alloc));

@@ -3,7 +3,7 @@
 ghost use Rattle.std.specs.Prelude.{◌≡◌, IfOk};
 ghost use Rattle.vt_kinds.specs.Records.{seen};
 ghost use Rattle.vt_changes.specs.Changes.{changed};
-ghost use Rattle.vt_changes.specs.Names.{words};
+ghost use Rattle.vt_changes.specs.Names.{name_bytes};
 
 use crate::{
     attribute_objects, graphs, input_fields, keys, macros, masks, output_fields, pictures, shapes,
@@ -19,7 +19,7 @@ pub fn changed_fields(
     old: &Object<Vec<u8>>,
     new: &Object<Vec<u8>>,
 ) -> Result<Vec<&'static str>, AllocError>
-    ensures { IfOk result (λ found. words found.items ≡ changed (seen old.now) (seen new.now)) }
+    ensures { IfOk result (λ found. name_bytes found.items ≡ changed (seen old.now) (seen new.now)) }
 {
     match old {
         Object::WorkingSet(old) => masks::working_set(alloc, old, new),

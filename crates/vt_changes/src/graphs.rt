@@ -4,7 +4,7 @@ ghost use Rattle.std.specs.Prelude.{◌≡◌, IfOk};
 ghost use Rattle.vt_kinds.specs.declared.object.Object.TheVariants as objects;
 ghost use Rattle.vt_kinds.specs.Records.{seen};
 ghost use Rattle.vt_changes.specs.Changes.{changed};
-ghost use Rattle.vt_changes.specs.Names.{words};
+ghost use Rattle.vt_changes.specs.Names.{name_bytes};
 
 use crate::names::changed_among;
 use std::alloc::{AllocError, Global};
@@ -16,7 +16,7 @@ pub(crate) fn meter(
     old: &Meter,
     new: &Object<Vec<u8>>,
 ) -> Result<Vec<&'static str>, AllocError>
-    ensures { IfOk result (λ found. words found.items ≡ changed (objects.Meter old.now) (seen new.now)) }
+    ensures { IfOk result (λ found. name_bytes found.items ≡ changed (objects.Meter old.now) (seen new.now)) }
 {
     let Object::Meter(new) = new else {
         return Ok(Vec::new(alloc));
@@ -47,7 +47,7 @@ pub(crate) fn linear_bar(
     old: &LinearBar,
     new: &Object<Vec<u8>>,
 ) -> Result<Vec<&'static str>, AllocError>
-    ensures { IfOk result (λ found. words found.items ≡ changed (objects.LinearBar old.now) (seen new.now)) }
+    ensures { IfOk result (λ found. name_bytes found.items ≡ changed (objects.LinearBar old.now) (seen new.now)) }
 {
     let Object::LinearBar(new) = new else {
         return Ok(Vec::new(alloc));
@@ -81,7 +81,7 @@ pub(crate) fn arched_bar(
     old: &ArchedBar,
     new: &Object<Vec<u8>>,
 ) -> Result<Vec<&'static str>, AllocError>
-    ensures { IfOk result (λ found. words found.items ≡ changed (objects.ArchedBar old.now) (seen new.now)) }
+    ensures { IfOk result (λ found. name_bytes found.items ≡ changed (objects.ArchedBar old.now) (seen new.now)) }
 {
     let Object::ArchedBar(new) = new else {
         return Ok(Vec::new(alloc));

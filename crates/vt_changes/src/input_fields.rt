@@ -4,7 +4,7 @@ ghost use Rattle.std.specs.Prelude.{◌≡◌, IfOk};
 ghost use Rattle.vt_kinds.specs.declared.object.Object.TheVariants as objects;
 ghost use Rattle.vt_kinds.specs.Records.{seen};
 ghost use Rattle.vt_changes.specs.Changes.{changed};
-ghost use Rattle.vt_changes.specs.Names.{words};
+ghost use Rattle.vt_changes.specs.Names.{name_bytes};
 
 use crate::names::{are_equal, changed_among};
 use std::alloc::{AllocError, Global};
@@ -16,7 +16,7 @@ pub(crate) fn input_boolean(
     old: &InputBoolean,
     new: &Object<Vec<u8>>,
 ) -> Result<Vec<&'static str>, AllocError>
-    ensures { IfOk result (λ found. words found.items ≡ changed (objects.InputBoolean old.now) (seen new.now)) }
+    ensures { IfOk result (λ found. name_bytes found.items ≡ changed (objects.InputBoolean old.now) (seen new.now)) }
 {
     let Object::InputBoolean(new) = new else {
         return Ok(Vec::new(alloc));
@@ -41,7 +41,7 @@ pub(crate) fn input_string(
     old: &InputString<Vec<u8>>,
     new: &Object<Vec<u8>>,
 ) -> Result<Vec<&'static str>, AllocError>
-    ensures { IfOk result (λ found. words found.items ≡ changed (seen (objects.InputString old.now)) (seen new.now)) }
+    ensures { IfOk result (λ found. name_bytes found.items ≡ changed (seen (objects.InputString old.now)) (seen new.now)) }
 {
     let Object::InputString(new) = new else {
         return Ok(Vec::new(alloc));
@@ -73,7 +73,7 @@ pub(crate) fn input_number(
     old: &InputNumber,
     new: &Object<Vec<u8>>,
 ) -> Result<Vec<&'static str>, AllocError>
-    ensures { IfOk result (λ found. words found.items ≡ changed (objects.InputNumber old.now) (seen new.now)) }
+    ensures { IfOk result (λ found. name_bytes found.items ≡ changed (objects.InputNumber old.now) (seen new.now)) }
 {
     let Object::InputNumber(new) = new else {
         return Ok(Vec::new(alloc));
@@ -107,7 +107,7 @@ pub(crate) fn input_list(
     old: &InputList,
     new: &Object<Vec<u8>>,
 ) -> Result<Vec<&'static str>, AllocError>
-    ensures { IfOk result (λ found. words found.items ≡ changed (objects.InputList old.now) (seen new.now)) }
+    ensures { IfOk result (λ found. name_bytes found.items ≡ changed (objects.InputList old.now) (seen new.now)) }
 {
     let Object::InputList(new) = new else {
         return Ok(Vec::new(alloc));

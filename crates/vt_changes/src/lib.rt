@@ -1,7 +1,7 @@
 //! The fields in which two objects of one kind differ, by name.
 //!
 //! - `changed_fields` gives their names, in the order of the record.
-//! - `laws::unchanged_records_are_equal` is the law that no difference is left out.
+//! - `laws` has the theorems that no difference is left out, and none is named where there is none.
 //!
 //! docs/PROFILE.md, "Objects", has the fields of each kind.
 #![tactic(auto)]

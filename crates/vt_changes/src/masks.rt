@@ -4,7 +4,7 @@ ghost use Rattle.std.specs.Prelude.{◌≡◌, IfOk};
 ghost use Rattle.vt_kinds.specs.declared.object.Object.TheVariants as objects;
 ghost use Rattle.vt_kinds.specs.Records.{seen};
 ghost use Rattle.vt_changes.specs.Changes.{changed};
-ghost use Rattle.vt_changes.specs.Names.{words};
+ghost use Rattle.vt_changes.specs.Names.{name_bytes};
 
 use crate::names::changed_among;
 use std::alloc::{AllocError, Global};
@@ -16,7 +16,7 @@ pub(crate) fn working_set(
     old: &WorkingSet,
     new: &Object<Vec<u8>>,
 ) -> Result<Vec<&'static str>, AllocError>
-    ensures { IfOk result (λ found. words found.items ≡ changed (objects.WorkingSet old.now) (seen new.now)) }
+    ensures { IfOk result (λ found. name_bytes found.items ≡ changed (objects.WorkingSet old.now) (seen new.now)) }
 {
     let Object::WorkingSet(new) = new else {
         return Ok(Vec::new(alloc));
@@ -46,7 +46,7 @@ pub(crate) fn data_mask(
     old: &DataMask,
     new: &Object<Vec<u8>>,
 ) -> Result<Vec<&'static str>, AllocError>
-    ensures { IfOk result (λ found. words found.items ≡ changed (objects.DataMask old.now) (seen new.now)) }
+    ensures { IfOk result (λ found. name_bytes found.items ≡ changed (objects.DataMask old.now) (seen new.now)) }
 {
     let Object::DataMask(new) = new else {
         return Ok(Vec::new(alloc));
@@ -71,7 +71,7 @@ pub(crate) fn alarm_mask(
     old: &AlarmMask,
     new: &Object<Vec<u8>>,
 ) -> Result<Vec<&'static str>, AllocError>
-    ensures { IfOk result (λ found. words found.items ≡ changed (objects.AlarmMask old.now) (seen new.now)) }
+    ensures { IfOk result (λ found. name_bytes found.items ≡ changed (objects.AlarmMask old.now) (seen new.now)) }
 {
     let Object::AlarmMask(new) = new else {
         return Ok(Vec::new(alloc));
@@ -98,7 +98,7 @@ pub(crate) fn container(
     old: &Container,
     new: &Object<Vec<u8>>,
 ) -> Result<Vec<&'static str>, AllocError>
-    ensures { IfOk result (λ found. words found.items ≡ changed (objects.Container old.now) (seen new.now)) }
+    ensures { IfOk result (λ found. name_bytes found.items ≡ changed (objects.Container old.now) (seen new.now)) }
 {
     let Object::Container(new) = new else {
         return Ok(Vec::new(alloc));

@@ -3,7 +3,7 @@
 ghost use Rattle.std.specs.Prelude.{◌≡◌, IfOk};
 ghost use Rattle.std.specs.List.{flat_map};
 ghost use Rattle.std.specs.Ordering.{int_eq};
-ghost use Rattle.vt_changes.specs.Names.{named, words};
+ghost use Rattle.vt_changes.specs.Names.{named, name_bytes};
 
 use std::alloc::{AllocError, Global};
 
@@ -12,7 +12,7 @@ pub(crate) fn changed_among(
     alloc: Global,
     fields: &[(&'static str, bool)],
 ) -> Result<Vec<&'static str>, AllocError>
-    ensures { IfOk result (λ found. words found.items ≡ flat_map (λ f. named f.0.now f.1) fields.now) }
+    ensures { IfOk result (λ found. name_bytes found.items ≡ flat_map (λ f. named f.0.now f.1) fields.now) }
 {
     let mut names = Vec::new(alloc);
     for (name, is_equal) in fields {
@@ -23,7 +23,7 @@ pub(crate) fn changed_among(
     Ok(names)
 }
 
-/// Whether two signed numbers are equal.
+/// Whether two signed numbers are equal. A function for its contract: `==` in a table says nothing of `int_eq`.
 pub(crate) fn are_equal(old: i32, new: i32) -> bool
     ensures { result ≡ int_eq old new }
 {

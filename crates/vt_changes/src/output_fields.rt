@@ -4,7 +4,7 @@ ghost use Rattle.std.specs.Prelude.{◌≡◌, IfOk};
 ghost use Rattle.vt_kinds.specs.declared.object.Object.TheVariants as objects;
 ghost use Rattle.vt_kinds.specs.Records.{seen};
 ghost use Rattle.vt_changes.specs.Changes.{changed};
-ghost use Rattle.vt_changes.specs.Names.{words};
+ghost use Rattle.vt_changes.specs.Names.{name_bytes};
 
 use crate::names::{are_equal, changed_among};
 use std::alloc::{AllocError, Global};
@@ -16,7 +16,7 @@ pub(crate) fn output_string(
     old: &OutputString<Vec<u8>>,
     new: &Object<Vec<u8>>,
 ) -> Result<Vec<&'static str>, AllocError>
-    ensures { IfOk result (λ found. words found.items ≡ changed (seen (objects.OutputString old.now)) (seen new.now)) }
+    ensures { IfOk result (λ found. name_bytes found.items ≡ changed (seen (objects.OutputString old.now)) (seen new.now)) }
 {
     let Object::OutputString(new) = new else {
         return Ok(Vec::new(alloc));
@@ -43,7 +43,7 @@ pub(crate) fn output_number(
     old: &OutputNumber,
     new: &Object<Vec<u8>>,
 ) -> Result<Vec<&'static str>, AllocError>
-    ensures { IfOk result (λ found. words found.items ≡ changed (objects.OutputNumber old.now) (seen new.now)) }
+    ensures { IfOk result (λ found. name_bytes found.items ≡ changed (objects.OutputNumber old.now) (seen new.now)) }
 {
     let Object::OutputNumber(new) = new else {
         return Ok(Vec::new(alloc));

@@ -4,7 +4,7 @@ ghost use Rattle.std.specs.Prelude.{◌≡◌, IfOk};
 ghost use Rattle.vt_kinds.specs.declared.object.Object.TheVariants as objects;
 ghost use Rattle.vt_kinds.specs.Records.{seen};
 ghost use Rattle.vt_changes.specs.Changes.{changed};
-ghost use Rattle.vt_changes.specs.Names.{words};
+ghost use Rattle.vt_changes.specs.Names.{name_bytes};
 
 use crate::names::changed_among;
 use std::alloc::{AllocError, Global};
@@ -16,7 +16,7 @@ pub(crate) fn line(
     old: &Line,
     new: &Object<Vec<u8>>,
 ) -> Result<Vec<&'static str>, AllocError>
-    ensures { IfOk result (λ found. words found.items ≡ changed (objects.Line old.now) (seen new.now)) }
+    ensures { IfOk result (λ found. name_bytes found.items ≡ changed (objects.Line old.now) (seen new.now)) }
 {
     let Object::Line(new) = new else {
         return Ok(Vec::new(alloc));
@@ -42,7 +42,7 @@ pub(crate) fn rectangle(
     old: &Rectangle,
     new: &Object<Vec<u8>>,
 ) -> Result<Vec<&'static str>, AllocError>
-    ensures { IfOk result (λ found. words found.items ≡ changed (objects.Rectangle old.now) (seen new.now)) }
+    ensures { IfOk result (λ found. name_bytes found.items ≡ changed (objects.Rectangle old.now) (seen new.now)) }
 {
     let Object::Rectangle(new) = new else {
         return Ok(Vec::new(alloc));
@@ -69,7 +69,7 @@ pub(crate) fn ellipse(
     old: &Ellipse,
     new: &Object<Vec<u8>>,
 ) -> Result<Vec<&'static str>, AllocError>
-    ensures { IfOk result (λ found. words found.items ≡ changed (objects.Ellipse old.now) (seen new.now)) }
+    ensures { IfOk result (λ found. name_bytes found.items ≡ changed (objects.Ellipse old.now) (seen new.now)) }
 {
     let Object::Ellipse(new) = new else {
         return Ok(Vec::new(alloc));
@@ -98,7 +98,7 @@ pub(crate) fn polygon(
     old: &Polygon,
     new: &Object<Vec<u8>>,
 ) -> Result<Vec<&'static str>, AllocError>
-    ensures { IfOk result (λ found. words found.items ≡ changed (objects.Polygon old.now) (seen new.now)) }
+    ensures { IfOk result (λ found. name_bytes found.items ≡ changed (objects.Polygon old.now) (seen new.now)) }
 {
     let Object::Polygon(new) = new else {
         return Ok(Vec::new(alloc));

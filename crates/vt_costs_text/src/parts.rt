@@ -1,6 +1,7 @@
 //! The parts of lines: steps, events, macros and commands.
 
 ghost use Rattle.std.specs.Prelude.{◌≡◌, nat_lt};
+ghost use Rattle.vt_chains.specs.Limits.{terminal};
 
 use std::io::{self, Write};
 use vt_costs::{Breakdown, EventCost, MOST_STEPS};
@@ -10,7 +11,7 @@ use vt_verify::TERMINAL_LIMITS;
 
 /// Whether so many steps are more than an event or a macro of an accepted pool can take.
 pub fn is_over(steps: u64) -> bool
-    ensures { result ≡ nat_lt 1000000 steps }
+    ensures { result ≡ nat_lt terminal.steps steps }
 {
     steps > u64::from(TERMINAL_LIMITS.steps)
 }

@@ -95,21 +95,34 @@ fn other_files_are_checked_beside_a_missing_one(rt: HostRuntime) -> Result<(), F
     expect_run(&rt, &(&["s", "check"], Status::NotJudged, "", true))
 }
 
-/// Words that ask for the standard input twice, and words without a subcommand.
-const REFUSED: [&[&str]; 4] = [
+/// Words that ask for the standard input twice.
+const TWICE: [&[&str]; 3] = [
     &["s", "check", "-", "-"],
     &["s", "check", "-", "--names", "-"],
     &["s", "diff", "-", "-"],
-    &["s"],
 ];
+
+/// The message for them.
+const GIVEN_TWICE: &str =
+    "error: - is given more than once, but the standard input can be read once; give the other files by their paths\n";
 
 #[test]
 fn the_standard_input_is_read_once(rt: HostRuntime) -> Result<(), Fail> {
-    for words in REFUSED {
-        expect_run(&rt, &(words, Status::NotJudged, "", true))?;
+    for words in TWICE {
+        let mut out = Vec::new(rt.alloc());
+        let mut errors = Vec::new(rt.alloc());
+        let alloc = rt.alloc();
+        let ended = run(alloc, words, Look::Plain, &mut Shelf, &mut out, &mut errors)?;
+        assert_eq!(rt; ended, Status::NotJudged, "{words:?}");
+        assert_eq!(rt; errors.as_slice(), GIVEN_TWICE.as_bytes(), "{words:?}");
     }
     let one = "-: 0 errors, 0 warnings, 3 objects\n";
     expect_run(&rt, &(&["s", "check", "-"], Status::Clean, one, false))
+}
+
+#[test]
+fn words_without_a_subcommand_are_refused(rt: HostRuntime) -> Result<(), Fail> {
+    expect_run(&rt, &(&["s"], Status::NotJudged, "", true))
 }
 
 /// A run of the program, whose output is coloured.

@@ -167,6 +167,7 @@ impl<'a> Options<'a> {
             Some(("needs", matches)) => Options::Needs(needs_options(alloc, matches)?),
             Some(("diff", matches)) => Options::Diff(diff_options(alloc, matches)?),
             Some((_, matches)) => Options::Check(check_options(alloc, matches)?),
+            // clap refuses these words; its contract does not say so.
             None => return Err(UsageError::NoSubcommand),
         };
         if options.inputs() > 1 {
