@@ -1,7 +1,6 @@
 -- The steps of events and commands, by the counted steps of macros.
-use Rattle.std.proofs.Common.{◌≡◌, ℕ, ◌+◌, ◌<◌, ◌≤◌, ◌^◌, min, max, Bool, true, false, cond, List, [], ◌∷◌, ◌++◌, length, map, Option, Some, None, refl, sym, ap, subst, ◌∙◌, arith, inl, inr}
-use Rattle.std.proofs.lemmas.List.{append-nil}
-use Rattle.std.proofs.lemmas.List.Elements.{Contains-append_cases, Contains-append_left, Contains-push, Contains-push_cases}
+use Rattle.std.proofs.Common.{◌≡◌, ℕ, ◌+◌, ◌<◌, ◌≤◌, min, Bool, true, false, cond, List, [], ◌∷◌, ◌++◌, length, map, Option, Some, None, refl, sym, ap, subst, ◌∙◌, arith, inl, inr}
+use Rattle.std.proofs.lemmas.List.Elements.{Contains-append_left, Contains-push, Contains-push_cases}
 use Rattle.std.specs.Prelude.{sum_by, slice_index, Contains}
 use Rattle.vt_commands.specs.declared.command.Command.{Command}
 use Rattle.vt_rank.specs.Costs.{greatest}
@@ -10,10 +9,9 @@ use Rattle.vt_rank.proofs.Totals.{sum_by-meets}
 use Rattle.vt_stores.specs.Shapes.{Shape}
 use Rattle.vt_verify.specs.declared.listing.Listing.{Listing}
 use Rattle.vt_verify.specs.Budgets.{cost, budget, total, command_cost, hidden_cost}
-use Rattle.vt_verify.specs.TriggerGraphs.{if_any, if_listed}
+use Rattle.vt_verify.specs.TriggerGraphs.{if_any}
 use Rattle.vt_verify.specs.Triggers.{listing, listed, row_listings, changes_mask, masks}
 use Rattle.vt_costs.specs.declared.share.EventCost.{EventCost}
-use Rattle.vt_costs.specs.declared.share.Share.{Share}
 use Rattle.vt_costs.specs.declared.share.Share.TheVariants as shares
 use Rattle.vt_costs.specs.declared.share.TheConstants.{MOST_STEPS}
 use Rattle.vt_costs.specs.CostedPools.{AreMacroSteps}

@@ -1,18 +1,15 @@
 -- The shares of macros add up to their costs.
-use Rattle.std.proofs.Common.{◌≡◌, ℕ, ◌+◌, min, List, [], ◌∷◌, ◌++◌, length, map, Option, Some, None, refl, sym, ap, ap₂, ◌∙◌, arith}
+use Rattle.std.proofs.Common.{◌≡◌, ℕ, ◌+◌, List, [], ◌∷◌, ◌++◌, length, map, Option, Some, None, refl, sym, ap, ap₂, ◌∙◌, arith}
 use Rattle.std.proofs.lemmas.List.Sums.{sum_by-cons, sum_by-append}
 use Rattle.std.specs.Prelude.{sum_by}
 use Rattle.std.specs.Option.{option_to_list}
 use Rattle.std.specs.List.{flat_map}
-use Rattle.vt_chains.specs.Limits.{terminal}
 use Rattle.vt_commands.specs.declared.command.Command.{Command}
 use Rattle.vt_rank.proofs.Totals.{sum_by-meets}
-use Rattle.vt_stores.specs.Shapes.{Shape, Fixed, fixed_at, shape_of}
-use Rattle.vt_stores.specs.Stores.{Objects}
+use Rattle.vt_stores.specs.Shapes.{Shape, Fixed, fixed_at}
 use Rattle.vt_verify.specs.declared.listing.Listing.{Listing}
 use Rattle.vt_verify.specs.Budgets.{MacroCostsAreTotals, budget, cost, command_cost}
-use Rattle.vt_verify.specs.Macros.{Piece, macro_bytes_in, macro_command, with_offsets, cut_or_none, pieces_of, commands_of, commands_in, commands}
-use Rattle.vt_verify.specs.Rules.{IsAcceptable}
+use Rattle.vt_verify.specs.Macros.{macro_bytes_in, macro_command, with_offsets, cut_or_none, pieces_of, commands_of, commands}
 use Rattle.vt_verify.specs.TriggerGraphs.{if_any}
 use Rattle.vt_verify.specs.Triggers.{listed, row_listings}
 use Rattle.vt_verify.proofs.lemmas.graphs.SameCosts.{sums_of_sums, same_sums}
@@ -22,7 +19,7 @@ use Rattle.vt_costs.specs.declared.share.Share.{Share}
 use Rattle.vt_costs.specs.declared.share.Share.TheVariants as shares
 use Rattle.vt_costs.specs.declared.share.TheConstants.{MOST_STEPS}
 use Rattle.vt_costs.specs.Shares.{counted, event_cost, hide_by, steps_of, IsCostliestHide, event_shares, command_shares, piece_shares, bytes_at, macro_shares, function_of}
-use Rattle.vt_costs.specs.Sums.{steps_of_command, steps_of_event, EventsAddUp, MacrosAddUp, CommandsAddUp, AddsUp, CostsAddUp, AcceptedCostsAreBudgets}
+use Rattle.vt_costs.specs.Sums.{steps_of_command, steps_of_event, EventsAddUp, MacrosAddUp, CommandsAddUp, CostsAddUp, AcceptedCostsAreBudgets}
 use Rattle.vt_costs.proofs.EventSteps.{raised_steps, budget_is, command_is}
 
 -- ---- the commands in shares

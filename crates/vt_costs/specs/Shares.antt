@@ -1,5 +1,5 @@
 -- What events and macros cost, and the shares of commands (docs/PROFILE.md, "Costs and budgets").
-use Rattle.std.specs.Prelude.{◌≡◌, ℕ, ◌+◌, ◌<◌, ◌≤◌, min, sum_by, if◌then◌else◌, List, [], ◌∷◌, ◌++◌, map, Option, Some, None, slice_index, Contains}
+use Rattle.std.specs.Prelude.{◌≡◌, ℕ, ◌<◌, ◌≤◌, min, if◌then◌else◌, List, ◌∷◌, ◌++◌, map, Option, Some, None, slice_index, Contains}
 use Rattle.std.specs.Option.{option_to_list}
 use Rattle.std.specs.List.{flat_map}
 use Rattle.vt_commands.specs.declared.command.Command.{Command}

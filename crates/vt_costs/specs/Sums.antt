@@ -1,13 +1,11 @@
 -- Each number of a breakdown is the sum of those below it.
-use Rattle.std.specs.Prelude.{◌≡◌, ℕ, ◌+◌, sum_by, List, [], ◌∷◌, Option, Some, None}
-use Rattle.std.specs.List.{flat_map}
+use Rattle.std.specs.Prelude.{◌≡◌, ℕ, ◌+◌, sum_by, Option}
 use Rattle.vt_commands.specs.declared.command.Command.{Command}
 use Rattle.vt_chains.specs.Limits.{terminal}
 use Rattle.vt_stores.specs.Shapes.{Shape, shape_of}
 use Rattle.vt_stores.specs.Stores.{Objects}
 use Rattle.vt_verify.specs.declared.listing.Listing.{Listing}
 use Rattle.vt_verify.specs.Budgets.{MacroCostsAreTotals, budget, cost}
-use Rattle.vt_verify.specs.Macros.{commands}
 use Rattle.vt_verify.specs.Rules.{IsAcceptable}
 use Rattle.vt_verify.specs.Triggers.{listed}
 use Rattle.vt_costs.specs.declared.share.EventCost.{EventCost}

@@ -1,5 +1,5 @@
 -- The children of masks, containers, buttons and keys, by the areas that they take (docs/PROFILE.md, "Warnings").
-use Rattle.std.specs.Prelude.{◌≤◌, ℕ, ℤ, zero, suc, pos, ◌*◌, ◌/◌, ◌+ℤ◌, int_lt, Bool, ◌||◌, List, [], ◌∷◌, ◌++◌, Option, Some, None}
+use Rattle.std.specs.Prelude.{◌≤◌, ℕ, zero, suc, pos, ◌*◌, ◌/◌, ◌+ℤ◌, int_lt, Bool, ◌||◌, List, [], ◌∷◌, ◌++◌, Option, Some, None}
 use Rattle.std.specs.FinMap as finite
 use Rattle.std.specs.Option.{option_map, option_to_list}
 use Rattle.vt_kinds.specs.declared.entries.Child.{Child}

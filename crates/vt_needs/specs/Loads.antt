@@ -1,5 +1,5 @@
 -- The steps that the events of an accepted pool can take, and the inclusions of its chains (docs/PROFILE.md, "Needs").
-use Rattle.std.specs.Prelude.{◌≡◌, ◌≤◌, ◌<◌, ℕ, Option, Some, None}
+use Rattle.std.specs.Prelude.{◌≡◌, ◌≤◌, ◌<◌, ℕ}
 use Rattle.std.specs.List.{AllByRecursion}
 use Rattle.vt_stores.specs.Shapes.{Shape, shape_of}
 use Rattle.vt_stores.specs.Stores.{Objects}

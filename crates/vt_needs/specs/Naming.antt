@@ -1,9 +1,9 @@
 -- The IDs that the objects of a pool name (docs/PROFILE.md, "Warnings").
-use Rattle.std.specs.Prelude.{ℕ, Bool, true, false, not, ◌&&◌, ◌||◌, ◌==◌, List, ◌++◌, map, slice_index_or}
+use Rattle.std.specs.Prelude.{ℕ, Bool, true, false, ◌||◌, ◌==◌, List, ◌++◌, map, slice_index_or}
 use Rattle.std.specs.List.{flat_map, list_any}
 use Rattle.vt_kinds.specs.declared.kind.Kind.{Kind}
 use Rattle.vt_kinds.specs.declared.kind.Kind.TheVariants as kinds
-use Rattle.vt_kinds.specs.Records.{Seen, kind_of}
+use Rattle.vt_kinds.specs.Records.{Seen}
 use Rattle.vt_kinds.specs.References.{slots_of}
 use Rattle.vt_stores.specs.Shapes.{Shape, shape_of, fixed}
 use Rattle.vt_stores.specs.Stores.{Objects}

@@ -6,7 +6,6 @@ use Rattle.vt_stores.specs.Stores.{seen_entry}
 use Rattle.std.specs.List.{AllByRecursion}
 use Rattle.vt_kinds.specs.Records.{Seen}
 use Rattle.vt_stores.specs.Shapes.{Shape}
-use Rattle.vt_verify.specs.Budgets.{budget}
 use Rattle.vt_needs.specs.Loads.{IsWithin}
 
 within_more : (shape : Shape) (a b id : ℕ) → a ≤ b → IsWithin shape a id → IsWithin shape b id

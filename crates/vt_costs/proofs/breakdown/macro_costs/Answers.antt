@@ -1,7 +1,6 @@
-use Rattle.std.proofs.Common.{◌≡◌, ℕ, List, [], ◌∷◌, ◌++◌, get_or, map, take, sym, ap, ap₂, ◌∙◌, arith}
+use Rattle.std.proofs.Common.{List, [], ◌∷◌, ◌++◌, get_or, map, take, sym, ap, ap₂, ◌∙◌, arith}
 use Rattle.std.proofs.lemmas.List.{take_more, take_all, map-append}
 use Rattle.vt_stores.specs.Shapes.{shape_of}
-use Rattle.vt_costs.specs.declared.share.MacroCost.{MacroCost}
 use Rattle.vt_costs.specs.Shares.{MacroRow, row_of, macro_row}
 use Rattle.vt_costs.proofs.breakdown.macro_costs.Goals as goal
 

@@ -1,4 +1,4 @@
-use Rattle.std.proofs.Common.{◌≡◌, ℕ, false, ◌++◌, drop}
+use Rattle.std.proofs.Common.{◌≡◌, false, ◌++◌, drop}
 use Rattle.std.specs.Prelude.{filter, slice_index_or}
 use Rattle.vt_costs.proofs.runnable.of_order.Given as goal
 

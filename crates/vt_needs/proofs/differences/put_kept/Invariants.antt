@@ -1,6 +1,6 @@
 use Rattle.std.proofs.Common.{◌≡◌, ◌++◌, map, drop}
 use Rattle.std.specs.List.{flat_map}
-use Rattle.vt_stores.specs.Stores.{seen_entry, object_at, AreStored}
+use Rattle.vt_stores.specs.Stores.{seen_entry, object_at}
 use Rattle.vt_needs.specs.Differences.{kept_or_removed}
 use Rattle.vt_needs.proofs.differences.put_kept.Given as goal
 

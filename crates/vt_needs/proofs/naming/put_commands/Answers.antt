@@ -1,4 +1,4 @@
-use Rattle.std.proofs.Common.{◌≡◌, ℕ, ◌||◌, List, map, Option, Some, sym, ap, ◌∙◌}
+use Rattle.std.proofs.Common.{◌≡◌, ◌||◌, List, map, Some, sym, ap, ◌∙◌}
 use Rattle.std.specs.List.{flat_map}
 use Rattle.std.specs.Option.{option_map}
 use Rattle.vt_commands.specs.declared.command.Command.{Command}

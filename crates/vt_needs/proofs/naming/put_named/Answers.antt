@@ -1,4 +1,4 @@
-use Rattle.std.proofs.Common.{◌≡◌, ℕ, ◌||◌, List, map, sym, ap, ◌∙◌}
+use Rattle.std.proofs.Common.{ℕ, ◌||◌, List, map, sym, ap, ◌∙◌}
 use Rattle.std.proofs.lemmas.List.{map-append}
 use Rattle.vt_kinds.specs.declared.entries.MacroEntry.{MacroEntry}
 use Rattle.vt_stores.proofs.ObjectShapes.{seen_macros}

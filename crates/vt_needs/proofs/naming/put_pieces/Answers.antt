@@ -1,4 +1,4 @@
-use Rattle.std.proofs.Common.{◌≡◌, ℕ, ◌||◌, List, map, sym, ap, ◌∙◌}
+use Rattle.std.proofs.Common.{ℕ, ◌||◌, List, map, sym, ap, ◌∙◌}
 use Rattle.std.proofs.lemmas.Grind.{flat_map-append}
 use Rattle.std.proofs.lemmas.List.{map-append}
 use Rattle.std.specs.List.{flat_map}

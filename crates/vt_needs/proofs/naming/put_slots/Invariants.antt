@@ -1,6 +1,6 @@
 use Rattle.std.proofs.Common.{◌≡◌, ℕ, map}
 use Rattle.vt_kinds.specs.Records.{seen}
-use Rattle.vt_needs.specs.Naming.{has, has_with, slot_ids}
+use Rattle.vt_needs.specs.Naming.{has_with, slot_ids}
 use Rattle.vt_needs.proofs.naming.put_slots.Given as goal
 
 abbrev pub invariant-loop-slot : goal.invariant-loop-slot

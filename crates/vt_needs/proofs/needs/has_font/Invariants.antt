@@ -1,8 +1,5 @@
 use Rattle.std.proofs.Common.{◌≡◌, map, drop}
-use Rattle.std.specs.Prelude.{◌==◌}
 use Rattle.std.specs.List.{list_any}
-use Rattle.vt_kinds.specs.Kinds.{kind_number}
-use Rattle.vt_kinds.specs.Records.{kind_of}
 use Rattle.vt_stores.specs.Stores.{seen_entry}
 use Rattle.vt_needs.specs.Needs.{has_font, is_font_of}
 use Rattle.vt_needs.proofs.needs.has_font.Given as goal

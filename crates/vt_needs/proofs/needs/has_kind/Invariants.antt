@@ -4,7 +4,7 @@ use Rattle.std.specs.List.{list_any}
 use Rattle.vt_kinds.specs.Kinds.{kind_number}
 use Rattle.vt_kinds.specs.Records.{kind_of}
 use Rattle.vt_stores.specs.Stores.{seen_entry}
-use Rattle.vt_needs.specs.Needs.{has_kind, is_font_of}
+use Rattle.vt_needs.specs.Needs.{has_kind}
 use Rattle.vt_needs.proofs.needs.has_kind.Given as goal
 
 abbrev pub invariant-loop-object : goal.invariant-loop-object

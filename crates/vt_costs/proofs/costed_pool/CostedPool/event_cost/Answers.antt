@@ -2,7 +2,6 @@ use Rattle.std.proofs.Common.{ℕ, List, min, ap, ◌∙◌}
 use Rattle.std.specs.Prelude.{sum_by, slice_index}
 use Rattle.vt_stores.specs.Shapes.{shape_of}
 use Rattle.vt_verify.specs.Triggers.{listing}
-use Rattle.vt_costs.specs.declared.share.EventCost.{EventCost}
 use Rattle.vt_costs.specs.declared.share.TheConstants.{MOST_STEPS}
 use Rattle.vt_costs.proofs.EventSteps.{event_is}
 use Rattle.vt_costs.proofs.costed_pool.CostedPool.event_cost.Goals as goal
