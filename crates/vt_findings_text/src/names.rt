@@ -1,6 +1,6 @@
 //! The names of objects, from files.
 
-ghost use Rattle.std.specs.Prelude.{◌≡◌};
+ghost use Rattle.std.specs.Prelude.{◌≡◌, ℕ, None};
 ghost use Rattle.std.specs.Option.{option_map};
 ghost use Rattle.vt_findings_text.specs.Labels.{name_at};
 
@@ -16,7 +16,9 @@ pub struct Names {
 
 impl Names {
     /// No names. Allocates nothing.
-    pub fn new(alloc: Global) -> Names {
+    pub fn new(alloc: Global) -> Names
+        ensures { (id : ℕ) → name_at result id ≡ None }
+    {
         Names {
             names: BTreeMap::new(alloc),
         }

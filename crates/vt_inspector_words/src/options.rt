@@ -1,5 +1,8 @@
 //! The options that the words give.
 
+ghost use Rattle.std.specs.Prelude.{IsTrue, ◌↔◌};
+ghost use Rattle.vt_inspector_words.specs.Refusals.{AsksForHelp};
+
 use crate::words::command;
 use clap::error::ErrorKind;
 use clap::{ArgMatches, Error};
@@ -102,7 +105,9 @@ pub enum UsageError<'a> {
 
 impl UsageError<'_> {
     /// Whether help or the version is asked for.
-    pub fn is_help(&self) -> bool {
+    pub fn is_help(&self) -> bool
+        ensures { IsTrue result ↔ AsksForHelp self.now }
+    {
         match self {
             UsageError::Words(error) => !error.use_stderr(),
             UsageError::Size(_)

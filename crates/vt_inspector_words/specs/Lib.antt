@@ -1,0 +1,2 @@
+-- The specifications that the contracts of vt_inspector_words use.
+pub mod Refusals
