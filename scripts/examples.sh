@@ -6,7 +6,7 @@ cd "$(dirname "$0")/.."
 # The files that a program of the gate runs on.
 files_of() {
     case $1 in
-        vt_examples) (cd examples && ls -- *.log *.iop) ;;
+        vt_examples) (cd examples && ls -- *.log fault-*.iop refusal-*.iop pool.iop sprayer.iop) ;;
         vt_replay) echo seeder.log ;;
         vt_sample) echo sprayer.iop ;;
         vt_pool_examples) (cd examples && ls -- *.iop *.h) ;;

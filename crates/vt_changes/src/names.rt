@@ -23,7 +23,7 @@ pub(crate) fn changed_among(
     Ok(names)
 }
 
-/// Whether two signed numbers are equal. A function for its contract: `==` in a table says nothing of `int_eq`.
+/// Whether two signed numbers are equal. `==` on signed numbers in a table has no contract, and this call has one.
 pub(crate) fn are_equal(old: i32, new: i32) -> bool
     ensures { result ≡ int_eq old new }
 {

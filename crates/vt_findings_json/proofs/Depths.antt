@@ -13,7 +13,7 @@ use Rattle.vt_inspect.specs.declared.finding.Spot.TheVariants as spots
 use Rattle.vt_needs.specs.declared.warning.Warning.{Warning}
 use Rattle.vt_needs.specs.declared.warning.Warning.TheVariants as warnings
 use Rattle.vt_findings_text.specs.Labels.{Labelled, label_at}
-use Rattle.vt_findings_json.specs.Json.{Head, line_data, label_data, text_or_null, number_data, signed_data, spot_details, budget_details, finding_details, warning_details, details_of}
+use Rattle.vt_findings_json.specs.Json.{Head, line_data, label_data, object_data, text_or_null, number_data, signed_data, spot_details, budget_details, finding_details, warning_details, details_of}
 
 text_depth : (text : Option (List ℕ)) → depth (text_or_null text) ≡ 0
 text_depth None = refl
@@ -23,12 +23,12 @@ signed_depth : (z : ℤ) → depth (signed_data z) ≡ 0
 signed_depth (pos n) = refl
 signed_depth (negsuc n) = refl
 
-numbers_depth : (ns : List ℕ) → items_depth (items_of (map number_data ns)) ≡ 0
-numbers_depth [] = refl
-numbers_depth (n ∷ ns) = ap (max 0) (numbers_depth ns)
-
 pub label_depth : (label : Labelled) → depth (label_data label) ≡ 1
 label_depth label = simp text_depth
+
+objects_depth : (source : Source) (ids : List ℕ) → items_depth (items_of (map (object_data source) ids)) ≤ 1
+objects_depth source [] = omega arith
+objects_depth source (id ∷ ids) = omega (arith, label_depth (label_at source id), objects_depth source ids)
 
 reference_depth : (source : Source) (spot : Spot) (named parent : Labelled) → depth (spot_details source spot (label_data named) (label_data parent)) ≤ 3
 reference_depth source (spots.Slot place) named parent = simp label_depth (omega arith)
@@ -46,13 +46,13 @@ finding_depth source findings.NoWorkingSet = omega arith
 finding_depth source (findings.TwoWorkingSets id) = simp label_depth (omega arith)
 finding_depth source (findings.Missing found) = reference_depth source found.spot (label_at source found.reference.id) (label_at source found.reference.parent)
 finding_depth source (findings.WrongKind found) = reference_depth source found.spot (label_at source found.reference.id) (label_at source found.reference.parent)
-finding_depth source (findings.TooDeep chain) = simp numbers_depth (omega arith)
+finding_depth source (findings.TooDeep chain) = omega (arith, objects_depth source chain.items)
 finding_depth source (findings.MacroBytes id) = simp label_depth (omega arith)
 finding_depth source (findings.MacroCommand id at function) = simp label_depth (omega arith)
 finding_depth source (findings.MacroMissing found) = reference_depth source found.spot (label_at source found.reference.id) (label_at source found.reference.parent)
 finding_depth source (findings.MacroKind found) = reference_depth source found.spot (label_at source found.reference.id) (label_at source found.reference.parent)
 finding_depth source (findings.MacroValue id at changed attribute) = simp label_depth (omega arith)
-finding_depth source (findings.MacroCircle path) = simp numbers_depth (omega arith)
+finding_depth source (findings.MacroCircle path) = omega (arith, objects_depth source path.items)
 finding_depth source (findings.OverBudget id event) = budget_depth (label_at source id) event
 
 warning_depth : (source : Source) (warning : Warning) → depth (warning_details source warning) ≤ 3

@@ -118,8 +118,8 @@ value_details named at attribute changed =
 abbrev pub array_details : List Data → Data
 array_details ids = object (member (codes "path") (array (items_of ids)) no_members)
 
-abbrev pub path_details : List ℕ → Data
-path_details ids = array_details (map number_data ids)
+abbrev pub path_details : Source → List ℕ → Data
+path_details source ids = array_details (map (object_data source) ids)
 
 abbrev pub finding_details : Source → Finding → Data
 finding_details source (findings.Record fault) = no_details
@@ -127,13 +127,13 @@ finding_details source findings.NoWorkingSet = no_details
 finding_details source (findings.TwoWorkingSets id) = object_details (object_data source id)
 finding_details source (findings.Missing found) = reference_details source found
 finding_details source (findings.WrongKind found) = reference_details source found
-finding_details source (findings.TooDeep chain) = path_details chain.items
+finding_details source (findings.TooDeep chain) = path_details source chain.items
 finding_details source (findings.MacroBytes id) = object_details (object_data source id)
 finding_details source (findings.MacroCommand id at function) = command_details (object_data source id) at function
 finding_details source (findings.MacroMissing found) = reference_details source found
 finding_details source (findings.MacroKind found) = reference_details source found
 finding_details source (findings.MacroValue id at changed attribute) = value_details (object_data source id) at attribute (object_data source changed)
-finding_details source (findings.MacroCircle path) = path_details path.items
+finding_details source (findings.MacroCircle path) = path_details source path.items
 finding_details source (findings.OverBudget id event) = budget_details (object_data source id) event
 
 -- ---- the details of a warning

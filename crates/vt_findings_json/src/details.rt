@@ -59,7 +59,10 @@ fn finding_details(
         | Finding::WrongKind(found)
         | Finding::MacroMissing(found)
         | Finding::MacroKind(found) => reference_details(alloc, source, found),
-        Finding::TooDeep { chain } => path_details(alloc, chain_values(alloc, chain.as_slice())?),
+        Finding::TooDeep { chain } => {
+            let path = chain_values(alloc, source, chain.as_slice())?;
+            path_details(alloc, path)
+        }
         Finding::MacroCommand { id, at, function } => {
             let object = object_value(alloc, source, *id)?;
             command_details(alloc, object, *at, *function)
@@ -74,10 +77,10 @@ fn finding_details(
             let object = object_value(alloc, source, *id)?;
             value_details(alloc, object, *at, *attribute, changed)
         }
-        Finding::MacroCircle { path } => path_details(
-            alloc,
-            circle_values(alloc, path.as_slice())?,
-        ),
+        Finding::MacroCircle { path } => {
+            let path = circle_values(alloc, source, path.as_slice())?;
+            path_details(alloc, path)
+        }
         Finding::OverBudget { id, event } => {
             let object = object_value(alloc, source, *id)?;
             match event {
@@ -108,24 +111,35 @@ fn reference_details(
     }
 }
 
-fn chain_values(alloc: Global, chain: &[ObjectId]) -> Result<Vec<Value>, AllocError>
-    ensures { IfOk result (λ ids. map view ids.items ≡ map json_of.number_data chain.now) }
+/// The objects of a chain.
+fn chain_values(
+    alloc: Global,
+    source: &Source<'_>,
+    chain: &[ObjectId],
+) -> Result<Vec<Value>, AllocError>
+    ensures { IfOk result (λ path. map view path.items ≡ map (json_of.object_data source.now) chain.now) }
 {
-    let mut ids = Vec::new(alloc);
+    let mut path = Vec::new(alloc);
     for id in chain {
-        ids.push(Value::from(u64::from(id.raw())))?;
+        path.push(object_value(alloc, source, *id)?)?;
     }
-    Ok(ids)
+    Ok(path)
 }
 
-fn circle_values(alloc: Global, path: &[u8]) -> Result<Vec<Value>, AllocError>
-    ensures { IfOk result (λ ids. map view ids.items ≡ map json_of.number_data path.now) }
+/// The macros of a circle.
+fn circle_values(
+    alloc: Global,
+    source: &Source<'_>,
+    circle: &[u8],
+) -> Result<Vec<Value>, AllocError>
+    ensures { IfOk result (λ path. map view path.items ≡ map (json_of.object_data source.now) circle.now) }
 {
-    let mut ids = Vec::new(alloc);
-    for id in path {
-        ids.push(Value::from(u64::from(*id)))?;
+    let mut path = Vec::new(alloc);
+    for id in circle {
+        let id = ObjectId::from_raw(u16::from(*id));
+        path.push(object_value(alloc, source, id)?)?;
     }
-    Ok(ids)
+    Ok(path)
 }
 
 fn warning_details(

@@ -2,5 +2,6 @@
 pub mod Codes
 pub mod Events
 pub mod Labels
+pub mod Messages
 pub mod Severities
 pub mod Spots

@@ -12,7 +12,7 @@ use std::fmt;
 pub enum Severity {
     /// A terminal refuses the pool.
     Error,
-    /// A terminal accepts the pool all the same.
+    /// A terminal does not refuse the pool for this.
     Warning,
     /// Some rules were not judged.
     Note,

@@ -89,10 +89,10 @@ impl fmt::Display for FindingSentence<'_, '_> {
 fn note_sentence(note: Note) -> &'static str {
     match note {
         Note::Unread { .. } => {
-            "the bytes from here on cannot be read, so nothing is called missing or unused (R01, R03, R08, W02 not judged)"
+            "the bytes from here on cannot be read, so nothing is called missing or unused (R01, R03, R08, W02 not judged; R04, R09, W03 to W05 only for objects that were read)"
         }
         Note::UnknownTriggers => {
-            "a macro ends inside a command, so triggers are not known (R11, R12 not judged)"
+            "a macro ends inside a command, so triggers are not known (R11, R12 not judged; R07 to R10 not for the commands of such a macro)"
         }
         Note::UnknownCosts => {
             "macros trigger each other in a circle, so costs are not known (R12 not judged)"
@@ -150,7 +150,7 @@ impl FindingSentence<'_, '_> {
         }
     }
 
-    /// Writes a chain of inclusions.
+    /// Writes a chain of inclusions, each object by its label.
     fn write_chain<W: fmt::Write>(
         &self,
         f: &mut fmt::Formatter<W>,
@@ -161,8 +161,9 @@ impl FindingSentence<'_, '_> {
             "inclusions more than {} deep, or a circle of them:",
             TERMINAL_LIMITS.inclusions
         )?;
-        for id in chain {
-            write!(f, " {}", id.raw())?;
+        for (index, id) in chain.iter().enumerate() {
+            let separator = if index == 0 { "" } else { " >" };
+            write!(f, "{separator} {}", self.source.label(*id))?;
         }
         Ok(())
     }

@@ -1,10 +1,12 @@
 //! An inspected pool with its path and its names.
 
-ghost use Rattle.std.specs.Prelude.{◌≡◌};
+ghost use Rattle.std.specs.Prelude.{◌≡◌, ◌≤◌, length, IfOk, IsSome};
 ghost use Rattle.std.specs.Option.{option_map};
 ghost use Rattle.vt_kinds.specs.Records.{kind_of};
 ghost use Rattle.vt_stores.specs.Stores.{object_at};
 ghost use Rattle.vt_findings_text.specs.Labels.{label_seen, label_at};
+ghost use Rattle.vt_findings_text.specs.Messages.{IsItemOffset, IsMessage, IsRecordAt, note_offset, object_of};
+ghost use Rattle.vt_inspect.specs.Places.{HasOffset, IsOffset, place_of};
 
 use crate::codes::code_of;
 use crate::item::Item;
@@ -13,7 +15,7 @@ use crate::message::{Message, severity_of};
 use crate::names::Names;
 use crate::sentences::Sentence;
 use std::alloc::{AllocError, Global};
-use vt_inspect::{Inspection, Note};
+use vt_inspect::{Finding, Inspection, Note};
 use vt_needs::Warning;
 use vt_objects::{Kind, ObjectId, SortedStore, Store};
 
@@ -40,8 +42,10 @@ impl<'a> Source<'a> {
         }
     }
 
-    /// The message of an item.
-    pub fn message(&self, alloc: Global, item: Item<'_>) -> Result<Message<'a>, AllocError> {
+    /// The message of an item of this pool.
+    pub fn message(&self, alloc: Global, item: Item<'_>) -> Result<Message<'a>, AllocError>
+        ensures { IfOk result (IsMessage self.now item.entry) }
+    {
         let sentence = Sentence {
             source: *self,
             item,
@@ -56,19 +60,35 @@ impl<'a> Source<'a> {
     }
 
     /// The index of the byte that an item is about; 0 for the whole pool.
-    fn offset(&self, item: Item<'_>) -> usize {
+    fn offset(&self, item: Item<'_>) -> usize
+        ensures { IsItemOffset self.now.inspection.now item.entry result }
+    {
         match item {
-            Item::Finding(finding) => self.inspection.offset(finding).unwrap_or(0),
+            Item::Finding(finding) => self.finding_at(finding),
             Item::Replaced(replaced) => replaced.at,
             Item::Warning(warning) => self.record_at(warning_object(warning)),
-            Item::Note(Note::Unread { at }) => at,
-            Item::Note(Note::UnknownTriggers | Note::UnknownCosts) => 0,
+            Item::Note(note) => note_offset(note),
+        }
+    }
+
+    /// The index of the first byte of a finding; 0 for the whole pool.
+    fn finding_at(&self, finding: &Finding) -> usize
+        ensures { length self.now.inspection.now.objects ≤ length self.now.inspection.now.records.items → HasOffset self.now.inspection.now (place_of finding.now) → IsOffset self.now.inspection.now (place_of finding.now) result }
+    {
+        match self.inspection.offset(finding) {
+            Some(at) => at,
+            None => 0,
         }
     }
 
     /// The index of the first byte of an object's record; 0 for a missing object.
-    fn record_at(&self, id: ObjectId) -> usize {
-        self.inspection.record(id).map_or(0, |record| record.at)
+    fn record_at(&self, id: ObjectId) -> usize
+        ensures { length self.now.inspection.now.objects ≤ length self.now.inspection.now.records.items → IsSome (object_at self.now.inspection.now.objects id) → IsRecordAt self.now.inspection.now id result }
+    {
+        match self.inspection.record(id) {
+            Some(record) => record.at,
+            None => 0,
+        }
     }
 }
 
@@ -83,10 +103,22 @@ fn kind_at(objects: &SortedStore, id: ObjectId) -> Option<Kind>
 }
 
 /// The object that a warning is about.
-fn warning_object(warning: &Warning) -> ObjectId {
+fn warning_object(warning: &Warning) -> ObjectId
+    ensures { result ≡ object_of warning.now }
+{
     match warning {
         Warning::Unused { id } | Warning::ExtraKeys { id, .. } => *id,
         Warning::TextTooWide(field) | Warning::TextTooHigh(field) => field.id,
         Warning::Outside { element, .. } => element.parent,
+    }
+}
+
+/// The index of the first byte of a note; 0 for the whole pool.
+fn note_offset(note: Note) -> usize
+    ensures { result ≡ note_offset note }
+{
+    match note {
+        Note::Unread { at } => at,
+        Note::UnknownTriggers | Note::UnknownCosts => 0,
     }
 }

@@ -1,14 +1,11 @@
 pub mod Appends
-pub mod Bytes
 pub mod Circles
 pub mod Closed
 pub mod Commands
-pub mod InForce
 pub mod Marks
 pub mod Missing
 pub mod Objects
 pub mod OverBudget
-pub mod Readings
 pub mod ReducedGraphs
 pub mod Whole
 pub mod WorkingSets

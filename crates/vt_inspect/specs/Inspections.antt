@@ -6,7 +6,7 @@ use Rattle.vt_inspect.specs.declared.inspection.Inspection.{Inspection}
 use Rattle.vt_inspect.specs.declared.inspection.Note.{Note}
 use Rattle.vt_inspect.specs.declared.inspection.Note.TheVariants as notes
 use Rattle.vt_inspect.specs.Findings.{AreFindings}
-use Rattle.vt_inspect.specs.Readings.{Step, IsReading, most_mended, found_from, faults_from, unread_from, objects_of, record_in, replaced_in}
+use Rattle.vt_reading.specs.Readings.{Step, IsReading, most_mended, found_from, faults_from, unread_from, objects_of, record_in, replaced_in}
 
 abbrev pub is_none : Option ℕ → Bool
 is_none None = true

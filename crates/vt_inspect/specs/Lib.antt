@@ -6,6 +6,5 @@ pub mod Inspections
 pub mod Lists
 pub mod Missing
 pub mod Places
-pub mod Readings
 pub mod ReducedGraphs
 pub mod References

@@ -1,9 +1,9 @@
 -- The places of findings in a pool's bytes.
-use Rattle.std.specs.Prelude.{◌≡◌, ℕ, ◌+◌, Option, Some, None, IsSome, slice_get}
+use Rattle.std.specs.Prelude.{◌≡◌, ◌<◌, ℕ, ◌+◌, ◌^◌, Option, Some, None, IsSome, slice_get}
 use Rattle.std.specs.Option.{option_map}
 use Rattle.vt_records.specs.declared.fault.PoolFault.{PoolFault}
 use Rattle.vt_records.specs.declared.fault.PoolFault.TheVariants as faults
-use Rattle.vt_stores.specs.Stores.{Objects, IsPlace, object_at}
+use Rattle.vt_stores.specs.Stores.{IsPlace, object_at}
 use Rattle.vt_inspect.specs.declared.finding.Finding.{Finding}
 use Rattle.vt_inspect.specs.declared.finding.Finding.TheVariants as findings
 use Rattle.vt_inspect.specs.declared.finding.FindingPlace.{FindingPlace}
@@ -12,7 +12,7 @@ use Rattle.vt_inspect.specs.declared.finding.ReferenceAt.{ReferenceAt}
 use Rattle.vt_inspect.specs.declared.finding.Spot.{Spot}
 use Rattle.vt_inspect.specs.declared.finding.Spot.TheVariants as spots
 use Rattle.vt_inspect.specs.declared.inspection.Inspection.{Inspection}
-use Rattle.vt_inspect.specs.declared.inspection.ObjectRecord.{ObjectRecord}
+use Rattle.vt_reading.specs.declared.pool_reading.ObjectRecord.{ObjectRecord}
 
 abbrev pub byte_of : PoolFault → ℕ
 byte_of (faults.Truncated at) = at
@@ -57,9 +57,10 @@ IsOffset i (Some (places.Byte byte)) at = at ≡ byte
 IsOffset i (Some (places.Object id)) at = (r : ObjectRecord) × IsRecordOf i id r × (at ≡ r.at)
 IsOffset i (Some (places.Command id command)) at = (r : ObjectRecord) × IsRecordOf i id r × (at ≡ r.at + 5 + command)
 
--- The place is a byte, or an object that exists.
-abbrev pub HasOffset : Objects → Option FindingPlace → Type 0
-HasOffset objects None = ⊥
-HasOffset objects (Some (places.Byte byte)) = Unit {0}
-HasOffset objects (Some (places.Object id)) = IsSome (object_at objects id)
-HasOffset objects (Some (places.Command id command)) = ⊥
+-- The place is a byte, an object that exists, or a command of one whose offset is a number of 64 bits.
+abbrev pub HasOffset : Inspection → Option FindingPlace → Type 0
+HasOffset i None = ⊥
+HasOffset i (Some (places.Byte byte)) = Unit {0}
+HasOffset i (Some (places.Object id)) = IsSome (object_at i.objects id)
+HasOffset i (Some (places.Command id command)) =
+    IsSome (object_at i.objects id) × ((r : ObjectRecord) → IsRecordOf i id r → r.at + 5 + command < 2 ^ 64)

@@ -1,4 +1,4 @@
--- Graphs with the same triggers and fewer items, and the marks of nodes that they are made from.
+-- Graphs with the same triggers and one item for each node, and the marks of nodes that they are made from.
 use Rattle.std.specs.Prelude.{◌≡◌, ℕ, ◌≤◌, Bool, true, false, ◌⊎◌, ◌↔◌, List, length, slice_index_or, Contains}
 use Rattle.vt_rank.specs.declared.graph.Graph.{Graph}
 use Rattle.vt_rank.specs.Graphs.{items_of, triggered}

@@ -1,46 +1,25 @@
 //! The inspection of a pool's bytes.
 
-ghost use Rattle.std.specs.Prelude.{◌≡◌, ◌≤◌, length, map, IfOk, IfSome, IsSome};
+ghost use Rattle.std.specs.Prelude.{◌≡◌, ◌≤◌, ◌<◌, ◌+◌, ◌^◌, length, map, IfOk, IfSome, IsSome};
 ghost use Rattle.vt_stores.specs.Stores.{object_at};
 ghost use Rattle.vt_inspect.specs.Inspections.{IsInspection, unread_notes};
 ghost use Rattle.vt_inspect.specs.Places.{HasOffset, IsOffset, IsRecordOf, place_of};
 
 use crate::finding::{Finding, FindingPlace};
-use crate::in_force::{InForce, in_force};
-use crate::records::{Records, read_records};
 use crate::rules::put_findings;
 use std::alloc::{AllocError, Global};
-use vt_objects::{Kind, ObjectId, SortedStore, Store};
+use vt_objects::{ObjectId, SortedStore, Store};
 use vt_pool::PoolFault;
+use vt_reading::{ObjectRecord, PoolReading, ReplacedRecord, read_past_faults};
 
-/// The record of an object in force.
-#[derive(Clone, Copy, Debug, PartialEq, Eq)]
-pub struct ObjectRecord {
-    /// The object.
-    pub id: ObjectId,
-    /// The kind of the object.
-    pub kind: Kind,
-    /// The index of the record's first byte.
-    pub at: usize,
-}
-
-/// A record that a later one of the same ID replaces.
-#[derive(Clone, Copy, Debug, PartialEq, Eq)]
-pub struct ReplacedRecord {
-    /// The ID of both.
-    pub id: ObjectId,
-    /// The index of the replaced record's first byte.
-    pub at: usize,
-    /// The index of the first byte of the record in force.
-    pub by: usize,
-}
-
-/// Rules that were not judged.
+/// What was not judged, and why.
 #[derive(Clone, Copy, Debug, PartialEq, Eq)]
 pub enum Note {
-    /// The bytes from `at` on could not be read, so nothing is called missing: rules 1, 3 and 8 were not judged.
+    /// The bytes from `at` on could not be read, so nothing is called missing: rules 1, 3 and 8 were not judged. The other
+    /// rules were judged only for the objects that were read.
     Unread { at: usize },
-    /// The bytes of a macro end inside a command, so no triggers are known: rules 11 and 12 were not judged.
+    /// The bytes of a macro end inside a command, so no triggers are known: rules 11 and 12 were not judged, and for the
+    /// commands of such a macro neither were rules 7 to 10.
     UnknownTriggers,
     /// Macros trigger each other in a circle, so no costs are known: rule 12 was not judged.
     UnknownCosts,
@@ -57,7 +36,7 @@ pub struct Inspection {
     pub replaced: Vec<ReplacedRecord>,
     /// All findings, in the order of the rules; the faults of records first. Empty exactly if the pool is acceptable.
     pub findings: Vec<Finding>,
-    /// The rules that were not judged.
+    /// What was not judged.
     pub notes: Vec<Note>,
 }
 
@@ -76,15 +55,12 @@ impl Inspection {
     pub fn offset(&self, finding: &Finding) -> Option<usize>
         ensures offset { IfSome result (IsOffset self.now (place_of finding.now)) }
         // A finding of an object has an offset, if there are as many records as objects.
-        ensures found { length self.now.objects ≤ length self.now.records.items → HasOffset self.now.objects (place_of finding.now) → IsSome result }
+        ensures found { length self.now.objects ≤ length self.now.records.items → HasOffset self.now (place_of finding.now) → IsSome result }
     {
         match finding.place()? {
             FindingPlace::Byte(at) => Some(at),
             FindingPlace::Object(id) => Some(self.record(id)?.at),
-            FindingPlace::Command { id, at } => {
-                let commands = self.record(id)?.at.checked_add(BEFORE_COMMANDS)?;
-                commands.checked_add(at)
-            }
+            FindingPlace::Command { id, at } => command_at(self.record(id)?.at, at),
         }
     }
 }
@@ -92,20 +68,26 @@ impl Inspection {
 /// The bytes of a macro's record before its commands: ID, type and length.
 const BEFORE_COMMANDS: usize = 5;
 
+/// The index of a command in a pool, by that of the macro's record and that of the command in the macro's bytes. `None` if it is
+/// no number of 64 bits.
+fn command_at(begin: usize, command: usize) -> Option<usize>
+    ensures offset { IfSome result (λ at. at ≡ begin + 5 + command) }
+    ensures found { begin + 5 + command < 2 ^ 64 → IsSome result }
+{
+    begin.checked_add(BEFORE_COMMANDS)?.checked_add(command)
+}
+
 /// Finds all faults of a pool's bytes.
 pub fn inspect(alloc: Global, bytes: &[u8]) -> Result<Inspection, AllocError>
     ensures { IfOk result (IsInspection bytes.now) }
 {
-    let Records {
-        found,
-        faults,
-        unread,
-    } = read_records(alloc, bytes)?;
-    let InForce {
+    let PoolReading {
         objects,
         records,
         replaced,
-    } = in_force(alloc, found)?;
+        faults,
+        unread,
+    } = read_past_faults(alloc, bytes)?;
     let mut findings = fault_findings(alloc, faults.as_slice())?;
     let mut notes = unread_notes(alloc, unread)?;
     put_findings(alloc, &objects, unread.is_none(), &mut findings, &mut notes)?;

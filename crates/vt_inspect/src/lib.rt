@@ -1,19 +1,18 @@
 //! All faults of an object pool, with their positions.
 //!
 //! - `inspect` returns the `Inspection` of a pool's bytes: the objects in force with their records, the replaced
-//!   records, each `Finding`, and a `Note` for each rule that was not judged. `Inspection::offset` is the index of a
-//!   finding's first byte.
+//!   records, each `Finding`, and a `Note` for each cause for which something was not judged. `Inspection::offset` is the
+//!   index of a finding's first byte.
 //!
 //! The laws about the definitions are in the crate vt_inspect_laws.
-//! docs/PROFILE.md, "Verification of a pool", has the rules, and "Pools and faults" the faults of records.
+//! docs/PROFILE.md, "Verification of a pool", has the rules, "Pools and faults" the faults of records, and "All faults" what is found
+//! beside the first of them.
 #![tactic(auto)]
 
 mod finding;
-mod in_force;
 mod inclusions;
 mod inspection;
 mod macros;
-mod records;
 mod reduced_graph;
 mod references;
 mod rules;
@@ -22,7 +21,8 @@ mod triggers;
 mod working_sets;
 
 pub use finding::{Finding, FindingPlace, ReferenceAt, Spot};
-pub use inspection::{Inspection, Note, ObjectRecord, ReplacedRecord, inspect};
+pub use inspection::{Inspection, Note, inspect};
+pub use vt_reading::{ObjectRecord, ReplacedRecord};
 
 /// A refused allocation.
 pub use std::alloc::AllocError as OutOfMemory;

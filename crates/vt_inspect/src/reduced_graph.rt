@@ -1,4 +1,4 @@
-//! Graphs with the same triggers and fewer items.
+//! Graphs with the same triggers, and one item for each node.
 
 ghost use Rattle.std.specs.Prelude.{◌≡◌, ℕ, ◌<◌, [], ◌∷◌, IfOk, slice_index_or};
 ghost use Rattle.vt_rank.specs.Graphs.{lists, items_of, nodes_of, triggered};
@@ -8,7 +8,7 @@ ghost use Rattle.vt_inspect.specs.ReducedGraphs.{Marks, AreMarked, HaveSameMembe
 use std::alloc::{AllocError, Global};
 use vt_rank::{Graph, Item};
 
-/// Returns a graph with the same triggers, in which each node has one item: a group without repeats.
+/// Returns a graph with the same triggers, in which each node has at most one item and triggers no node twice.
 ///
 /// Reads each item once, with its nodes, and the groups of `Graph::most` once.
 pub(crate) fn reduced(alloc: Global, graph: &Graph) -> Result<Graph, AllocError>

@@ -5,7 +5,7 @@ use Rattle.vt_pool.specs.Pools.{IsFault}
 use Rattle.vt_pool.proofs.JoinedRecords.{want_of_memory}
 use Rattle.vt_inspect.specs.declared.finding.Finding.{Finding}
 use Rattle.vt_inspect.specs.declared.finding.Finding.TheVariants as findings
-use Rattle.vt_inspect.specs.Readings.{found_from, entry_of}
+use Rattle.vt_reading.specs.Readings.{found_from, entry_of}
 use Rattle.vt_inspect_laws.specs.Laws.{FirstIsTheFault}
 use Rattle.vt_inspect_laws.proofs.WholeReadings.{whole_outcome}
 use Rattle.vt_inspect_laws.proofs.WholeReadings.Outcome.{Whole, Faulty}

@@ -40,7 +40,7 @@ use Rattle.vt_inspect.specs.Costs.{costs_too_much, event_costs_too_much, macro_f
 use Rattle.vt_inspect.specs.Findings.{working_set_ids, set_findings, IsDeepest, cut_findings, command_findings, value_finding, value_findings, target_findings, AreOfTriggers, slot_findings, macro_findings, AreFindings}
 use Rattle.vt_inspect.specs.Findings.AreOfTriggers.{Cut, Circles, Costs}
 use Rattle.vt_inspect.specs.Inspections.{is_none}
-use Rattle.vt_inspect.specs.Readings.{FoundAt, entry_of, found_from, objects_of}
+use Rattle.vt_reading.specs.Readings.{FoundAt, entry_of, found_from, objects_of}
 use Rattle.vt_inspect.specs.References.{function_of, missing_at, wrong_kinds_at, slots_at, slot_values_at, own_references_at, failing_targets_at}
 use Rattle.vt_chains.proofs.Elements.{Contains-head}
 use Rattle.vt_inspect.proofs.lemmas.Whole.{none_fails, all_whole, none_first, references_are, none_missing}

@@ -20,7 +20,7 @@ use Rattle.vt_verify.specs.TriggerGraphs.{is_event_of, has, listed_events}
 use Rattle.vt_verify.specs.Triggers.{listing, listed, run_by_name}
 use Rattle.vt_verify.proofs.lemmas.graphs.SameTriggers.{unlisted}
 use Rattle.vt_inspect.specs.Costs.{costs_too_much, event_costs_too_much, macro_finding, event_finding, over_findings}
-use Rattle.vt_inspect.proofs.lemmas.InForce.{same_test}
+use Rattle.vt_reading.proofs.lemmas.InForce.{same_test}
 
 -- ---- filters
 

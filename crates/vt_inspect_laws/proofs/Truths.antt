@@ -1,5 +1,5 @@
 -- Every finding of a rule is true.
-use Rattle.std.proofs.Common.{◌≡◌, ℕ, ◌<◌, Bool, true, false, cond, not, eqb, List, [], ◌∷◌, ◌++◌, map, length, Option, Some, refl, sym, ap, subst, ◌∙◌, arith, inl, inr}
+use Rattle.std.proofs.Common.{◌≡◌, ℕ, Bool, true, false, cond, not, eqb, List, [], ◌∷◌, ◌++◌, map, drop, length, Option, Some, refl, sym, ap, subst, ◌∙◌, inl, inr}
 use Rattle.std.proofs.lemmas.Bool.{ltb-true}
 use Rattle.std.proofs.lemmas.List.Elements.{Contains-append_cases, Contains-append_left, Contains-append_right}
 use Rattle.std.specs.Prelude.{Contains, filter, nat_lt}
@@ -114,10 +114,6 @@ module _ (objects : Objects) (g : Finding) where
   is_it : (made : Finding) → made ≡ g → IsCulprit objects made → IsCulprit objects g
   is_it made same true_of = subst (IsCulprit objects) same true_of
 
-  some_more : (ids : List ℕ) (id : ℕ) → Contains ids id → 0 < length ids
-  some_more [] id inside = absurd (Contains-nil id inside)
-  some_more (x ∷ ids) id inside = omega arith
-
   true_sets : (are_all : Bool) (ids : List ℕ) → working_set_ids (shape_of objects) ≡ ids → Contains (set_findings are_all ids) g → IsCulprit objects g
   true_sets true [] is inside =
       cons_case (IsCulprit objects g) findings.NoWorkingSet g [] inside
@@ -125,10 +121,7 @@ module _ (objects : Objects) (g : Finding) where
   true_sets false [] is inside = absurd (Contains-nil g inside)
   true_sets are_all (first ∷ others) is inside =
       let found = in_map findings.TwoWorkingSets others g inside in
-      let count = ids_are (shape_of objects) in
-      let long = ap length is in
-      let more = some_more others found.0 found.1 in
-      is_it (findings.TwoWorkingSets found.0) found.2 (omega arith, subst (λ (l : List ℕ). Contains l found.0) (sym is) (Contains-tail first found.0 others found.1))
+      is_it (findings.TwoWorkingSets found.0) found.2 (subst (λ (l : List ℕ). Contains (drop 1 l) found.0) (sym is) found.1)
 
   if_true : (are_all : Bool) (l : List Finding) → Contains (if_all are_all l) g → Contains l g
   if_true true l inside = inside

@@ -9,8 +9,8 @@ use Rattle.vt_records.specs.declared.record_fault.RecordFault.TheVariants as sto
 use Rattle.vt_records.specs.RecordFaults.{IsStop, fault_at}
 use Rattle.vt_pool.specs.Pools.{PoolEntry, AreRecords, joined, IsFault, IsWantOfMemory}
 use Rattle.vt_pool.proofs.JoinedRecords.{joined_push, records_push, is_fault}
-use Rattle.vt_inspect.specs.Readings.{wants_memory, is_mendable, most_mended, Step, IsReading, found_from, faults_from, unread_from, entry_of}
-use Rattle.vt_inspect.specs.Readings.Step.{Found, Mended, Ended}
+use Rattle.vt_reading.specs.Readings.{wants_memory, is_mendable, most_mended, Step, IsReading, found_from, faults_from, unread_from, entry_of}
+use Rattle.vt_reading.specs.Readings.Step.{Found, Mended, Ended}
 
 pub data Outcome (all : List ℕ) (front : List PoolEntry) (at : ℕ) (steps : List Step) : Type 0 where
   Whole : faults_from at steps ≡ [] → unread_from at steps ≡ None → AreRecords (front ++ map entry_of (found_from at steps))

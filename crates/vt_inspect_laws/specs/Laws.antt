@@ -1,6 +1,6 @@
 -- What an inspection finds, beside what `read_pool` and `verify` answer (docs/PROFILE.md, "Pools and faults", "Verification
 -- of a pool").
-use Rattle.std.specs.Prelude.{◌≡◌, ◌↔◌, ◌<◌, List, ℕ, Bool, true, false, [], ◌∷◌, reverse, Contains, Option, Some, None}
+use Rattle.std.specs.Prelude.{◌≡◌, ◌↔◌, ◌<◌, List, ℕ, Bool, true, false, [], ◌∷◌, drop, reverse, Contains, Option, Some, None}
 use Rattle.std.specs.List.{flat_map}
 use Rattle.vt_chains.specs.Inclusions.{included, IsShallow, IsTooDeep}
 use Rattle.vt_chains.specs.Limits.{terminal}
@@ -76,11 +76,12 @@ FirstIsTheRefusal = (bytes : List ℕ) (i : Inspection) (records : List PoolEntr
 
 -- ---- findings and culprits
 
--- The finding is true: the test of its rule fails for its culprit. Faults of records have a law of their own.
+-- The finding is true: the test of its rule fails for its culprit. Of the working sets, the first is none. Faults of
+-- records have a law of their own.
 abbrev pub IsCulprit : Objects → Finding → Type 0
 IsCulprit objects (findings.Record fault) = ⊥
 IsCulprit objects findings.NoWorkingSet = working_sets (shape_of objects) ≡ 0
-IsCulprit objects (findings.TwoWorkingSets id) = (1 < working_sets (shape_of objects)) × Contains (working_set_ids (shape_of objects)) id
+IsCulprit objects (findings.TwoWorkingSets id) = Contains (drop 1 (working_set_ids (shape_of objects))) id
 IsCulprit objects (findings.Missing r) = Contains (flat_map slots_at objects) r × (is_there (shape_of objects) r.reference ≡ false)
 IsCulprit objects (findings.WrongKind r) = Contains (flat_map (slot_values_at objects) objects) r × (fits (shape_of objects) r.reference ≡ false)
 IsCulprit objects (findings.TooDeep chain) = IsTooDeep terminal.inclusions (included objects) chain.items

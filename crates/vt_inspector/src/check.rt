@@ -6,10 +6,11 @@ use std::alloc::{AllocError, Global};
 use std::io::{self, Write};
 use vt_findings_json::{item_json, summary_json};
 use vt_findings_text::{GithubLine, Item, Names, Source, Summary};
-use vt_inspect::{Inspection, Note, inspect};
+use vt_inspect::{Finding, Inspection, Note, inspect};
 use vt_inspector_words::{CheckOptions, Format};
 use vt_needs::{TERMINAL_SIZES, Warning, warnings};
-use vt_objects::Store;
+use vt_objects::{Kind, ObjectId, Store};
+use vt_pool::PoolFault;
 
 /// The form of the lines.
 #[derive(Clone, Copy, Debug, PartialEq, Eq)]
@@ -92,7 +93,8 @@ fn check_pool<W: Write>(
     Ok(status_of(&summary, options.denies_warnings))
 }
 
-/// The findings, then the replaced records, then the warnings. If bytes could not be read, no object is called unused.
+/// The findings, then the replaced records, then the warnings. If bytes could not be read, no object is called unused. A number whose
+/// scale or decimals are wrong has no text that could be too wide.
 fn items_of<'a>(
     alloc: Global,
     inspection: &'a Inspection,
@@ -106,12 +108,46 @@ fn items_of<'a>(
         items.push(Item::Replaced(replaced))?;
     }
     let is_read = !inspection.notes.iter().any(is_unread);
+    let mended = mended_bytes(alloc, inspection)?;
     for warning in warnings {
-        if is_read || !matches!(warning, Warning::Unused { .. }) {
+        let is_judged = match warning {
+            Warning::Unused { .. } => is_read,
+            Warning::TextTooWide(field) => !is_mended(inspection, mended.as_slice(), field.id),
+            _ => true,
+        };
+        if is_judged {
             items.push(Item::Warning(warning))?;
         }
     }
     Ok(items)
+}
+
+/// The indices of the bytes with a wrong scale or wrong decimals, in their order.
+fn mended_bytes(alloc: Global, inspection: &Inspection) -> Result<Vec<usize>, AllocError> {
+    let mut bytes = Vec::new(alloc);
+    for finding in inspection.findings.iter() {
+        if let Finding::Record(PoolFault::Scale { at } | PoolFault::Decimals { at }) = finding {
+            bytes.push(*at)?;
+        }
+    }
+    Ok(bytes)
+}
+
+/// Whether the scale or the decimals of an object were read as others, so that its text is not known.
+fn is_mended(inspection: &Inspection, mended: &[usize], id: ObjectId) -> bool {
+    let Some(record) = inspection.record(id) else {
+        return false;
+    };
+    let size = match record.kind {
+        Kind::InputNumber => 38,
+        Kind::OutputNumber => 29,
+        _ => 0,
+    };
+    let next = mended.partition_point(|at| *at < record.at);
+    match mended.get(next) {
+        Some(at) => *at < record.at.saturating_add(size),
+        None => false,
+    }
 }
 
 /// Whether a note is on bytes that could not be read.

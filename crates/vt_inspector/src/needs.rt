@@ -1,7 +1,7 @@
 //! The subcommand `needs`.
 
 use crate::files::{Open, read_file, read_names};
-use crate::program::Status;
+use crate::program::{Status, is_read};
 use std::alloc::Global;
 use std::io::{self, Error, ErrorKind, Write};
 use vt_findings_text::{Source, event_name};
@@ -36,12 +36,15 @@ pub(crate) fn run_needs<F: Open, W: Write, E: Write>(
     };
     let needs = needs_of(&inspection.objects);
     put_sizes(&inspection, bytes.len(), &needs, out)?;
-    let is_judged = put_load(alloc, &source, bytes.as_slice(), out)?;
+    if !is_read(&inspection, options.pool, errors) {
+        return Ok(Status::NotJudged);
+    }
+    let cause = put_load(alloc, &source, bytes.as_slice(), out)?;
     let fits = put_lacks(&needs, options.sizes, out)?;
-    if !is_judged {
+    if let Some(cause) = cause {
         let _ = writeln!(
             errors,
-            "segyolant: {}: the pool is refused, so its chains and events are not judged; segyolant check says why",
+            "segyolant: {}: {cause}, so its chains and events are not judged; segyolant check says why",
             options.pool
         );
         return Ok(Status::NotJudged);
@@ -97,25 +100,25 @@ fn colours(colour: u8) -> u16 {
     }
 }
 
-/// Prints the longest chain and the dearest event of an accepted pool, and returns whether the pool is accepted.
+/// Prints the longest chain and the dearest event of an accepted pool, and returns why it is not accepted if it is not.
 fn put_load<W: Write>(
     alloc: Global,
     source: &Source<'_>,
     bytes: &[u8],
     out: &mut W,
-) -> io::Result<bool> {
+) -> io::Result<Option<&'static str>> {
     let pool = match read_pool(alloc, bytes) {
         Ok(pool) => pool,
         Err(PoolFault::OutOfMemory { .. }) => return Err(Error::from(ErrorKind::OutOfMemory)),
-        Err(_) => return Ok(false),
+        Err(_) => return Ok(Some("a record of the pool has a fault")),
     };
     match verify(alloc, &pool) {
         Ok(accepted) => {
             put_accepted(source, accepted, out)?;
-            Ok(true)
+            Ok(None)
         }
         Err(Refusal::OutOfMemory) => Err(Error::from(ErrorKind::OutOfMemory)),
-        Err(_) => Ok(false),
+        Err(_) => Ok(Some("the pool is refused")),
     }
 }
 

@@ -22,7 +22,7 @@ pub enum Status {
     Clean,
     /// Something was found.
     Found,
-    /// The words, a file or memory stopped the run.
+    /// Something was not judged: the words, a file or memory stopped it, or the subcommand takes no such pool.
     NotJudged,
 }
 
@@ -38,7 +38,7 @@ impl Status {
         }
     }
 
-    /// The status of two pools: the worse of both.
+    /// The status of two pools: that one was not judged counts more than that something was found.
     pub(crate) fn and(self, other: Status) -> Status {
         match (self, other) {
             (Status::NotJudged, _) | (_, Status::NotJudged) => Status::NotJudged,
@@ -57,8 +57,9 @@ pub enum Look {
     Coloured,
 }
 
-/// Runs the program on its words, of which the first is its name. `errors` gets a sentence for each file that cannot be read. An error is
-/// returned if `out` cannot be written or memory is refused.
+/// Runs the program on its words, of which the first is its name. `errors` gets a sentence for wrong words, for each
+/// file that cannot be read, and for a pool that the subcommand cannot judge. An error is returned if `out` cannot be written or memory
+/// is refused.
 pub fn run<S: AsStr, F: Open, W: Write, E: Write>(
     alloc: Global,
     words: &[S],

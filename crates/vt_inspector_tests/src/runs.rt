@@ -21,7 +21,7 @@ w: 0 errors, 5 warnings, 6 objects; 4 not shown\n";
 /// Why no cost is known, in colours.
 const UNKNOWN: &str = "\
 cut macro:18: \x1b[1;31merror[R06 MacroBytes]\x1b[0m Macro 5: the bytes end inside a command\n\
-cut macro:0: \x1b[1;34mnote[N02 UnknownTriggers]\x1b[0m a macro ends inside a command, so triggers are not known (R11, R12 not judged)\n";
+cut macro:0: \x1b[1;34mnote[N02 UnknownTriggers]\x1b[0m a macro ends inside a command, so triggers are not known (R11, R12 not judged; R07 to R10 not for the commands of such a macro)\n";
 
 /// A run: its words, then its status, its output, and whether there are messages.
 type Run<'a> = (&'a [&'a str], Status, &'a str, bool);
@@ -52,6 +52,62 @@ fn warnings_have_codes_offsets_and_names(rt: HostRuntime) -> Result<(), Fail> {
             &["s", "check", "w", "--names", "names"],
             Status::Clean,
             WARNINGS,
+            false,
+        ),
+    )
+}
+
+#[test]
+fn mended_numbers_are_not_too_wide(rt: HostRuntime) -> Result<(), Fail> {
+    let text =
+        "mended:49: error[P05 Decimals] the number of decimals is above 7\nmended: 1 error, 0 warnings, 4 objects\n";
+    expect_run(
+        &rt,
+        &(&["s", "check", "mended"], Status::Found, text, false),
+    )
+}
+
+#[test]
+fn children_of_keys_are_outside_of_64x64(rt: HostRuntime) -> Result<(), Fail> {
+    let text =
+        "wide key:26: warning[W05 Outside] Key 10: child 0, Output Rectangle 20, of 65x9 at 0,0 reaches out of its area of 64x64\n\
+        wide key: 0 errors, 1 warning, 5 objects\n";
+    expect_run(
+        &rt,
+        &(&["s", "check", "wide key"], Status::Clean, text, false),
+    )?;
+    let needs =
+        "objects 5, bytes 52\nmask at least 0x0, key at least 65x9, soft keys 1\ncolours 2\nfont sizes\n\
+        kind 0 Working Set\nkind 1 Data Mask\nkind 4 Soft Key Mask\nkind 5 Key\nkind 14 Output Rectangle\n\
+        longest chain 2 inclusions\ndearest event 0 steps\ndoes not fit: the terminal's key is 64x64\n";
+    expect_run(
+        &rt,
+        &(&["s", "needs", "wide key"], Status::Found, needs, false),
+    )
+}
+
+#[test]
+fn needs_of_faulty_pools_are_not_judged(rt: HostRuntime) -> Result<(), Fail> {
+    let sizes =
+        "objects 2, bytes 35\nmask at least 0x0, key at least 0x0, soft keys 0\ncolours 2\nfont sizes\n\
+        kind 0 Working Set\nkind 1 Data Mask\n";
+    expect_run(
+        &rt,
+        &(&["s", "needs", "cut"], Status::NotJudged, sizes, true),
+    )
+}
+
+#[test]
+fn paths_are_escaped_for_github(rt: HostRuntime) -> Result<(), Fail> {
+    let line =
+        "::warning file=a%3Ab%2C50%25,title=W01 Replaced::byte 30: Container 100: the record at 69 replaces this one\n\
+        a:b,50%: 0 errors, 5 warnings, 6 objects; 4 not shown\n";
+    expect_run(
+        &rt,
+        &(
+            &["s", "check", "a:b,50%", "--format", "github", "--most", "1"],
+            Status::Clean,
+            line,
             false,
         ),
     )

@@ -29,6 +29,24 @@ const CUT_MACRO: &[u8] = &[
     5, 0, 28, 1, 0, 0xA0, // the Macro 5, at 18
 ];
 
+/// A number in a field of 40 pixels whose decimals are wrong: as `5.0000000` it would be wider than its field.
+const MENDED: &[u8] = &[
+    0, 0, 0, 0, 1, 0xE8, 3, 0, 0, 0, // the Working Set 0
+    0xE8, 3, 1, 0, 0xFF, 0xFF, 1, 0, 45, 1, 0, 0, 0, 0, // the Data Mask 1000, at 10
+    45, 1, 12, 40, 0, 12, 0, 0, 200, 0, 0, 0xFF, 0xFF, 5, 0, 0, 0, 0, 0, 0, 0, 0, 0, 0x80, 0x3F, 8,
+    0, 0, 0, // the Output Number 301, at 24
+    200, 0, 23, 0, 2, 0, 0, 0, // the Font Attributes 200, of 8x12, at 53
+];
+
+/// A key with a Rectangle that is wider than a key of 64x64.
+const WIDE_KEY: &[u8] = &[
+    0, 0, 0, 0, 1, 0xE8, 3, 0, 0, 0, // the Working Set 0
+    0xE8, 3, 1, 0, 0xB8, 0x0B, 0, 0, // the Data Mask 1000, at 10
+    0xB8, 0x0B, 4, 0, 1, 0, 10, 0, // the Soft Key Mask 3000, at 18
+    10, 0, 5, 0, 1, 1, 0, 20, 0, 0, 0, 0, 0, // the Key 10, at 26
+    20, 0, 14, 0xFF, 0xFF, 65, 0, 9, 0, 0, 0xFF, 0xFF, 0, // the Rectangle 20, at 39
+];
+
 /// Names in both forms, with lines that are passed over, one of them not UTF-8.
 const NAMES: &[u8] =
     b"// a comment\n100,old\n#define box 0x64 // of the mask\n\xFF,7\r\n300, label \r\n#define\n#define rate 201\n65536,big\n5,\n";
@@ -43,7 +61,9 @@ impl Open for Shelf {
     fn open(&mut self, path: &str) -> io::Result<&'static [u8]> {
         match path {
             "pool" | "-" => Ok(POOL),
-            "w" => Ok(WARNED),
+            "w" | "a:b,50%" => Ok(WARNED),
+            "mended" => Ok(MENDED),
+            "wide key" => Ok(WIDE_KEY),
             "recoloured" => Ok(RECOLOURED),
             "names" => Ok(NAMES),
             "cut" => Ok(&WARNED[..35]),

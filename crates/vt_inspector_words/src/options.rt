@@ -45,7 +45,7 @@ pub struct CheckOptions<'a> {
     pub names: Vec<&'a str>,
     /// The form of the output.
     pub format: Format,
-    /// The most lines for a pool, or `None` for all.
+    /// The most lines with errors and warnings for a pool, or `None` for all.
     pub most: Option<u32>,
     /// Whether a warning ends with status 1.
     pub denies_warnings: bool,

@@ -5,7 +5,7 @@ use std::alloc::{AllocError, Global};
 
 /// The text of help after the subcommands.
 const AFTER_HELP: &str = "\
-Status: 0 nothing found, 1 something found, 2 not judged (words, file, memory)
+Status: 0 nothing found, 1 something found, 2 not judged (words, file, memory, or a pool that the subcommand cannot take)
 
   segyolant check my.iop                                every fault, and warnings
   segyolant check my.iop --names my.h --format github   the same, by names, for a workflow

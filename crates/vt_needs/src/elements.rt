@@ -91,8 +91,8 @@ pub(crate) fn is_outside(element: &Element, area: Area) -> bool
         || i64::from(element.y) + i64::from(element.height) > i64::from(area.height)
 }
 
-/// The area that a drawn object takes, or `None` for a kind without a size.
-fn extent_of(object: &Object<Vec<u8>>) -> Option<Extent>
+/// The area that a drawn object takes, or `None` for a kind without a size (docs/PROFILE.md, "Warnings").
+pub fn extent_of(object: &Object<Vec<u8>>) -> Option<Extent>
     ensures extent { result ≡ elements.extent_of (seen object.now) }
     ensures most { IfSome result (λ e. elements.IsSized e.width e.height) }
 {

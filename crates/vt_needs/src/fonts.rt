@@ -26,7 +26,7 @@ const CELLS: [(u16, u16); 15] = [
 ];
 
 /// The area of a character of a font of this size, or `None` for a size that is not in the table.
-fn cell(size: u8) -> Option<Area>
+pub fn cell(size: u8) -> Option<Area>
     ensures { result ≡ slice_get cells size }
 {
     let (width, height) = *CELLS.get(usize::from(size))?;

@@ -3,6 +3,7 @@
 //! - `warnings` finds each `Warning` about the objects of a pool, which need not be an accepted one.
 //! - `needs_of` finds what a pool `Needs` of a terminal, and `lacks` what a terminal has less of.
 //! - `dearest_event` and `longest_chain` find the greatest load of an accepted pool; `compare` finds each `Difference` of two pools by their IDs.
+//! - `cell` is the area of a character of a font, and `extent_of` the area that an object takes.
 //! - `Sizes` are those of a terminal; `TERMINAL_SIZES` are those of this one.
 //!
 //! docs/PROFILE.md, "Warnings", has the meaning of each warning.
@@ -21,7 +22,8 @@ mod text_fields;
 mod warning;
 
 pub use differences::{Difference, compare};
-pub use elements::Extent;
+pub use elements::{Extent, extent_of};
+pub use fonts::cell;
 pub use loads::{Dearest, dearest_event, longest_chain};
 pub use needs::{Lack, Needs, has_font, has_kind, lacks, needs_of};
 pub use rule::warnings;

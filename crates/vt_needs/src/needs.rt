@@ -14,9 +14,9 @@ use vt_objects::{Child, Kind, Object, ObjectId, SortedStore};
 /// What the objects of a pool need of a terminal.
 #[derive(Clone, Copy, Debug, PartialEq, Eq)]
 pub struct Needs {
-    /// The area of a mask in which all its children are whole.
+    /// How far the children of a mask reach to the right and down.
     pub mask: Extent,
-    /// The area of a key in which all its children are whole.
+    /// How far the children of a key reach to the right and down.
     pub key: Extent,
     /// The most keys of a soft key mask.
     pub keys: u8,

@@ -37,7 +37,7 @@ pub struct Element {
     pub height: u32,
 }
 
-/// Something that a pool's maker may have overlooked. A terminal accepts the pool all the same. docs/PROFILE.md, "Warnings".
+/// Something that a pool's maker may have overlooked. A terminal does not refuse the pool for this. docs/PROFILE.md, "Warnings".
 #[derive(Clone, Copy, Debug, PartialEq, Eq)]
 pub enum Warning {
     /// No slot, no macro entry and no command of a macro names the object.

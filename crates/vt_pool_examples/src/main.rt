@@ -6,7 +6,7 @@ use std::io::{self, BufWriter, Write};
 use vt_inspector::{Files, Look, run};
 
 /// The words of each run, the program's name first.
-const RUNS: [&[&str]; 28] = [
+const RUNS: [&[&str]; 38] = [
     &["segyolant", "check", "sprayer.iop", "--names", "sprayer.h"],
     &[
         "segyolant",
@@ -66,6 +66,25 @@ const RUNS: [&[&str]; 28] = [
         "--format",
         "github",
     ],
+    &[
+        "segyolant",
+        "check",
+        "many-faults.iop",
+        "--names",
+        "many-faults.h",
+    ],
+    &[
+        "segyolant",
+        "check",
+        "many-faults.iop",
+        "--names",
+        "many-faults.h",
+        "--format",
+        "json",
+    ],
+    &["segyolant", "check", "more-faults.iop"],
+    &["segyolant", "check", "more-faults.iop", "--format", "json"],
+    &["segyolant", "check", "dear-event.iop"],
     &["segyolant", "check", "-"],
     &["segyolant", "check", "missing.iop", "pool.iop"],
     &[
@@ -92,6 +111,9 @@ const RUNS: [&[&str]; 28] = [
         "2",
     ],
     &["segyolant", "needs", "refusal-11-macro-circle.iop"],
+    &["segyolant", "needs", "many-faults.iop"],
+    &["segyolant", "needs", "fault-1-truncated.iop"],
+    &["segyolant", "needs", "more-faults.iop", "--size", "60x60"],
     &["segyolant", "needs", "sprayer.iop", "--size", "240"],
     &["segyolant", "diff", "pool.iop", "pool.iop"],
     &["segyolant", "diff", "pool.iop", "refusal-03-missing.iop"],
@@ -107,6 +129,8 @@ const RUNS: [&[&str]; 28] = [
     &["segyolant"],
     &["segyolant", "check", "--format", "xml", "pool.iop"],
     &["segyolant", "--help"],
+    &["segyolant", "check", "--help"],
+    &["segyolant", "needs", "--help"],
 ];
 
 fn main(rt: HostRuntime) -> io::Result<()> {

@@ -73,9 +73,3 @@ module _ {A B : Type 0} (test : A → Bool) where
   pub map-filter : (f : A → B) (xs : List A) → map f (filter test xs) ≡ flat_map (λ x. cond (test x) (f x ∷ []) []) xs
   map-filter f [] = refl
   map-filter f (x ∷ xs) = one_kept f x (test x) (filter test xs) ∙ ap (λ l. cond (test x) (f x ∷ []) [] ++ l) (map-filter f xs)
-
--- ---- objects seen
-
-pub flat_map-map : {X Y A : Type 0} (f : Y → List A) (g : X → Y) (xs : List X) → flat_map f (map g xs) ≡ flat_map (λ x. f (g x)) xs
-flat_map-map f g [] = refl
-flat_map-map f g (x ∷ xs) = ap (λ l. f (g x) ++ l) (flat_map-map f g xs)

@@ -28,7 +28,7 @@ use Rattle.vt_verify.proofs.lemmas.stores.UpdatedStore.{found_joined, named_more
 use Rattle.vt_inspect.specs.declared.finding.ReferenceAt.{ReferenceAt}
 use Rattle.vt_inspect.specs.Missing.{ClosesObjects, AreMissingIds, empty_at}
 use Rattle.vt_inspect.specs.References.{passes_at, slot_at, slots_at, missing_at}
-use Rattle.vt_inspect.proofs.lemmas.InForce.{same_test}
+use Rattle.vt_reading.proofs.lemmas.InForce.{same_test}
 use Rattle.vt_inspect.proofs.lemmas.Missing.{failing_fails, fails_among}
 
 -- ---- missing objects are not there

@@ -12,6 +12,7 @@ use Rattle.vt_verify.specs.Targets.{has_attribute}
 use Rattle.vt_verify.specs.Triggers.{run_by_name}
 use Rattle.vt_verify.proofs.lemmas.graphs.SameTriggers.{same_lists}
 use Rattle.vt_verify.proofs.lemmas.rules.FirstFailure.{over_objects, each_of_each}
+use Rattle.vt_reading.proofs.lemmas.Entries.{over_entries}
 use Rattle.vt_inspect.specs.declared.finding.Finding.{Finding}
 use Rattle.vt_inspect.specs.declared.finding.Finding.TheVariants as findings
 use Rattle.vt_inspect.specs.declared.macros.CommandRule.{CommandRule}
@@ -19,19 +20,16 @@ use Rattle.vt_inspect.specs.declared.macros.CommandRule.TheVariants.{IsAllowed, 
 use Rattle.vt_inspect.specs.Lists.{all_failing}
 use Rattle.vt_inspect.specs.References.{function_of}
 use Rattle.vt_inspect.specs.Findings.{piece_findings, value_finding, command_rule_findings, cut_findings}
-use Rattle.vt_inspect.proofs.lemmas.Appends.{flat_map-map, all_failing-flat_map, map-all_failing, flat_map-all_failing, map-filter}
+use Rattle.vt_inspect.proofs.lemmas.Appends.{all_failing-flat_map, map-all_failing, flat_map-all_failing, map-filter}
 
 module _ {B : Type 0} (items : List (ℕ × Object B)) (objects : Objects) (is : map seen_entry items ≡ objects) where
-  pub over_entries : {A : Type 0} (adds : ℕ × Seen → List A) → flat_map (λ e. adds (seen_entry e)) items ≡ flat_map adds objects
-  over_entries adds = sym (flat_map-map adds seen_entry items) ∙ ap (flat_map adds) is
-
   -- what fails of all objects
   pub failing_over : {A : Type 0} (test : A → Bool) (list : ℕ × Seen → List A)
       → flat_map (λ e. all_failing test (list (seen_entry e))) items ≡ all_failing test (flat_map list objects)
-  failing_over test list = over_entries (λ o. all_failing test (list o)) ∙ sym (all_failing-flat_map test list objects)
+  failing_over test list = over_entries items objects is (λ o. all_failing test (list o)) ∙ sym (all_failing-flat_map test list objects)
 
   pub over_shape : {A : Type 0} (adds : ℕ × Fixed → List A) → flat_map (λ e. adds ((seen_entry e).0, fixed (seen_entry e).1)) items ≡ flat_map adds (shape_of objects)
-  over_shape adds = over_entries (λ o. adds (o.0, fixed o.1)) ∙ sym (over_objects adds objects)
+  over_shape adds = over_entries items objects is (λ o. adds (o.0, fixed o.1)) ∙ sym (over_objects adds objects)
 
   pub failing_in_shape : {A : Type 0} (test : A → Bool) (list : ℕ × Fixed → List A)
       → flat_map (λ e. all_failing test (list ((seen_entry e).0, fixed (seen_entry e).1))) items ≡ all_failing test (flat_map list (shape_of objects))

@@ -1,7 +1,7 @@
 use Rattle.std.proofs.Common.{◌≡◌, ℕ, List, ◌++◌, ap₂, sym, ◌∙◌}
 use Rattle.vt_kinds.specs.Records.{Seen, seen, record_of}
-use Rattle.vt_inspect.proofs.lemmas.Bytes.{drop_front}
-use Rattle.vt_inspect.proofs.records.read_owned.Goals as goal
+use Rattle.vt_reading.proofs.lemmas.Bytes.{drop_front}
+use Rattle.vt_reading.proofs.records.read_owned.Goals as goal
 
 pub returns-clause-parts : goal.returns-clause-parts
 returns-clause-parts c =

@@ -1,7 +1,7 @@
 use Rattle.std.proofs.Common.{◌≤◌, ◌+◌, ◌*◌, ◌-◌, drop, length, map}
-use Rattle.vt_inspect.specs.Readings.{found_at}
-use Rattle.vt_inspect.proofs.lemmas.Readings.{IsReadingOn}
-use Rattle.vt_inspect.proofs.records.read_records.Given as goal
+use Rattle.vt_reading.specs.Readings.{found_at}
+use Rattle.vt_reading.proofs.lemmas.Readings.{IsReadingOn}
+use Rattle.vt_reading.proofs.records.read_records.Given as goal
 
 abbrev pub invariant-loop-at : goal.invariant-loop-at
 invariant-loop-at l = record {

@@ -3,9 +3,9 @@
 ghost use Rattle.std.specs.Prelude.{◌≡◌, map, nat_eq, IfOk};
 ghost use Rattle.indexmap.specs.IndexMap.{get};
 ghost use Rattle.vt_stores.specs.Stores.{AreStored};
-ghost use Rattle.vt_inspect.specs.Readings.{NamesObjects, found_at, or_zero, objects_of, record_by, record_in, replaced_in};
+ghost use Rattle.vt_reading.specs.Readings.{NamesObjects, found_at, or_zero, objects_of, record_by, record_in, replaced_in};
 
-use crate::inspection::{ObjectRecord, ReplacedRecord};
+use crate::pool_reading::{ObjectRecord, ReplacedRecord};
 use crate::records::FoundRecord;
 use indexmap::IndexMap;
 use std::alloc::{AllocError, Global};

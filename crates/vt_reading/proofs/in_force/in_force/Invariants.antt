@@ -2,9 +2,9 @@ use Rattle.std.proofs.Common.{map, length}
 use Rattle.std.specs.Prelude.{nat_eq}
 use Rattle.indexmap.specs.IndexMap.{get}
 use Rattle.vt_stores.specs.Stores.{seen_entry}
-use Rattle.vt_inspect.specs.Readings.{found_at}
-use Rattle.vt_inspect.proofs.lemmas.InForce.{IsCollecting}
-use Rattle.vt_inspect.proofs.in_force.in_force.Given as goal
+use Rattle.vt_reading.specs.Readings.{found_at}
+use Rattle.vt_reading.proofs.lemmas.InForce.{IsCollecting}
+use Rattle.vt_reading.proofs.in_force.in_force.Given as goal
 
 abbrev pub invariant-loop-record : goal.invariant-loop-record
 invariant-loop-record l =

@@ -3,10 +3,10 @@ use Rattle.std.proofs.lemmas.List.Concat.{flat_map_single}
 use Rattle.std.specs.Prelude.{nat_eq}
 use Rattle.indexmap.specs.IndexMap.{get}
 use Rattle.vt_kinds.specs.Records.{Seen}
-use Rattle.vt_inspect.specs.declared.inspection.ObjectRecord.{ObjectRecord}
-use Rattle.vt_inspect.specs.Readings.{record_by}
-use Rattle.vt_inspect.proofs.lemmas.Objects.{over_entries}
-use Rattle.vt_inspect.proofs.in_force.records_of.Goals as goal
+use Rattle.vt_reading.specs.declared.pool_reading.ObjectRecord.{ObjectRecord}
+use Rattle.vt_reading.specs.Readings.{record_by}
+use Rattle.vt_reading.proofs.lemmas.Entries.{over_entries}
+use Rattle.vt_reading.proofs.in_force.records_of.Goals as goal
 
 pub loop-id-init : goal.loop-id-init
 loop-id-init c =

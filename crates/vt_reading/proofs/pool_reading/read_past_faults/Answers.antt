@@ -1,7 +1,7 @@
 use Rattle.std.proofs.Common.{subst, sym}
-use Rattle.vt_inspect.specs.Readings.{NamesObjects, most_mended}
-use Rattle.vt_inspect.proofs.lemmas.Readings.{names_read}
-use Rattle.vt_inspect.proofs.inspection.inspect.Goals as goal
+use Rattle.vt_reading.specs.Readings.{NamesObjects, most_mended}
+use Rattle.vt_reading.proofs.lemmas.Readings.{names_read}
+use Rattle.vt_reading.proofs.pool_reading.read_past_faults.Goals as goal
 
 pub in_force-requires : goal.in_force-requires
 in_force-requires c =

@@ -4,9 +4,9 @@ use Rattle.std.specs.Prelude.{nat_eq}
 use Rattle.std.specs.Map.{lookup}
 use Rattle.indexmap.specs.IndexMap.{get}
 use Rattle.vt_stores.specs.Stores.{seen_entry}
-use Rattle.vt_inspect.specs.Readings.{found_at}
-use Rattle.vt_inspect.proofs.lemmas.InForce.{collecting_begins, collects_replaced, collects_object, collected_objects}
-use Rattle.vt_inspect.proofs.in_force.in_force.Goals as goal
+use Rattle.vt_reading.specs.Readings.{found_at}
+use Rattle.vt_reading.proofs.lemmas.InForce.{collecting_begins, collects_replaced, collects_object, collected_objects}
+use Rattle.vt_reading.proofs.in_force.in_force.Goals as goal
 
 pub loop-record-init : goal.loop-record-init
 loop-record-init c =

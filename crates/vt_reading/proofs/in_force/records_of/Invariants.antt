@@ -4,8 +4,8 @@ use Rattle.vt_kinds.specs.Records.{Seen}
 use Rattle.vt_stores.specs.Stores.{seen_entry}
 use Rattle.std.specs.Prelude.{[], ◌∷◌, nat_eq}
 use Rattle.indexmap.specs.IndexMap.{get}
-use Rattle.vt_inspect.specs.Readings.{record_by}
-use Rattle.vt_inspect.proofs.in_force.records_of.Given as goal
+use Rattle.vt_reading.specs.Readings.{record_by}
+use Rattle.vt_reading.proofs.in_force.records_of.Given as goal
 
 abbrev pub invariant-loop-id : goal.invariant-loop-id
 invariant-loop-id l =

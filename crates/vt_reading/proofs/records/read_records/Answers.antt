@@ -3,10 +3,10 @@ use Rattle.std.proofs.lemmas.List.{append-nil, map-append, drop-drop, length-dro
 use Rattle.std.specs.Prelude.{IsTrue}
 use Rattle.vt_kinds.specs.Records.{seen, record_of}
 use Rattle.vt_records.specs.RecordFaults.{IsStop, fault_at}
-use Rattle.vt_inspect.specs.Readings.{found_at, wants_memory, is_mendable, mended_at, EndsReading}
-use Rattle.vt_inspect.proofs.lemmas.Readings.{drop_mended, length_mended, reads_record, reads_mended, reads_to_fault, reads_to_end}
-use Rattle.vt_inspect.proofs.records.read_records.Goals as goal
-use Rattle.vt_inspect.proofs.records.read_records.Goals.{then-left-eq0-via-then-left-eq0, then-left-eq0-via-else-left-eq0+then-not-is_mendable}
+use Rattle.vt_reading.specs.Readings.{found_at, wants_memory, is_mendable, mended_at, EndsReading}
+use Rattle.vt_reading.proofs.lemmas.Readings.{drop_mended, length_mended, reads_record, reads_mended, reads_to_fault, reads_to_end}
+use Rattle.vt_reading.proofs.records.read_records.Goals as goal
+use Rattle.vt_reading.proofs.records.read_records.Goals.{then-left-eq0-via-then-left-eq0, then-left-eq0-via-else-left-eq0+then-not-is_mendable}
 
 pub loop-at-preserved-in-Ok : goal.loop-at-preserved-in-Ok
 loop-at-preserved-in-Ok c =

@@ -1,5 +1,5 @@
 -- The records of a pool's bytes, with reading going on behind a wrong scale and wrong decimals (docs/PROFILE.md, "Pools
--- and faults").
+-- and faults", "All faults").
 use Rattle.std.specs.Prelude.{◌≡◌, ◌<◌, ◌==◌, ℕ, ◌+◌, ◌-◌, Bool, true, false, if◌then◌else◌, List, [], ◌∷◌, ◌++◌, length, map, reverse, slice_set, IsTrue, Option, Some, None}
 use Rattle.std.specs.List.{AllByRecursion}
 use Rattle.vt_kinds.specs.Ids.{null_id}
@@ -9,10 +9,11 @@ use Rattle.vt_records.specs.declared.fault.PoolFault.{PoolFault}
 use Rattle.vt_records.specs.declared.record_fault.RecordFault.{RecordFault}
 use Rattle.vt_records.specs.declared.record_fault.RecordFault.TheVariants as stops
 use Rattle.vt_records.specs.RecordFaults.{IsStop, fault_at}
-use Rattle.vt_inspect.specs.declared.inspection.ObjectRecord.{ObjectRecord}
-use Rattle.vt_inspect.specs.declared.inspection.ReplacedRecord.{ReplacedRecord}
-use Rattle.vt_inspect.specs.declared.records.FoundRecord.{FoundRecord}
-use Rattle.vt_inspect.specs.declared.records.Records.{Records}
+use Rattle.vt_reading.specs.declared.pool_reading.ObjectRecord.{ObjectRecord}
+use Rattle.vt_reading.specs.declared.pool_reading.PoolReading.{PoolReading}
+use Rattle.vt_reading.specs.declared.pool_reading.ReplacedRecord.{ReplacedRecord}
+use Rattle.vt_reading.specs.declared.records.FoundRecord.{FoundRecord}
+use Rattle.vt_reading.specs.declared.records.Records.{Records}
 
 -- bytes with others written over them from an index on
 abbrev pub written : List ℕ → ℕ → List ℕ → List ℕ
@@ -150,3 +151,15 @@ replaced_by f (Some last) = record { id = f.id; at = f.at; by = last } ∷ []
 abbrev pub replaced_in : List FoundAt → List ReplacedRecord
 replaced_in [] = []
 replaced_in (f ∷ found) = replaced_by f (last_at f.id found) ++ replaced_in found
+
+-- ---- the whole reading
+
+-- The records, the objects in force and the faults of a reading of the bytes.
+pub record IsPoolReading (bytes : List ℕ) (r : PoolReading) : Type 0 where
+  pub steps : List Step
+  pub reading : IsReading most_mended bytes steps
+  pub objects : r.objects ≡ objects_of (found_from 0 steps)
+  pub records : r.records.items ≡ map (record_in (found_from 0 steps)) r.objects
+  pub replaced : r.replaced.items ≡ replaced_in (found_from 0 steps)
+  pub faults : r.faults.items ≡ faults_from 0 steps
+  pub unread : r.unread ≡ unread_from 0 steps

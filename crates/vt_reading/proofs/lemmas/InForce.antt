@@ -15,8 +15,8 @@ use Rattle.vt_stores.proofs.SortedEntries.{three, equal}
 use Rattle.vt_stores.proofs.BinarySearch.{other_id}
 use Rattle.vt_verify.specs.Updates.{or_else}
 use Rattle.vt_verify.proofs.lemmas.stores.UpdatedStore.{found_joined, named_more}
-use Rattle.vt_inspect.specs.declared.inspection.ReplacedRecord.{ReplacedRecord}
-use Rattle.vt_inspect.specs.Readings.{FoundAt, entry_of, objects_of, later_or, last_at, replaced_by, replaced_in, NamesObjects}
+use Rattle.vt_reading.specs.declared.pool_reading.ReplacedRecord.{ReplacedRecord}
+use Rattle.vt_reading.specs.Readings.{FoundAt, entry_of, objects_of, later_or, last_at, replaced_by, replaced_in, NamesObjects}
 
 -- two tests of equality
 pub same_test : (q id : ℕ) → eq_by_cmp nat_cmp q id ≡ eqb q id

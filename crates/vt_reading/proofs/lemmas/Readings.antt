@@ -7,8 +7,8 @@ use Rattle.vt_records.specs.declared.fault.PoolFault.{PoolFault}
 use Rattle.vt_records.specs.declared.record_fault.RecordFault.{RecordFault}
 use Rattle.vt_records.specs.declared.record_fault.RecordFault.TheVariants as stops
 use Rattle.vt_records.specs.RecordFaults.{IsStop, fault_at}
-use Rattle.vt_inspect.specs.Readings.{written, scale_one, is_mendable, mended, mended_at, EndsReading, Step, most_mended, IsReading, FoundAt, found_from, faults_from, unread_from, NamesObjects}
-use Rattle.vt_inspect.specs.Readings.Step.{Found, Mended, Ended}
+use Rattle.vt_reading.specs.Readings.{written, scale_one, is_mendable, mended, mended_at, EndsReading, Step, most_mended, IsReading, FoundAt, found_from, faults_from, unread_from, NamesObjects}
+use Rattle.vt_reading.specs.Readings.Step.{Found, Mended, Ended}
 
 -- ---- mended bytes
 

@@ -3,7 +3,7 @@
 ghost use Rattle.std.specs.Prelude.{◌≡◌, ◌<◌, ◌+◌, ◌++◌, length, drop, slice_set, IfOk, IfErr};
 ghost use Rattle.vt_kinds.specs.Records.{seen, record_of, HasRecord};
 ghost use Rattle.vt_records.specs.RecordFaults.{IsStop};
-ghost use Rattle.vt_inspect.specs.Readings.{AreRead, wants_memory, is_mendable, mended_at};
+ghost use Rattle.vt_reading.specs.Readings.{AreRead, wants_memory, is_mendable, mended_at};
 
 use std::alloc::{AllocError, Global};
 use vt_objects::{Object, ObjectId};

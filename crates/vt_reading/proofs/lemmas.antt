@@ -1,0 +1,4 @@
+pub mod Bytes
+pub mod Entries
+pub mod InForce
+pub mod Readings
