@@ -1,11 +1,12 @@
 -- The messages of items.
-use Rattle.std.specs.Prelude.{◌≡◌, ◌≤◌, ℕ, length, IsSome}
+use Rattle.std.specs.Prelude.{◌≡◌, ◌≤◌, ℕ, Option, None, length, IsSome}
 use Rattle.vt_findings_text.specs.declared.item.Item.{Item}
 use Rattle.vt_findings_text.specs.declared.item.Item.TheVariants as items
 use Rattle.vt_findings_text.specs.declared.message.Message.{Message}
 use Rattle.vt_findings_text.specs.declared.source.Source.{Source}
 use Rattle.vt_findings_text.specs.Codes.{texts, code_of}
 use Rattle.vt_findings_text.specs.Severities.{severity_of}
+use Rattle.vt_inspect.specs.declared.finding.FindingPlace.{FindingPlace}
 use Rattle.vt_inspect.specs.declared.inspection.Inspection.{Inspection}
 use Rattle.vt_inspect.specs.declared.inspection.Note.{Note}
 use Rattle.vt_inspect.specs.declared.inspection.Note.TheVariants as notes
@@ -35,10 +36,14 @@ pub record IsRecordAt (i : Inspection) (id at : ℕ) : Type 0 where
   pub of : IsRecordOf i id r
   pub at_is : at ≡ r.at
 
+-- the first byte at a place; 0 for the whole pool
+pub record IsFirstByte (i : Inspection) (place : Option FindingPlace) (at : ℕ) : Type 0 where
+  pub whole : place ≡ None → at ≡ 0
+  pub placed : length i.objects ≤ length i.records.items → HasOffset i place → IsOffset i place at
+
 -- The index of the byte that an item is about. Each object has a record in an inspection.
 abbrev pub IsItemOffset : Inspection → Item → ℕ → Type 0
-IsItemOffset i (items.Finding finding) at =
-    length i.objects ≤ length i.records.items → HasOffset i (place_of finding.now) → IsOffset i (place_of finding.now) at
+IsItemOffset i (items.Finding finding) at = IsFirstByte i (place_of finding.now) at
 IsItemOffset i (items.Replaced replaced) at = at ≡ replaced.now.at
 IsItemOffset i (items.Warning warning) at =
     length i.objects ≤ length i.records.items → IsSome (object_at i.objects (object_of warning.now)) → IsRecordAt i (object_of warning.now) at

@@ -5,8 +5,8 @@ ghost use Rattle.std.specs.Option.{option_map};
 ghost use Rattle.vt_kinds.specs.Records.{kind_of};
 ghost use Rattle.vt_stores.specs.Stores.{object_at};
 ghost use Rattle.vt_findings_text.specs.Labels.{label_seen, label_at};
-ghost use Rattle.vt_findings_text.specs.Messages.{IsItemOffset, IsMessage, IsRecordAt, note_offset, object_of};
-ghost use Rattle.vt_inspect.specs.Places.{HasOffset, IsOffset, place_of};
+ghost use Rattle.vt_findings_text.specs.Messages.{IsFirstByte, IsItemOffset, IsMessage, IsRecordAt, note_offset, object_of};
+ghost use Rattle.vt_inspect.specs.Places.{place_of};
 
 use crate::codes::code_of;
 use crate::item::Item;
@@ -73,7 +73,7 @@ impl<'a> Source<'a> {
 
     /// The index of the first byte of a finding; 0 for the whole pool.
     fn finding_at(&self, finding: &Finding) -> usize
-        ensures { length self.now.inspection.now.objects ≤ length self.now.inspection.now.records.items → HasOffset self.now.inspection.now (place_of finding.now) → IsOffset self.now.inspection.now (place_of finding.now) result }
+        ensures { IsFirstByte self.now.inspection.now (place_of finding.now) result }
     {
         match self.inspection.offset(finding) {
             Some(at) => at,

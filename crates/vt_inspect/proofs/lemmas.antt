@@ -1,11 +1,8 @@
 pub mod Appends
-pub mod Circles
 pub mod Closed
 pub mod Commands
-pub mod Marks
 pub mod Missing
 pub mod Objects
 pub mod OverBudget
-pub mod ReducedGraphs
 pub mod Whole
 pub mod WorkingSets

@@ -4,7 +4,9 @@ use Rattle.std.specs.List.{flat_map}
 use Rattle.vt_commands.specs.declared.command.Command.{Command}
 use Rattle.vt_commands.specs.declared.command.Command.TheVariants.{ChangeAttribute}
 use Rattle.vt_commands.specs.Pieces.{cut}
+use Rattle.vt_rank.specs.declared.circle.Circle.{Circle}
 use Rattle.vt_rank.specs.Paths.{HasNoCircle}
+use Rattle.vt_circles.specs.Circles.{AreCircles}
 use Rattle.vt_chains.specs.Inclusions.{included, IsShallow, IsTooDeep}
 use Rattle.vt_chains.specs.Limits.{terminal}
 use Rattle.vt_stores.specs.Shapes.{Shape, shape_of}
@@ -25,7 +27,6 @@ use Rattle.vt_inspect.specs.declared.macros.CommandRule.{CommandRule}
 use Rattle.vt_inspect.specs.declared.macros.CommandRule.TheVariants.{IsAllowed, HasAttribute}
 use Rattle.vt_inspect.specs.Lists.{all_failing}
 use Rattle.vt_inspect.specs.References.{missing_at, wrong_kinds_at, failing_targets_at, function_of}
-use Rattle.vt_inspect.specs.Circles.{AreCircles}
 use Rattle.vt_inspect.specs.Costs.{over_findings}
 
 -- ---- rules 1 and 2
@@ -79,11 +80,14 @@ if_whole (Some bytes) = if is_some (cut bytes) then Some bytes else None
 
 -- ---- rules 11 and 12
 
+abbrev pub circle_finding : Circle → Finding
+circle_finding circle = findings.MacroCircle circle.path
+
 -- Without known triggers nothing is found, without known costs circles alone.
 pub data AreOfTriggers (shape : Shape) (found : List Finding) (left_out : List Note) : Type 0 where
   Cut : (cut_findings shape ≡ [] → ⊥) → found ≡ [] → left_out ≡ notes.UnknownTriggers ∷ [] → AreOfTriggers shape found left_out
-  Circles : cut_findings shape ≡ [] → (HasNoCircle (triggered shape) → ⊥) → AreCircles (triggered shape) found → left_out ≡ notes.UnknownCosts ∷ []
-      → AreOfTriggers shape found left_out
+  Circles : cut_findings shape ≡ [] → (HasNoCircle (triggered shape) → ⊥) → (circles : List Circle) → AreCircles (triggered shape) circles
+      → found ≡ map circle_finding circles → left_out ≡ notes.UnknownCosts ∷ [] → AreOfTriggers shape found left_out
   Costs : cut_findings shape ≡ [] → HasNoCircle (triggered shape) → found ≡ over_findings shape → left_out ≡ [] → AreOfTriggers shape found left_out
 
 -- ---- all rules
@@ -114,6 +118,10 @@ pub record AreFindings (are_all : Bool) (objects : Objects) (found : List Findin
   pub are : found ≡ slot_findings are_all objects ++ chains ++ macro_findings are_all (shape_of objects) ++ triggers
   pub deepest : IsDeepest (included objects) chains
   pub of_triggers : AreOfTriggers (shape_of objects) triggers left_out
+
+-- the circles of macros are appended
+abbrev pub PutsCircles : (ℕ → List ℕ) → List Finding → List Finding → Type 0
+PutsCircles triggered old new = (circles : List Circle) × AreCircles triggered circles × (new ≡ old ++ map circle_finding circles)
 
 -- the findings of the triggers are appended, and what was not judged
 pub record PutsTriggers (shape : Shape) (old new : List Finding) (before after : List Note) : Type 0 where

@@ -13,7 +13,6 @@ mod finding;
 mod inclusions;
 mod inspection;
 mod macros;
-mod reduced_graph;
 mod references;
 mod rules;
 mod targets;

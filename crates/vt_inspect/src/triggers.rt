@@ -1,26 +1,25 @@
 //! Rules 11 and 12: circles of macros, and their costs.
 
-ghost use Rattle.std.specs.Prelude.{◌≡◌, ◌+◌, [], ◌++◌, ◌&&◌, not, filter, map, OnOk, length, nat_lt, slice_index, slice_set, sum_by};
+ghost use Rattle.std.specs.Prelude.{◌≡◌, ◌+◌, [], ◌++◌, ◌&&◌, not, filter, map, OnOk, length, nat_lt, slice_index, sum_by};
 ghost use Rattle.std.specs.List.{list_any};
 ghost use Rattle.vt_kinds.specs.Records.{seen};
 ghost use Rattle.vt_rank.specs.Costs.{AreCostsUpTo};
-ghost use Rattle.vt_rank.specs.Graphs.{triggered, lists};
+ghost use Rattle.vt_rank.specs.Graphs.{triggered};
 ghost use Rattle.vt_rank.specs.Paths.{AreRanks};
 ghost use Rattle.vt_chains.specs.Limits.{terminal};
 ghost use Rattle.vt_stores.specs.Shapes.{shape_of, fixed};
 ghost use Rattle.vt_verify.specs.Orders.{named_macros};
 ghost use Rattle.vt_verify.specs.Triggers.{run_by_name};
 ghost use Rattle.vt_verify.specs.TriggerGraphs.{IsTriggerGraph, listed_events};
-ghost use Rattle.vt_inspect.specs.Circles.{cleared, PutsCircles};
 ghost use Rattle.vt_inspect.specs.Costs.{over_findings, macro_finding, event_finding, AreMacroCosts, costs_too_much, event_costs_too_much};
-ghost use Rattle.vt_inspect.specs.Findings.{cut_findings, PutsTriggers};
+ghost use Rattle.vt_inspect.specs.Findings.{cut_findings, PutsCircles, PutsTriggers};
 
 use crate::finding::Finding;
 use crate::inspection::Note;
-use crate::reduced_graph::reduced;
 use std::alloc::{AllocError, Global};
+use vt_circles::circles;
 use vt_objects::{Object, ObjectId, SortedStore};
-use vt_rank::{Graph, Item, Ranks, cost_of_nodes, costs_up_to, rank};
+use vt_rank::{Graph, Ranks, cost_of_nodes, costs_up_to, rank};
 use vt_verify::{TERMINAL_LIMITS, TriggerGraph, named_macro};
 
 /// Appends the circles of macros, no two of which share a macro, or, without a circle, the macros and the events that can
@@ -45,46 +44,15 @@ pub(crate) fn put_triggers(
     }
 }
 
-/// Appends the circles of a graph: the one of the least macro, then, without the commands of its macros, the next, until
+/// Appends the circles of macros: the one of the least macro, then, without the commands of its macros, the next, until
 /// there is none.
-///
-/// Reads the commands of the graph once, however many circles there are. Each circle costs as much as 256 commands of
-/// at most 256 macros each.
 fn put_circles(alloc: Global, graph: &Graph, findings: &mut Vec<Finding>) -> Result<(), AllocError>
     ensures { OnOk result (PutsCircles (triggered graph.now) findings.old.items findings.new.items) }
 {
-    let mut small = reduced(alloc, graph)?;
-    take_circles(&mut small, findings)
-}
-
-/// Appends the circles of a graph, and takes the commands of their macros out of it.
-fn take_circles(graph: &mut Graph, findings: &mut Vec<Finding>) -> Result<(), AllocError>
-    ensures { OnOk result (PutsCircles (triggered graph.old) findings.old.items findings.new.items) }
-{
-    while let Err(circle) = rank(graph) {
-        clear(graph, circle.path.as_slice());
+    for circle in circles(alloc, graph)? {
         findings.push(Finding::MacroCircle { path: circle.path })?;
     }
     Ok(())
-}
-
-/// Takes the commands of some macros out of a graph.
-fn clear(graph: &mut Graph, macros: &[u8])
-    ensures nodes { lists graph.new.nodes ≡ cleared macros.now (lists graph.old.nodes) }
-    ensures groups { lists graph.new.groups ≡ lists graph.old.groups }
-    ensures most { graph.new.most.items ≡ graph.old.most.items }
-{
-    for id in macros {
-        clear_items(&mut graph.nodes, usize::from(*id));
-    }
-}
-
-fn clear_items(nodes: &mut Vec<Vec<Item>>, index: usize)
-    ensures { lists nodes.new ≡ slice_set (lists nodes.old) index [] }
-{
-    if let Some(items) = nodes.get_mut(index) {
-        items.clear();
-    }
 }
 
 /// Appends the macros that can cost too many steps, and the events that can though no macro listed there can.

@@ -5,6 +5,8 @@ use Rattle.std.proofs.lemmas.List.Elements.{Contains-append_left, Contains-appen
 use Rattle.std.specs.Prelude.{Contains, filter}
 use Rattle.std.specs.List.{flat_map, list_any, AllByRecursion}
 use Rattle.vt_rank.specs.Paths.{IsPath, IsCircle}
+use Rattle.vt_rank.specs.declared.circle.Circle.{Circle}
+use Rattle.vt_circles.specs.Circles.{without, AreCircles}
 use Rattle.vt_chains.specs.Inclusions.{included, IsShallow}
 use Rattle.vt_chains.specs.Limits.{terminal}
 use Rattle.vt_chains.proofs.Elements.{Contains-head, Contains-tail}
@@ -21,10 +23,9 @@ use Rattle.vt_inspect.specs.declared.finding.Finding.{Finding}
 use Rattle.vt_inspect.specs.declared.finding.Finding.TheVariants as findings
 use Rattle.vt_inspect.specs.declared.inspection.Note.{Note}
 use Rattle.vt_inspect.specs.declared.inspection.Note.TheVariants as notes
-use Rattle.vt_inspect.specs.Circles.{without, AreCircles}
 use Rattle.vt_inspect.specs.Lists.{all_failing}
 use Rattle.vt_inspect.specs.Costs.{costs_too_much, event_costs_too_much, macro_finding, event_finding}
-use Rattle.vt_inspect.specs.Findings.{if_all, working_set_ids, set_findings, IsDeepest, cut_findings, command_findings, value_finding, value_findings, target_findings, AreOfTriggers, slot_findings, macro_findings}
+use Rattle.vt_inspect.specs.Findings.{circle_finding, if_all, working_set_ids, set_findings, IsDeepest, cut_findings, command_findings, value_finding, value_findings, target_findings, AreOfTriggers, slot_findings, macro_findings}
 use Rattle.vt_inspect.specs.Findings.AreOfTriggers.{Cut, Circles, Costs}
 use Rattle.vt_inspect.specs.References.{function_of, passes_at, missing_at, wrong_kinds_at, slots_at, slot_values_at, own_references_at, failing_targets_at}
 use Rattle.vt_inspect.proofs.lemmas.Missing.{fails_among}
@@ -50,7 +51,7 @@ some_chain inside others is deep = absurd is
 over_in : (shape : Shape) (found : List Finding) (left_out : List Note) → AreOfTriggers shape found left_out → left_out ≡ [] → (id : ℕ) → terminal.steps < cost shape id
     → Contains found (findings.OverBudget id None)
 over_in shape found left_out (Cut cut is left) none id over = absurd (let never = sym left ∙ none in cc)
-over_in shape found left_out (Circles was circle are left) none id over = absurd (let never = sym left ∙ none in cc)
+over_in shape found left_out (Circles was circle circles are made left) none id over = absurd (let never = sym left ∙ none in cc)
 over_in shape found left_out (Costs was no_circle is left) none id over =
     let macro_list = filter (costs_too_much shape) (named_macros shape) in
     let inside = is_named shape id (λ no_commands. let nothing = free shape id no_commands in absurd (omega arith)) in
@@ -61,7 +62,7 @@ over_in shape found left_out (Costs was no_circle is left) none id over =
 event_in : (shape : Shape) (found : List Finding) (left_out : List Note) → AreOfTriggers shape found left_out → left_out ≡ [] → (e : Listing)
     → Contains (listed_events shape) e → event_costs_too_much shape e ≡ true → Contains found (event_finding e)
 event_in shape found left_out (Cut cut is left) none e inside over = absurd (let never = sym left ∙ none in cc)
-event_in shape found left_out (Circles was circle are left) none e inside over = absurd (let never = sym left ∙ none in cc)
+event_in shape found left_out (Circles was circle circles are made left) none e inside over = absurd (let never = sym left ∙ none in cc)
 event_in shape found left_out (Costs was no_circle is left) none e inside over =
     let events = filter (event_costs_too_much shape) (listed_events shape) in
     subst (λ (l : List Finding). Contains l (event_finding e)) (sym is)
@@ -110,19 +111,23 @@ circle_left next listed (n ∷ ns) apart is = path_left next listed ((n ∷ ns) 
 later_circle : (first : Finding) (others : List Finding) (path : List ℕ) → (f : Finding) × Contains others f × SharesMacro path f → (f : Finding) × Contains (first ∷ others) f × SharesMacro path f
 later_circle first others path found = (found.0, Contains-tail first found.0 others found.1, found.2)
 
-shared : (found : List Finding) (next : ℕ → List ℕ) → AreCircles next found → (path : List ℕ) → IsCircle next path → (f : Finding) × Contains found f × SharesMacro path f
+shared : (circles : List Circle) (next : ℕ → List ℕ) → AreCircles next circles → (path : List ℕ) → IsCircle next path
+    → (f : Finding) × Contains (map circle_finding circles) f × SharesMacro path f
 shared [] next are path is = absurd (are path is)
-shared (findings.MacroCircle circle ∷ others) next are path is =
-    elim (common circle.items path) as (λ _. (f : Finding) × Contains (findings.MacroCircle circle ∷ others) f × SharesMacro path f) [
-      | Shared m inside there ↦ (findings.MacroCircle circle, Contains-head (findings.MacroCircle circle) others, (m, inside, there))
-      | Apart apart ↦ later_circle (findings.MacroCircle circle) others path (shared others (without circle.items next) are.1 path (circle_left next circle.items path apart is))
+shared (circle ∷ circles) next are path is =
+    let first = circle_finding circle in
+    let others = map circle_finding circles in
+    let ms = circle.path.items in
+    elim (common ms path) as (λ _. (f : Finding) × Contains (first ∷ others) f × SharesMacro path f) [
+      | Shared m inside there ↦ (first, Contains-head first others, (m, inside, there))
+      | Apart apart ↦ later_circle first others path (shared circles (without ms next) are.1 path (circle_left next ms path apart is))
     ]
-shared (finding ∷ others) next are path is = absurd are
 
 circle_in : (shape : Shape) (found : List Finding) (left_out : List Note) → AreOfTriggers shape found left_out → left_out ≡ notes.UnknownCosts ∷ [] → (path : List ℕ)
     → IsCircle (triggered shape) path → (f : Finding) × Contains found f × SharesMacro path f
 circle_in shape found left_out (Cut cut is left) costs path circle = absurd (let never = sym left ∙ costs in cc)
-circle_in shape found left_out (Circles was known are left) costs path circle = shared found (triggered shape) are path circle
+circle_in shape found left_out (Circles was known circles are made left) costs path circle =
+    subst (λ (l : List Finding). (f : Finding) × Contains l f × SharesMacro path f) (sym made) (shared circles (triggered shape) are path circle)
 circle_in shape found left_out (Costs was no_circle is left) costs path circle = absurd (no_circle path circle)
 
 set_in : (are_all : Bool) (ids : List ℕ) (first : ℕ) (others : List ℕ) (id : ℕ) → ids ≡ first ∷ others → Contains others id

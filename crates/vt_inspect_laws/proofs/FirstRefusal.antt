@@ -7,6 +7,8 @@ use Rattle.std.specs.Ordering.{nat_cmp}
 use Rattle.std.specs.FinMap as finite
 use Rattle.vt_commands.specs.declared.command.Command.{Command}
 use Rattle.vt_commands.specs.declared.command.Command.TheVariants.{ChangeAttribute}
+use Rattle.vt_rank.specs.declared.circle.Circle.{Circle}
+use Rattle.vt_circles.specs.Circles.{AreCircles}
 use Rattle.vt_chains.specs.Inclusions.{included}
 use Rattle.vt_chains.specs.Limits.{terminal}
 use Rattle.vt_chains.proofs.IdIndices.{rising as entries_rise}
@@ -35,9 +37,8 @@ use Rattle.vt_inspect.specs.declared.finding.Finding.TheVariants as findings
 use Rattle.vt_inspect.specs.declared.finding.ReferenceAt.{ReferenceAt}
 use Rattle.vt_inspect.specs.declared.inspection.Note.{Note}
 use Rattle.vt_inspect.specs.Lists.{all_failing}
-use Rattle.vt_inspect.specs.Circles.{AreCircles}
 use Rattle.vt_inspect.specs.Costs.{costs_too_much, event_costs_too_much, macro_finding, event_finding, over_findings}
-use Rattle.vt_inspect.specs.Findings.{working_set_ids, set_findings, IsDeepest, cut_findings, command_findings, value_finding, value_findings, target_findings, AreOfTriggers, slot_findings, macro_findings, AreFindings}
+use Rattle.vt_inspect.specs.Findings.{circle_finding, working_set_ids, set_findings, IsDeepest, cut_findings, command_findings, value_finding, value_findings, target_findings, AreOfTriggers, slot_findings, macro_findings, AreFindings}
 use Rattle.vt_inspect.specs.Findings.AreOfTriggers.{Cut, Circles, Costs}
 use Rattle.vt_inspect.specs.Inspections.{is_none}
 use Rattle.vt_reading.specs.Readings.{FoundAt, entry_of, found_from, objects_of}
@@ -159,13 +160,13 @@ module _ (objects : Objects) (rising : IsRising objects) (g : Finding) where
 
   -- ---- rules 11 and 12
 
-  circles_say : (found tail : List Finding) → HoldBefore terminal objects TriggersAreNoCircle → AreCircles (triggered (shape_of objects)) found → found ≡ g ∷ tail → Says objects g
+  circles_say : (circles : List Circle) (tail : List Finding) → HoldBefore terminal objects TriggersAreNoCircle → AreCircles (triggered (shape_of objects)) circles
+      → map circle_finding circles ≡ g ∷ tail → Says objects g
   circles_say [] tail before are is = absurd cc
-  circles_say (findings.MacroCircle path ∷ others) tail before are is =
-      let same : findings.MacroCircle path ≡ g = cc in
-      said (findings.MacroCircle path) (refusals.MacroCircle path) same refl
+  circles_say (circle ∷ circles) tail before are is =
+      let same : circle_finding circle ≡ g = cc in
+      said (circle_finding circle) (refusals.MacroCircle circle.path) same refl
       (before, record { circle = are.0.circle; once = are.0.once; least = are.0.least }) (λ w. w)
-  circles_say (finding ∷ others) tail before are is = absurd are
 
   costs_say : (tail : List Finding) → HoldBefore terminal objects BudgetsAreWithin → over_findings (shape_of objects) ≡ g ∷ tail → Says objects g
   costs_say tail before is =
@@ -185,7 +186,7 @@ module _ (objects : Objects) (rising : IsRising objects) (g : Finding) where
   triggers_say : (found tail : List Finding) (left_out : List Note) → HoldBefore terminal objects TriggersAreNoCircle → cut_findings (shape_of objects) ≡ []
       → AreOfTriggers (shape_of objects) found left_out → found ≡ g ∷ tail → Says objects g
   triggers_say found tail left_out before whole (Cut cut none notes) is = absurd (cut whole)
-  triggers_say found tail left_out before whole (Circles was known are notes) is = circles_say found tail before are is
+  triggers_say found tail left_out before whole (Circles was known circles are made notes) is = circles_say circles tail before are (sym made ∙ is)
   triggers_say found tail left_out before whole (Costs was no_circle are notes) is =
       let b = before in
       costs_say tail (b.0, (b.1.0, (b.1.1.0, (b.1.1.1.0, (b.1.1.1.1.0, (b.1.1.1.1.1.0, (b.1.1.1.1.1.1.0, (b.1.1.1.1.1.1.1.0, (b.1.1.1.1.1.1.1.1.0, (b.1.1.1.1.1.1.1.1.1.0, (no_circle, tt))))))))))) (sym are ∙ is)

@@ -6,6 +6,8 @@ use Rattle.std.specs.List.{flat_map}
 use Rattle.vt_commands.specs.declared.command.Command.{Command}
 use Rattle.vt_commands.specs.declared.command.Command.TheVariants.{ChangeAttribute}
 use Rattle.vt_rank.specs.Paths.{HasNoCircle}
+use Rattle.vt_rank.specs.declared.circle.Circle.{Circle}
+use Rattle.vt_circles.specs.Circles.{AreCircles}
 use Rattle.vt_chains.specs.Inclusions.{included, IsShallow}
 use Rattle.vt_chains.specs.Limits.{terminal}
 use Rattle.vt_records.specs.declared.fault.PoolFault.{PoolFault}
@@ -26,8 +28,7 @@ use Rattle.vt_inspect.specs.declared.finding.Finding.TheVariants as findings
 use Rattle.vt_inspect.specs.declared.finding.ReferenceAt.{ReferenceAt}
 use Rattle.vt_inspect.specs.declared.inspection.Note.{Note}
 use Rattle.vt_inspect.specs.Lists.{all_failing}
-use Rattle.vt_inspect.specs.Circles.{AreCircles}
-use Rattle.vt_inspect.specs.Findings.{working_set_ids, set_findings, IsDeepest, cut_findings, command_findings, value_finding, value_findings, target_findings, AreOfTriggers, slot_findings, macro_findings, AreFindings}
+use Rattle.vt_inspect.specs.Findings.{circle_finding, working_set_ids, set_findings, IsDeepest, cut_findings, command_findings, value_finding, value_findings, target_findings, AreOfTriggers, slot_findings, macro_findings, AreFindings}
 use Rattle.vt_inspect.specs.Findings.AreOfTriggers.{Cut, Circles, Costs}
 use Rattle.vt_inspect.specs.Inspections.{is_none}
 use Rattle.vt_reading.specs.Readings.{FoundAt, entry_of, found_from, faults_from, objects_of}
@@ -102,16 +103,20 @@ nothing_fails test xs none = none_all test (λ x. x) xs (ap (first_failing test)
 
 -- ---- the rules
 
+no_circles : (next : ℕ → List ℕ) (circles : List Circle) → AreCircles next circles → map circle_finding circles ≡ [] → HasNoCircle next
+no_circles next [] are none = are
+no_circles next (circle ∷ circles) are none = absurd cc
+
 triggers_hold : (shape : Shape) (found : List Finding) (left_out : List Note) → AreOfTriggers shape found left_out → found ≡ [] → cut_findings shape ≡ []
     → HasNoCircle (triggered shape) × IsWithinBudget terminal.steps shape
 triggers_hold shape found left_out (Cut cut is notes) none whole = absurd (cut whole)
-triggers_hold shape found left_out (Circles was circle are notes) none whole = absurd (circle (subst (AreCircles (triggered shape)) none are))
+triggers_hold shape found left_out (Circles was circle circles are made notes) none whole = absurd (circle (no_circles (triggered shape) circles are (sym made ∙ none)))
 triggers_hold shape found left_out (Costs was no_circle is notes) none whole = (no_circle, within shape (sym is ∙ none))
 
 no_triggers : (shape : Shape) (found : List Finding) (left_out : List Note) → AreOfTriggers shape found left_out → cut_findings shape ≡ []
     → HasNoCircle (triggered shape) → IsWithinBudget terminal.steps shape → found ≡ []
 no_triggers shape found left_out (Cut cut is notes) whole no_circle fits = is
-no_triggers shape found left_out (Circles was circle are notes) whole no_circle fits = absurd (circle no_circle)
+no_triggers shape found left_out (Circles was circle circles are made notes) whole no_circle fits = absurd (circle no_circle)
 no_triggers shape found left_out (Costs was none is notes) whole no_circle fits = is ∙ none_over shape fits
 
 pub rules_hold : (objects : Objects) (found : List Finding) (left_out : List Note) → AreFindings true objects found left_out → found ≡ [] → IsAcceptable terminal objects

@@ -7,6 +7,8 @@ use Rattle.std.specs.List.{flat_map, list_any}
 use Rattle.vt_commands.specs.declared.command.Command.{Command}
 use Rattle.vt_commands.specs.declared.command.Command.TheVariants.{ChangeAttribute}
 use Rattle.vt_rank.specs.Paths.{IsPath, IsCircle}
+use Rattle.vt_rank.specs.declared.circle.Circle.{Circle}
+use Rattle.vt_circles.specs.Circles.{without, AreCircles}
 use Rattle.vt_chains.specs.Inclusions.{included}
 use Rattle.vt_chains.specs.Limits.{terminal}
 use Rattle.vt_chains.proofs.Elements.{Contains-nil, Contains-head, Contains-tail, cons_case}
@@ -24,9 +26,8 @@ use Rattle.vt_inspect.specs.declared.finding.Finding.{Finding}
 use Rattle.vt_inspect.specs.declared.finding.Finding.TheVariants as findings
 use Rattle.vt_inspect.specs.declared.inspection.Note.{Note}
 use Rattle.vt_inspect.specs.Lists.{all_failing}
-use Rattle.vt_inspect.specs.Circles.{without, AreCircles}
 use Rattle.vt_inspect.specs.Costs.{costs_too_much, event_costs_too_much, macro_finding, event_finding, over_findings}
-use Rattle.vt_inspect.specs.Findings.{if_all, working_set_ids, set_findings, IsDeepest, cut_findings, command_findings, value_finding, value_findings, target_findings, AreOfTriggers, slot_findings, macro_findings}
+use Rattle.vt_inspect.specs.Findings.{circle_finding, if_all, working_set_ids, set_findings, IsDeepest, cut_findings, command_findings, value_finding, value_findings, target_findings, AreOfTriggers, slot_findings, macro_findings}
 use Rattle.vt_inspect.specs.Findings.AreOfTriggers.{Cut, Circles, Costs}
 use Rattle.vt_inspect.specs.References.{function_of, passes_at, missing_at, wrong_kinds_at, slots_at, slot_values_at, own_references_at, failing_targets_at}
 use Rattle.vt_inspect_laws.specs.Laws.{IsCulprit, FindingsAreTrue}
@@ -205,14 +206,15 @@ module _ (objects : Objects) (g : Finding) where
   left_case true l n inside = absurd (Contains-nil n inside)
   left_case false l n inside = inside
 
-  true_circles : (found : List Finding) (next : ℕ → List ℕ) → ((m n : ℕ) → Contains (next m) n → Contains (triggered (shape_of objects) m) n) → AreCircles next found
-      → Contains found g → IsCulprit objects g
+  true_circles : (circles : List Circle) (next : ℕ → List ℕ) → ((m n : ℕ) → Contains (next m) n → Contains (triggered (shape_of objects) m) n) → AreCircles next circles
+      → Contains (map circle_finding circles) g → IsCulprit objects g
   true_circles [] next sub are inside = absurd (Contains-nil g inside)
-  true_circles (findings.MacroCircle path ∷ others) next sub are inside =
-      cons_case (IsCulprit objects g) (findings.MacroCircle path) g others inside
-      (λ same. is_it (findings.MacroCircle path) same (circle_kept next (triggered (shape_of objects)) sub path.items are.0.circle, are.0.once))
-      (true_circles others (without path.items next) (λ m n h. sub m n (left_case (list_any (λ k. eqb m k) path.items) (next m) n h)) are.1)
-  true_circles (finding ∷ others) next sub are inside = absurd are
+  true_circles (circle ∷ circles) next sub are inside =
+      let first = circle_finding circle in
+      let ms = circle.path.items in
+      cons_case (IsCulprit objects g) first g (map circle_finding circles) inside
+      (λ same. is_it first same (circle_kept next (triggered (shape_of objects)) sub ms are.0.circle, are.0.once))
+      (true_circles circles (without ms next) (λ m n h. sub m n (left_case (list_any (λ k. eqb m k) ms) (next m) n h)) are.1)
 
   true_costs : Contains (over_findings (shape_of objects)) g → IsCulprit objects g
   true_costs inside =
@@ -230,7 +232,8 @@ module _ (objects : Objects) (g : Finding) where
 
   true_triggers : (found : List Finding) (left_out : List Note) → AreOfTriggers (shape_of objects) found left_out → Contains found g → IsCulprit objects g
   true_triggers found left_out (Cut cut is notes) inside = absurd (Contains-nil g (subst (λ (l : List Finding). Contains l g) is inside))
-  true_triggers found left_out (Circles was circle are notes) inside = true_circles found (triggered (shape_of objects)) (λ m n h. h) are inside
+  true_triggers found left_out (Circles was circle circles are made notes) inside =
+      true_circles circles (triggered (shape_of objects)) (λ m n h. h) are (subst (λ (l : List Finding). Contains l g) made inside)
   true_triggers found left_out (Costs was none is notes) inside = true_costs (subst (λ (l : List Finding). Contains l g) is inside)
 
 pub all_true : FindingsAreTrue

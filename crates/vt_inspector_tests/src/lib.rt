@@ -2,6 +2,8 @@
 #![tactic(auto)]
 
 #[cfg(test)]
+mod circles;
+#[cfg(test)]
 mod runs;
 #[cfg(test)]
 mod shelf;

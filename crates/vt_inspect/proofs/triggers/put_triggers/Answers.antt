@@ -1,12 +1,13 @@
-use Rattle.std.proofs.Common.{◌≡◌, ℕ, List, [], ◌∷◌, refl, sym, subst}
+use Rattle.std.proofs.Common.{◌≡◌, ℕ, List, [], ◌∷◌, map, refl, sym, subst}
 use Rattle.std.proofs.lemmas.List.{append-nil}
 use Rattle.vt_rank.specs.Graphs as graphs
+use Rattle.vt_circles.specs.Circles.{AreCircles}
 use Rattle.vt_stores.specs.Shapes.{shape_of}
 use Rattle.vt_verify.specs.Triggers.{triggered}
 use Rattle.vt_verify.proofs.lemmas.graphs.SameTriggers.{everywhere, triggered_is, circle_is, no_circle}
 use Rattle.vt_inspect.specs.declared.inspection.Note.TheVariants as notes
-use Rattle.vt_inspect.specs.Circles.{AreCircles}
 use Rattle.vt_inspect.specs.Costs.{over_findings}
+use Rattle.vt_inspect.specs.Findings.{circle_finding}
 use Rattle.vt_inspect.specs.Findings.AreOfTriggers.{Circles, Costs}
 use Rattle.vt_inspect.proofs.lemmas.Commands.{on_ok}
 use Rattle.vt_inspect.proofs.lemmas.Whole.{all_whole}
@@ -35,11 +36,11 @@ returns c =
     let circles = c.in_ok-put_circles-in-Err.ensures in
     let same : graphs.triggered t.graph ≡ triggered shape = everywhere (triggered_is shape t.events.keys t.graph c.in_ok-triggers.ensures) in
     record {
-      found = circles.0;
+      found = map circle_finding circles.0;
       left_out = notes.UnknownCosts ∷ [];
-      findings_are = circles.1;
+      findings_are = circles.2;
       notes_are = c.in_ok-push-in-Err.ensures.items;
       are = Circles c.requires
           (λ none. none c.in-Err.field-0.path.items (circle_is shape t.events.keys t.graph c.in_ok-triggers.ensures c.in-Err.field-0.path.items c.in-Err.ensures.circle))
-          (subst (λ (next : ℕ → List ℕ). AreCircles next circles.0) same circles.2) refl;
+          circles.0 (subst (λ (next : ℕ → List ℕ). AreCircles next circles.0) same circles.1) refl refl;
     }

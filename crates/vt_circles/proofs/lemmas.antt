@@ -1,0 +1,4 @@
+pub mod Circles
+pub mod Marks
+pub mod ReducedGraphs
+pub mod Results

@@ -1,0 +1,12 @@
+//! The circles of a graph of triggers, one after the other.
+//!
+//! - `circles` returns the circle through the least node on any circle, then, without the items of its nodes, the next,
+//!   until there is none.
+//!
+//! docs/PROFILE.md has the rules: "Triggers and circles" and "All faults". A node is a macro, and an item one of its macro commands.
+#![tactic(auto)]
+
+mod circle_search;
+mod reduced_graph;
+
+pub use circle_search::circles;

@@ -1,0 +1,47 @@
+-- Elements as text.
+use Rattle.std.specs.Prelude.{ℕ, List, [], ◌++◌, codes}
+use Rattle.std.specs.List.{flat_map}
+use Rattle.vt_svg.specs.declared.attribute.Attribute.{Attribute}
+use Rattle.vt_svg.specs.declared.element.Element.{Element}
+use Rattle.vt_svg.specs.declared.element.Element.TheVariants as elements
+use Rattle.vt_svg.specs.Attributes.{attribute_text}
+use Rattle.vt_svg.specs.Characters.{escaped}
+
+abbrev pub name : Element → List ℕ
+name elements.Svg = codes "svg"
+name elements.Rect = codes "rect"
+name elements.Ellipse = codes "ellipse"
+name elements.Polyline = codes "polyline"
+name elements.Polygon = codes "polygon"
+name elements.Text = codes "text"
+name elements.Symbol = codes "symbol"
+name elements.Use = codes "use"
+name elements.Pattern = codes "pattern"
+
+abbrev pub begun : Element → List Attribute → List ℕ
+begun element attributes = codes "<" ++ (name element ++ flat_map attribute_text attributes)
+
+abbrev pub opened : Element → List Attribute → List ℕ
+opened element attributes = begun element attributes ++ codes ">"
+
+abbrev pub closed : Element → List ℕ
+closed element = codes "</" ++ (name element ++ codes ">")
+
+abbrev pub emptied : Element → List Attribute → List ℕ
+emptied element attributes = begun element attributes ++ codes "/>"
+
+-- ---- trees of elements
+
+-- Characters, an element with nothing in it, or one with others in it; in each, the nodes behind it follow.
+pub data Nodes : Type 0 where
+  None : Nodes
+  Characters : List ℕ → Nodes → Nodes
+  Empty : Element → List Attribute → Nodes → Nodes
+  Around : Element → List Attribute → Nodes → Nodes → Nodes
+
+-- the text of nodes: each element is closed behind all that is in it
+abbrev pub text_of : Nodes → List ℕ
+text_of None = []
+text_of (Characters characters later) = flat_map escaped characters ++ text_of later
+text_of (Empty element attributes later) = emptied element attributes ++ text_of later
+text_of (Around element attributes inside later) = opened element attributes ++ (text_of inside ++ (closed element ++ text_of later))

@@ -1,0 +1,8 @@
+//! Theorems about the definitions.
+
+ghost use Rattle.vt_svg.specs.Laws.{CharactersAreNoMarkup};
+
+/// Characters are no markup: each is itself, or a reference to its number in decimal.
+pub fn characters_are_no_markup()
+    ensures { CharactersAreNoMarkup }
+{}

@@ -1,0 +1,17 @@
+//! Elements of SVG as text: tags with attributes, texts, and the colours of the standard palette.
+//!
+//! - `open`, `close` and `empty` append the tags of an `Element` with its `Attribute`s. `text` appends characters.
+//! - `laws` has the theorems about the definitions.
+//!
+//! Numbers, constants and characters are all that is written, so nothing has to be escaped but characters.
+#![tactic(auto)]
+
+mod attribute;
+mod characters;
+mod element;
+pub mod laws;
+mod palette;
+
+pub use attribute::{Attribute, Flag, Paint};
+pub use characters::text;
+pub use element::{Element, close, empty, open};
