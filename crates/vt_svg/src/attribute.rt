@@ -1,10 +1,10 @@
 //! Attributes of elements.
 
-ghost use Rattle.std.specs.Prelude.{◌≡◌, ◌++◌, OnOk, codes};
+ghost use Rattle.std.specs.Prelude.{◌≡◌, ◌<◌, ◌++◌, OnOk, codes};
 ghost use Rattle.std.specs.List.{flat_map};
 ghost use Rattle.std.specs.Fmt.{decimal, signed_decimal};
 ghost use Rattle.vt_svg.specs.declared.attribute.Paint.TheVariants.{Pattern};
-ghost use Rattle.vt_svg.specs.Attributes.{attribute_text, flag_text, listed, numbered, paint_text, painted, quoted, spaced};
+ghost use Rattle.vt_svg.specs.Attributes.{attribute_text, bit_text, decoration, face, flag_text, is_set, line_art, numbered, paint_text, painted, paired, points_text, quoted, spaced, style_text};
 
 use crate::palette::push_colour;
 use itoa::Buffer;
@@ -26,16 +26,6 @@ pub enum Paint {
 pub enum Flag {
     /// The characters of a text are stretched to its length.
     StretchedCharacters,
-    /// Bold characters.
-    Bold,
-    /// Italic characters.
-    Italic,
-    /// A line below the characters.
-    Underlined,
-    /// A line through the characters.
-    CrossedOut,
-    /// A line below the characters, and one through them.
-    UnderlinedAndCrossedOut,
     /// The lengths of a pattern are pixels.
     PatternInPixels,
     /// A picture is stretched to its width and height.
@@ -56,41 +46,52 @@ pub enum Flag {
     NameSpace,
 }
 
+/// The style of characters.
+#[derive(Clone, Copy, Debug, PartialEq, Eq)]
+pub struct Style {
+    /// Bold characters.
+    pub bold: bool,
+    /// Italic characters.
+    pub italic: bool,
+    /// A line below the characters.
+    pub underlined: bool,
+    /// A line through the characters.
+    pub crossed_out: bool,
+}
+
 /// An attribute with its value. Lengths are in pixels.
 #[derive(Clone, Copy, Debug)]
-pub enum Attribute<'a> {
+pub enum Attribute {
     /// The left edge.
     X(i32),
     /// The upper edge, of a text the base line.
     Y(i32),
     /// The width.
-    Width(i32),
+    Width(u32),
     /// The height.
-    Height(i32),
+    Height(u32),
     /// The centre of an ellipse, from the left.
-    CentreX(i32),
+    CentreX(u32),
     /// The centre of an ellipse, from the top.
-    CentreY(i32),
+    CentreY(u32),
     /// Half the width of an ellipse.
-    RadiusX(i32),
+    RadiusX(u32),
     /// Half the height of an ellipse.
-    RadiusY(i32),
-    /// The area of the own coordinates of an element: its left and upper edge, its width and its height.
-    Coordinates(&'a [i32]),
-    /// The points of lines: x and y of each.
-    Points(&'a [i32]),
+    RadiusY(u32),
+    /// The width and the height of the own coordinates of an element, which begin at 0.
+    Coordinates(u32, u32),
     /// The inside of a shape.
     Fill(Paint),
     /// The lines of a shape.
     Stroke(Paint),
     /// The width of lines.
-    StrokeWidth(i32),
-    /// The lengths of dashes and of the spaces between them.
-    Dashes(&'a [i32]),
+    StrokeWidth(u32),
+    /// The line art of lines, and their width: a bit is as long as the line is wide, drawn if it is set. The highest is first.
+    LineArt(u16, u16),
     /// The height of characters.
-    FontSize(i32),
+    FontSize(u32),
     /// The length of a text.
-    TextLength(i32),
+    TextLength(u32),
     /// The ID of the object that an element shows.
     ObjectId(u16),
     /// The number of a picture to be shown elsewhere.
@@ -99,46 +100,73 @@ pub enum Attribute<'a> {
     PictureShown(u16),
     /// The number of a pattern.
     PatternId(u16),
-    /// Attributes that have one value.
-    Flags(&'a [Flag]),
+    /// The style of characters.
+    Style(Style),
+    /// An attribute that has one value.
+    Flag(Flag),
 }
 
 /// Appends an attribute, with a space before it.
-pub(crate) fn push_attribute(out: &mut Vec<u8>, attribute: &Attribute<'_>) -> Result<(), AllocError>
+pub(crate) fn push_attribute(out: &mut Vec<u8>, attribute: &Attribute) -> Result<(), AllocError>
     ensures { OnOk result (out.new.items ≡ out.old.items ++ attribute_text attribute.now) }
 {
     match attribute {
         Attribute::X(x) => push_quoted(out, b" x=\"", *x),
         Attribute::Y(y) => push_quoted(out, b" y=\"", *y),
-        Attribute::Width(width) => push_quoted(out, b" width=\"", *width),
-        Attribute::Height(height) => push_quoted(out, b" height=\"", *height),
-        Attribute::CentreX(x) => push_quoted(out, b" cx=\"", *x),
-        Attribute::CentreY(y) => push_quoted(out, b" cy=\"", *y),
-        Attribute::RadiusX(radius) => push_quoted(out, b" rx=\"", *radius),
-        Attribute::RadiusY(radius) => push_quoted(out, b" ry=\"", *radius),
-        Attribute::Coordinates(area) => push_list(out, b" viewBox=\"", area),
-        Attribute::Points(points) => push_list(out, b" points=\"", points),
+        Attribute::Width(width) => push_measure(out, b" width=\"", *width),
+        Attribute::Height(height) => push_measure(out, b" height=\"", *height),
+        Attribute::CentreX(x) => push_measure(out, b" cx=\"", *x),
+        Attribute::CentreY(y) => push_measure(out, b" cy=\"", *y),
+        Attribute::RadiusX(radius) => push_measure(out, b" rx=\"", *radius),
+        Attribute::RadiusY(radius) => push_measure(out, b" ry=\"", *radius),
+        Attribute::Coordinates(width, height) => push_pair(
+            out,
+            b" viewBox=\"0 0 ",
+            *width,
+            *height,
+        ),
         Attribute::Fill(paint) => push_painted(out, b" fill=\"", *paint),
         Attribute::Stroke(paint) => push_painted(out, b" stroke=\"", *paint),
-        Attribute::StrokeWidth(width) => push_quoted(out, b" stroke-width=\"", *width),
-        Attribute::Dashes(lengths) => push_list(out, b" stroke-dasharray=\"", lengths),
-        Attribute::FontSize(size) => push_quoted(out, b" font-size=\"", *size),
-        Attribute::TextLength(length) => push_quoted(out, b" textLength=\"", *length),
+        Attribute::StrokeWidth(width) => push_measure(out, b" stroke-width=\"", *width),
+        Attribute::LineArt(art, width) => push_line_art(out, b" stroke-dasharray=\"", *art, *width),
+        Attribute::FontSize(size) => push_measure(out, b" font-size=\"", *size),
+        Attribute::TextLength(length) => push_measure(out, b" textLength=\"", *length),
         Attribute::ObjectId(id) => push_numbered(out, b" data-id=\"", *id),
         Attribute::PictureId(id) => push_numbered(out, b" id=\"p", *id),
         Attribute::PictureShown(id) => push_numbered(out, b" href=\"#p", *id),
         Attribute::PatternId(id) => push_numbered(out, b" id=\"f", *id),
-        Attribute::Flags(flags) => push_flags(out, flags),
+        Attribute::Style(style) => push_style(out, *style),
+        Attribute::Flag(flag) => out.extend_from_slice(flag_text(*flag).as_bytes()),
     }
 }
 
-fn push_flags(out: &mut Vec<u8>, flags: &[Flag]) -> Result<(), AllocError>
-    ensures { OnOk result (out.new.items ≡ out.old.items ++ flat_map flag_text flags.now) }
+fn push_style(out: &mut Vec<u8>, style: Style) -> Result<(), AllocError>
+    ensures { OnOk result (out.new.items ≡ out.old.items ++ style_text style) }
 {
-    for flag in flags {
-        out.extend_from_slice(flag_text(*flag).as_bytes())?;
+    out.extend_from_slice(face(style.bold, style.italic).as_bytes())?;
+    out.extend_from_slice(decoration(style.underlined, style.crossed_out).as_bytes())
+}
+
+fn face(bold: bool, italic: bool) -> &'static str
+    ensures { result.now ≡ face bold italic }
+{
+    match (bold, italic) {
+        (false, false) => "",
+        (true, false) => " font-weight=\"bold\"",
+        (false, true) => " font-style=\"italic\"",
+        (true, true) => " font-weight=\"bold\" font-style=\"italic\"",
     }
-    Ok(())
+}
+
+fn decoration(underlined: bool, crossed_out: bool) -> &'static str
+    ensures { result.now ≡ decoration underlined crossed_out }
+{
+    match (underlined, crossed_out) {
+        (false, false) => "",
+        (true, false) => " text-decoration=\"underline\"",
+        (false, true) => " text-decoration=\"line-through\"",
+        (true, true) => " text-decoration=\"underline line-through\"",
+    }
 }
 
 fn flag_text(flag: Flag) -> &'static str
@@ -146,11 +174,6 @@ fn flag_text(flag: Flag) -> &'static str
 {
     match flag {
         Flag::StretchedCharacters => " lengthAdjust=\"spacingAndGlyphs\"",
-        Flag::Bold => " font-weight=\"bold\"",
-        Flag::Italic => " font-style=\"italic\"",
-        Flag::Underlined => " text-decoration=\"underline\"",
-        Flag::CrossedOut => " text-decoration=\"line-through\"",
-        Flag::UnderlinedAndCrossedOut => " text-decoration=\"underline line-through\"",
         Flag::PatternInPixels => " patternUnits=\"userSpaceOnUse\"",
         Flag::StretchedPicture => " preserveAspectRatio=\"none\"",
         Flag::Overflow => " overflow=\"visible\"",
@@ -169,6 +192,15 @@ fn push_quoted(out: &mut Vec<u8>, before: &[u8], number: i32) -> Result<(), Allo
 {
     out.extend_from_slice(before)?;
     push_number(out, number)?;
+    out.extend_from_slice(b"\"")
+}
+
+/// Appends a text, a number that is not negative, and a quote.
+fn push_measure(out: &mut Vec<u8>, before: &[u8], number: u32) -> Result<(), AllocError>
+    ensures { OnOk result (out.new.items ≡ out.old.items ++ numbered before.now number) }
+{
+    out.extend_from_slice(before)?;
+    push_natural(out, number)?;
     out.extend_from_slice(b"\"")
 }
 
@@ -220,12 +252,69 @@ fn push_pattern(out: &mut Vec<u8>, id: u16) -> Result<(), AllocError>
     out.extend_from_slice(b")")
 }
 
-/// Appends a text, numbers with a space behind each, and a quote.
-fn push_list(out: &mut Vec<u8>, before: &[u8], numbers: &[i32]) -> Result<(), AllocError>
-    ensures { OnOk result (out.new.items ≡ out.old.items ++ listed before.now numbers.now) }
+/// Appends a text, two numbers with a space between them, and a quote.
+fn push_pair(out: &mut Vec<u8>, before: &[u8], first: u32, second: u32) -> Result<(), AllocError>
+    ensures { OnOk result (out.new.items ≡ out.old.items ++ paired before.now first second) }
 {
     out.extend_from_slice(before)?;
-    push_numbers(out, numbers)?;
+    push_natural(out, first)?;
+    out.extend_from_slice(b" ")?;
+    push_natural(out, second)?;
+    out.extend_from_slice(b"\"")
+}
+
+fn push_natural(out: &mut Vec<u8>, number: u32) -> Result<(), AllocError>
+    ensures { OnOk result (out.new.items ≡ out.old.items ++ decimal number) }
+{
+    out.extend_from_slice(Buffer::new().format(number).as_bytes())
+}
+
+/// Appends a text, line art and a quote: the lengths of dashes and of the spaces behind them, one of both for each bit.
+fn push_line_art(out: &mut Vec<u8>, before: &[u8], art: u16, width: u16) -> Result<(), AllocError>
+    ensures { OnOk result (out.new.items ≡ out.old.items ++ (before.now ++ (line_art art width ++ codes "\""))) }
+{
+    out.extend_from_slice(before)?;
+    push_bits(out, art, width)?;
+    out.extend_from_slice(b"\"")
+}
+
+fn push_bits(out: &mut Vec<u8>, art: u16, width: u16) -> Result<(), AllocError>
+    ensures { OnOk result (out.new.items ≡ out.old.items ++ line_art art width) }
+{
+    let mut bit = 16;
+    while bit > 0 {
+        bit -= 1;
+        push_bit(out, is_set(art, bit), width)?;
+    }
+    Ok(())
+}
+
+fn is_set(art: u16, bit: u16) -> bool
+    requires { bit < 16 }
+    ensures { result ≡ is_set art bit }
+{
+    (art >> bit) % 2 == 1
+}
+
+/// Appends a dash or a space of a width.
+fn push_bit(out: &mut Vec<u8>, is_set: bool, width: u16) -> Result<(), AllocError>
+    ensures { OnOk result (out.new.items ≡ out.old.items ++ bit_text is_set width) }
+{
+    if is_set {
+        push_id(out, width)?;
+        return out.extend_from_slice(b" 0 ");
+    }
+    out.extend_from_slice(b"0 ")?;
+    push_id(out, width)?;
+    out.extend_from_slice(b" ")
+}
+
+/// Appends the attribute of points: x and y of each, with a space behind each number.
+pub(crate) fn push_points(out: &mut Vec<u8>, points: &[i32]) -> Result<(), AllocError>
+    ensures { OnOk result (out.new.items ≡ out.old.items ++ points_text points.now) }
+{
+    out.extend_from_slice(b" points=\"")?;
+    push_numbers(out, points)?;
     out.extend_from_slice(b"\"")
 }
 

@@ -1,11 +1,9 @@
 //! The tags of elements.
 
-ghost use Rattle.std.specs.Prelude.{◌≡◌, ◌++◌, OnOk, codes};
-ghost use Rattle.std.specs.List.{flat_map};
-ghost use Rattle.vt_svg.specs.Attributes.{attribute_text};
-ghost use Rattle.vt_svg.specs.Elements.{name, opened, closed, emptied};
+ghost use Rattle.std.specs.Prelude.{◌≡◌, ◌++◌, OnOk};
+ghost use Rattle.vt_svg.specs.Elements.{begun, closed, emptied, led_along, name, opened};
 
-use crate::attribute::{Attribute, push_attribute};
+use crate::attribute::{Attribute, push_attribute, push_points};
 use std::alloc::AllocError;
 
 /// An element of SVG.
@@ -35,11 +33,7 @@ pub enum Element {
 ///
 /// # Errors
 /// `AllocError` when an allocation is refused; a part of the tag may then be appended.
-pub fn open(
-    out: &mut Vec<u8>,
-    element: Element,
-    attributes: &[Attribute<'_>],
-) -> Result<(), AllocError>
+pub fn open(out: &mut Vec<u8>, element: Element, attributes: &[Attribute]) -> Result<(), AllocError>
     ensures { OnOk result (out.new.items ≡ out.old.items ++ opened element attributes.now) }
 {
     begin(out, element, attributes)?;
@@ -65,7 +59,7 @@ pub fn close(out: &mut Vec<u8>, element: Element) -> Result<(), AllocError>
 pub fn empty(
     out: &mut Vec<u8>,
     element: Element,
-    attributes: &[Attribute<'_>],
+    attributes: &[Attribute],
 ) -> Result<(), AllocError>
     ensures { OnOk result (out.new.items ≡ out.old.items ++ emptied element attributes.now) }
 {
@@ -73,13 +67,26 @@ pub fn empty(
     out.extend_from_slice(b"/>")
 }
 
-/// Appends the name and the attributes of an element.
-fn begin(
+/// Appends lines along points, `Element::Polyline` or `Element::Polygon`: x and y of each point.
+///
+/// # Errors
+/// `AllocError` when an allocation is refused; a part of the tag may then be appended.
+pub fn along(
     out: &mut Vec<u8>,
     element: Element,
-    attributes: &[Attribute<'_>],
+    points: &[i32],
+    attributes: &[Attribute],
 ) -> Result<(), AllocError>
-    ensures { OnOk result (out.new.items ≡ out.old.items ++ (codes "<" ++ (name element ++ flat_map attribute_text attributes.now))) }
+    ensures { OnOk result (out.new.items ≡ out.old.items ++ led_along element points.now attributes.now) }
+{
+    begin(out, element, attributes)?;
+    push_points(out, points)?;
+    out.extend_from_slice(b"/>")
+}
+
+/// Appends the name and the attributes of an element.
+fn begin(out: &mut Vec<u8>, element: Element, attributes: &[Attribute]) -> Result<(), AllocError>
+    ensures { OnOk result (out.new.items ≡ out.old.items ++ begun element attributes.now) }
 {
     out.extend_from_slice(b"<")?;
     out.extend_from_slice(name(element).as_bytes())?;

@@ -1,6 +1,7 @@
 //! Elements of SVG as text: tags with attributes, texts, and the colours of the standard palette.
 //!
-//! - `open`, `close` and `empty` append the tags of an `Element` with its `Attribute`s. `text` appends characters.
+//! - `open`, `close` and `empty` append the tags of an `Element` with its `Attribute`s, and `along` lines along points. `text`
+//!   appends characters.
 //! - `laws` has the theorems about the definitions.
 //!
 //! Numbers, constants and characters are all that is written, so nothing has to be escaped but characters.
@@ -12,6 +13,6 @@ mod element;
 pub mod laws;
 mod palette;
 
-pub use attribute::{Attribute, Flag, Paint};
+pub use attribute::{Attribute, Flag, Paint, Style};
 pub use characters::text;
-pub use element::{Element, close, empty, open};
+pub use element::{Element, along, close, empty, open};
