@@ -18,7 +18,7 @@ name elements.Symbol = codes "symbol"
 name elements.Use = codes "use"
 name elements.Pattern = codes "pattern"
 
-abbrev pub begun : Element → List Attribute → List ℕ
+unfoldable pub begun : Element → List Attribute → List ℕ
 begun element attributes = codes "<" ++ (name element ++ flat_map attribute_text attributes)
 
 abbrev pub opened : Element → List Attribute → List ℕ

@@ -85,6 +85,7 @@ pub fn along(
 }
 
 /// Appends the name and the attributes of an element.
+#[tactic(auto, unfolding(crate::specs::Elements::begun))]
 fn begin(out: &mut Vec<u8>, element: Element, attributes: &[Attribute]) -> Result<(), AllocError>
     ensures { OnOk result (out.new.items ≡ out.old.items ++ begun element attributes.now) }
 {

@@ -1,0 +1,31 @@
+-- The shapes of each kind of object (docs/PROFILE.md, "Pictures").
+use Rattle.std.specs.Prelude.{ℕ, List, [], ◌∷◌}
+use Rattle.vt_kinds.specs.declared.object.Object.TheVariants as objects
+use Rattle.vt_kinds.specs.declared.keys.Button.{Button}
+use Rattle.vt_kinds.specs.declared.keys.Key.{Key}
+use Rattle.vt_kinds.specs.Records.{Seen}
+use Rattle.vt_stores.specs.Stores.{ObjectMap}
+use Rattle.vt_needs.specs.declared.sizes.Sizes.{Sizes}
+use Rattle.vt_svg.specs.declared.attribute.Attribute.{Attribute}
+use Rattle.vt_svg.specs.declared.attribute.Attribute.TheVariants as attributes
+use Rattle.vt_svg.specs.declared.attribute.Paint.TheVariants.{Colour}
+use Rattle.vt_svg.specs.declared.element.Element.TheVariants as elements
+use Rattle.vt_svg.specs.Elements.{Nodes, None, Empty}
+
+abbrev pub grey : ℕ
+grey = 8
+
+abbrev pub box : ℕ → ℕ → List Attribute → Nodes
+box width height others = Empty elements.Rect (attributes.Width width ∷ attributes.Height height ∷ others) None
+
+abbrev pub key_shapes : Sizes → Key → Nodes
+key_shapes sizes o = box sizes.key.width sizes.key.height (attributes.Fill (Colour o.colour) ∷ attributes.Stroke (Colour grey) ∷ [])
+
+abbrev pub button_shapes : Button → Nodes
+button_shapes o =
+    box o.width o.height (attributes.Fill (Colour o.colour) ∷ attributes.Stroke (Colour o.border) ∷ attributes.StrokeWidth 4 ∷ [])
+
+abbrev pub shapes : Sizes → ObjectMap → Seen → Nodes
+shapes sizes store (objects.Key o) = key_shapes sizes o
+shapes sizes store (objects.Button o) = button_shapes o
+shapes sizes store _ = None

@@ -1,0 +1,61 @@
+//! The shapes of each kind of object.
+
+ghost use Rattle.std.specs.Prelude.{◌≡◌, ◌++◌, OnOk};
+ghost use Rattle.vt_kinds.specs.Records.{seen};
+ghost use Rattle.vt_svg.specs.Elements.{text_of};
+ghost use Rattle.vt_picture.specs.Shapes.{button_shapes, key_shapes, shapes};
+
+use std::alloc::AllocError;
+use vt_needs::Sizes;
+use vt_objects::{Button, Key, Object, Store};
+use vt_svg::{Attribute, Element, Paint, empty};
+
+/// Appends the shapes of an object, without those of other elements in it.
+pub(crate) fn draw_shapes<S: Store>(
+    text: &mut Vec<u8>,
+    store: &S,
+    sizes: Sizes,
+    object: &Object<Vec<u8>>,
+) -> Result<(), AllocError>
+    ensures { OnOk result (text.new.items ≡ text.old.items ++ text_of (shapes sizes (S.contents store.now) (seen object.now))) }
+{
+    match object {
+        Object::Key(o) => draw_key(text, sizes, o),
+        Object::Button(o) => draw_button(text, o),
+        _ => Ok(()),
+    }
+}
+
+fn draw_key(text: &mut Vec<u8>, sizes: Sizes, key: &Key) -> Result<(), AllocError>
+    ensures { OnOk result (text.new.items ≡ text.old.items ++ text_of (key_shapes sizes key.now)) }
+{
+    empty(
+        text,
+        Element::Rect,
+        &[
+            Attribute::Width(u32::from(sizes.key.width)),
+            Attribute::Height(u32::from(sizes.key.height)),
+            Attribute::Fill(Paint::Colour(key.colour)),
+            Attribute::Stroke(Paint::Colour(GREY)),
+        ],
+    )
+}
+
+fn draw_button(text: &mut Vec<u8>, button: &Button) -> Result<(), AllocError>
+    ensures { OnOk result (text.new.items ≡ text.old.items ++ text_of (button_shapes button.now)) }
+{
+    empty(
+        text,
+        Element::Rect,
+        &[
+            Attribute::Width(u32::from(button.width)),
+            Attribute::Height(u32::from(button.height)),
+            Attribute::Fill(Paint::Colour(button.colour)),
+            Attribute::Stroke(Paint::Colour(button.border)),
+            Attribute::StrokeWidth(4),
+        ],
+    )
+}
+
+/// The number of the colour grey.
+const GREY: u8 = 8;
