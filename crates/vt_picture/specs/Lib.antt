@@ -1,5 +1,7 @@
 -- The definitions used in the contracts of vt_picture.
 pub mod Frames
+pub mod Lines
 pub mod Marks
+pub mod Pens
 pub mod Pictures
 pub mod Shapes

@@ -3,5 +3,6 @@
 
 mod canvas;
 mod frame;
+mod pen;
 mod shapes;
 mod walk;

@@ -5,6 +5,9 @@ ghost use Rattle.vt_kinds.specs.Records.{seen};
 ghost use Rattle.vt_svg.specs.Elements.{text_of};
 ghost use Rattle.vt_picture.specs.Shapes.{button_shapes, key_shapes, shapes};
 
+mod lines;
+
+use lines::{draw_line, draw_polygon, draw_rectangle};
 use std::alloc::AllocError;
 use vt_needs::Sizes;
 use vt_objects::{Button, Key, Object, Store};
@@ -22,6 +25,9 @@ pub(crate) fn draw_shapes<S: Store>(
     match object {
         Object::Key(o) => draw_key(text, sizes, o),
         Object::Button(o) => draw_button(text, o),
+        Object::Line(o) => draw_line(text, store, o),
+        Object::Rectangle(o) => draw_rectangle(text, store, o),
+        Object::Polygon(o) => draw_polygon(text, store, o),
         _ => Ok(()),
     }
 }

@@ -22,13 +22,6 @@ numbered before n = before ++ (decimal n ++ codes "\"")
 abbrev pub paired : List ℕ → ℕ → ℕ → List ℕ
 paired before m n = before ++ (decimal m ++ (codes " " ++ (decimal n ++ codes "\"")))
 
--- a number with a space behind it
-abbrev pub spaced : ℤ → List ℕ
-spaced n = signed_decimal n ++ codes " "
-
-abbrev pub points_text : List ℤ → List ℕ
-points_text ns = codes " points=\"" ++ (flat_map spaced ns ++ codes "\"")
-
 abbrev pub paint_text : Paint → List ℕ
 paint_text paints.None = codes "none"
 paint_text (paints.Colour n) = colour_text n
@@ -69,6 +62,10 @@ below (suc n) = n ∷ below n
 abbrev pub line_art : ℕ → ℕ → List ℕ
 line_art art width = flat_map (λ bit. bit_text (is_set art bit) width) (below 16)
 
+-- a text, line art and a quote; nothing for a solid line
+abbrev pub dashed : List ℕ → ℕ → ℕ → List ℕ
+dashed before art width = if art == 0xFFFF then [] else before ++ (line_art art width ++ codes "\"")
+
 abbrev pub flag_text : Flag → List ℕ
 flag_text flags.StretchedCharacters = codes " lengthAdjust=\"spacingAndGlyphs\""
 flag_text flags.PatternInPixels = codes " patternUnits=\"userSpaceOnUse\""
@@ -94,7 +91,7 @@ attribute_text (attributes.Coordinates width height) = paired (codes " viewBox=\
 attribute_text (attributes.Fill paint) = painted (codes " fill=\"") paint
 attribute_text (attributes.Stroke paint) = painted (codes " stroke=\"") paint
 attribute_text (attributes.StrokeWidth n) = numbered (codes " stroke-width=\"") n
-attribute_text (attributes.LineArt art width) = codes " stroke-dasharray=\"" ++ (line_art art width ++ codes "\"")
+attribute_text (attributes.LineArt art width) = dashed (codes " stroke-dasharray=\"") art width
 attribute_text (attributes.FontSize n) = numbered (codes " font-size=\"") n
 attribute_text (attributes.TextLength n) = numbered (codes " textLength=\"") n
 attribute_text (attributes.ObjectId id) = numbered (codes " data-id=\"") id

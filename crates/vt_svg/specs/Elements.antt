@@ -1,10 +1,12 @@
 -- Elements as text.
-use Rattle.std.specs.Prelude.{ℕ, ℤ, List, [], ◌++◌, codes}
+use Rattle.std.specs.Prelude.{ℕ, List, [], ◌++◌, codes}
+use Rattle.std.specs.Fmt.{decimal}
 use Rattle.std.specs.List.{flat_map}
 use Rattle.vt_svg.specs.declared.attribute.Attribute.{Attribute}
 use Rattle.vt_svg.specs.declared.element.Element.{Element}
 use Rattle.vt_svg.specs.declared.element.Element.TheVariants as elements
-use Rattle.vt_svg.specs.Attributes.{attribute_text, points_text}
+use Rattle.vt_svg.specs.declared.points.Point.{Point}
+use Rattle.vt_svg.specs.Attributes.{attribute_text}
 use Rattle.vt_svg.specs.Characters.{escaped}
 
 abbrev pub name : Element → List ℕ
@@ -30,9 +32,13 @@ closed element = codes "</" ++ (name element ++ codes ">")
 abbrev pub emptied : Element → List Attribute → List ℕ
 emptied element attributes = begun element attributes ++ codes "/>"
 
+-- x and y with a space behind each
+abbrev pub point_text : Point → List ℕ
+point_text p = decimal p.x ++ (codes " " ++ (decimal p.y ++ codes " "))
+
 -- lines along points
-abbrev pub led_along : Element → List ℤ → List Attribute → List ℕ
-led_along element points attributes = begun element attributes ++ (points_text points ++ codes "/>")
+abbrev pub led_along : Element → List Attribute → List Point → List ℕ
+led_along element attributes points = begun element attributes ++ (codes " points=\"" ++ (flat_map point_text points ++ codes "\"/>"))
 
 -- ---- elements in their order
 
@@ -40,7 +46,7 @@ led_along element points attributes = begun element attributes ++ (points_text p
 pub data Nodes : Type 0 where
   None : Nodes
   Characters : List ℕ → Nodes → Nodes
-  Along : Element → List ℤ → List Attribute → Nodes → Nodes
+  Along : Element → List Attribute → List Point → Nodes → Nodes
   Empty : Element → List Attribute → Nodes → Nodes
   Around : Element → List Attribute → Nodes → Nodes → Nodes
 
@@ -48,6 +54,6 @@ pub data Nodes : Type 0 where
 abbrev pub text_of : Nodes → List ℕ
 text_of None = []
 text_of (Characters characters later) = flat_map escaped characters ++ text_of later
-text_of (Along element points attributes later) = led_along element points attributes ++ text_of later
+text_of (Along element attributes points later) = led_along element attributes points ++ text_of later
 text_of (Empty element attributes later) = emptied element attributes ++ text_of later
 text_of (Around element attributes inside later) = opened element attributes ++ (text_of inside ++ (closed element ++ text_of later))

@@ -4,7 +4,7 @@ ghost use Rattle.std.specs.Prelude.{◌≡◌, ◌<◌, ◌++◌, OnOk, codes};
 ghost use Rattle.std.specs.List.{flat_map};
 ghost use Rattle.std.specs.Fmt.{decimal, signed_decimal};
 ghost use Rattle.vt_svg.specs.declared.attribute.Paint.TheVariants.{Pattern};
-ghost use Rattle.vt_svg.specs.Attributes.{attribute_text, bit_text, decoration, face, flag_text, is_set, line_art, numbered, paint_text, painted, paired, points_text, quoted, spaced, style_text};
+ghost use Rattle.vt_svg.specs.Attributes.{attribute_text, bit_text, dashed, decoration, face, flag_text, is_set, line_art, numbered, paint_text, painted, paired, quoted, style_text};
 
 use crate::palette::push_colour;
 use itoa::Buffer;
@@ -269,10 +269,17 @@ fn push_natural(out: &mut Vec<u8>, number: u32) -> Result<(), AllocError>
     out.extend_from_slice(Buffer::new().format(number).as_bytes())
 }
 
+/// The line art of a line without spaces.
+const SOLID: u16 = 0xFFFF;
+
 /// Appends a text, line art and a quote: the lengths of dashes and of the spaces behind them, one of both for each bit.
+/// Appends nothing for a solid line.
 fn push_line_art(out: &mut Vec<u8>, before: &[u8], art: u16, width: u16) -> Result<(), AllocError>
-    ensures { OnOk result (out.new.items ≡ out.old.items ++ (before.now ++ (line_art art width ++ codes "\""))) }
+    ensures { OnOk result (out.new.items ≡ out.old.items ++ dashed before.now art width) }
 {
+    if art == SOLID {
+        return Ok(());
+    }
     out.extend_from_slice(before)?;
     push_bits(out, art, width)?;
     out.extend_from_slice(b"\"")
@@ -307,30 +314,4 @@ fn push_bit(out: &mut Vec<u8>, is_set: bool, width: u16) -> Result<(), AllocErro
     out.extend_from_slice(b"0 ")?;
     push_id(out, width)?;
     out.extend_from_slice(b" ")
-}
-
-/// Appends the attribute of points: x and y of each, with a space behind each number.
-pub(crate) fn push_points(out: &mut Vec<u8>, points: &[i32]) -> Result<(), AllocError>
-    ensures { OnOk result (out.new.items ≡ out.old.items ++ points_text points.now) }
-{
-    out.extend_from_slice(b" points=\"")?;
-    push_numbers(out, points)?;
-    out.extend_from_slice(b"\"")
-}
-
-fn push_numbers(out: &mut Vec<u8>, numbers: &[i32]) -> Result<(), AllocError>
-    ensures { OnOk result (out.new.items ≡ out.old.items ++ flat_map spaced numbers.now) }
-{
-    for number in numbers {
-        push_spaced(out, *number)?;
-    }
-    Ok(())
-}
-
-fn push_spaced(out: &mut Vec<u8>, number: i32) -> Result<(), AllocError>
-    ensures { OnOk result (out.new.items ≡ out.old.items ++ spaced number) }
-{
-    push_number(out, number)?;
-    out.push(b' ')?;
-    Ok(())
 }

@@ -1,9 +1,9 @@
 //! The tags of elements.
 
 ghost use Rattle.std.specs.Prelude.{◌≡◌, ◌++◌, OnOk};
-ghost use Rattle.vt_svg.specs.Elements.{begun, closed, emptied, led_along, name, opened};
+ghost use Rattle.vt_svg.specs.Elements.{begun, closed, emptied, name, opened};
 
-use crate::attribute::{Attribute, push_attribute, push_points};
+use crate::attribute::{Attribute, push_attribute};
 use std::alloc::AllocError;
 
 /// An element of SVG.
@@ -67,26 +67,13 @@ pub fn empty(
     out.extend_from_slice(b"/>")
 }
 
-/// Appends lines along points, `Element::Polyline` or `Element::Polygon`: x and y of each point.
-///
-/// # Errors
-/// `AllocError` when an allocation is refused; a part of the tag may then be appended.
-pub fn along(
-    out: &mut Vec<u8>,
-    element: Element,
-    points: &[i32],
-    attributes: &[Attribute],
-) -> Result<(), AllocError>
-    ensures { OnOk result (out.new.items ≡ out.old.items ++ led_along element points.now attributes.now) }
-{
-    begin(out, element, attributes)?;
-    push_points(out, points)?;
-    out.extend_from_slice(b"/>")
-}
-
 /// Appends the name and the attributes of an element.
 #[tactic(auto, unfolding(crate::specs::Elements::begun))]
-fn begin(out: &mut Vec<u8>, element: Element, attributes: &[Attribute]) -> Result<(), AllocError>
+pub(crate) fn begin(
+    out: &mut Vec<u8>,
+    element: Element,
+    attributes: &[Attribute],
+) -> Result<(), AllocError>
     ensures { OnOk result (out.new.items ≡ out.old.items ++ begun element attributes.now) }
 {
     out.extend_from_slice(b"<")?;

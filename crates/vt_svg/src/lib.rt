@@ -12,7 +12,9 @@ mod characters;
 mod element;
 pub mod laws;
 mod palette;
+mod points;
 
 pub use attribute::{Attribute, Flag, Paint, Style};
 pub use characters::text;
-pub use element::{Element, along, close, empty, open};
+pub use element::{Element, close, empty, open};
+pub use points::{Point, along, close_points, open_points, push_point};
