@@ -1,4 +1,5 @@
 -- The definitions used in the contracts of vt_picture.
+pub mod Arcs
 pub mod Frames
 pub mod Lines
 pub mod Marks
