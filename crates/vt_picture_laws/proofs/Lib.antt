@@ -1,0 +1,3 @@
+pub mod DrawnMarks
+pub mod FirstMarks
+pub mod WholePictures

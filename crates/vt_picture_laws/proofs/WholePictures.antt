@@ -1,0 +1,27 @@
+-- The first marks of a mask, and then those of its keys, have the first IDs of its drawing.
+use Rattle.std.proofs.Common.{◌≡◌, ℕ, ◌-◌, ◌++◌, take, length, sym, ap, ap₂, ◌∙◌}
+use Rattle.std.proofs.lemmas.List.{map-append}
+use Rattle.vt_chains.specs.Limits.{terminal}
+use Rattle.vt_layout.specs.Drawings.{origin, mask_entries, key_entries}
+use Rattle.vt_layout.specs.Walks.{elements}
+use Rattle.vt_picture.specs.Marks.{Marks, marks, count, cut, ids}
+use Rattle.vt_picture_laws.specs.Laws.{PicturesShowTheDrawing}
+use Rattle.vt_picture_laws.proofs.DrawnMarks.{marks_drawn}
+use Rattle.vt_picture_laws.proofs.FirstMarks.{take_append, ids_counted, first_ids}
+
+-- the first marks of two parts
+first_of_two : (n : ℕ) (m k : Marks) → ids (cut n m) ++ ids (cut (n - count (cut n m)) k) ≡ take n (ids m ++ ids k)
+first_of_two n m k =
+    let wanted : n - count (cut n m) ≡ n - length (take n (ids m)) = ap (λ i. n - i) (ids_counted (cut n m) ∙ ap length (first_ids n m)) in
+    ap₂ (λ a b. a ++ b) (first_ids n m) (first_ids (n - count (cut n m)) k ∙ ap (λ i. take i (ids k)) wanted)
+    ∙ sym (take_append n (ids m) (ids k))
+
+pub picture_shows : PicturesShowTheDrawing
+picture_shows store mask n =
+    let in_mask = mask_entries store mask in
+    let of_keys = key_entries store mask in
+    first_of_two n (marks terminal.inclusions store in_mask) (marks terminal.inclusions store of_keys)
+    ∙ ap (take n) (
+    ap₂ (λ a b. a ++ b) (marks_drawn store terminal.inclusions in_mask origin) (marks_drawn store terminal.inclusions of_keys origin)
+    ∙ sym (map-append (λ e. e.id) (elements terminal.inclusions store in_mask origin) (elements terminal.inclusions store of_keys origin))
+    )

@@ -1,0 +1,24 @@
+-- What pictures show, beside the drawings of their masks (docs/PROFILE.md, "The drawing").
+use Rattle.std.specs.Prelude.{◌≡◌, ℕ, ◌-◌, List, ◌++◌, map, take, length}
+use Rattle.vt_kinds.specs.declared.entries.Child.{Child}
+use Rattle.vt_stores.specs.Stores.{ObjectMap}
+use Rattle.vt_chains.specs.Limits.{terminal}
+use Rattle.vt_layout.specs.Drawings.{mask_entries, key_entries}
+use Rattle.vt_layout.specs.Walks.{elements, drawing}
+use Rattle.vt_picture.specs.Marks.{Marks, marks, count, cut, ids}
+
+-- The marks of entries have the IDs of their drawing, in its order.
+abbrev pub MarksAreDrawn : Type 0
+MarksAreDrawn = (store : ObjectMap) (depth : ℕ) (entries : List Child) (from : _)
+    → ids (marks depth store entries) ≡ map (λ e. e.id) (elements depth store entries from)
+
+-- The first marks have the first IDs.
+abbrev pub CutMarksAreFirst : Type 0
+CutMarksAreFirst = (n : ℕ) (m : Marks) → (ids (cut n m) ≡ take n (ids m)) × (count (cut n m) ≡ length (ids (cut n m)))
+
+-- A picture shows the elements of the drawing of its mask in their order, up to n.
+abbrev pub PicturesShowTheDrawing : Type 0
+PicturesShowTheDrawing = (store : ObjectMap) (mask n : ℕ)
+    → let m = marks terminal.inclusions store (mask_entries store mask) in
+    let k = marks terminal.inclusions store (key_entries store mask) in
+    ids (cut n m) ++ ids (cut (n - count (cut n m)) k) ≡ take n (map (λ e. e.id) (drawing store mask))
