@@ -1,6 +1,7 @@
 -- The definitions used in the contracts of vt_picture.
 pub mod Arcs
 pub mod Frames
+pub mod Gauges
 pub mod Lines
 pub mod Marks
 pub mod Pens

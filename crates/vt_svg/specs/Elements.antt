@@ -1,5 +1,5 @@
 -- Elements as text.
-use Rattle.std.specs.Prelude.{ℕ, List, [], ◌++◌, codes}
+use Rattle.std.specs.Prelude.{ℕ, Bool, if◌then◌else◌, List, [], ◌++◌, codes}
 use Rattle.std.specs.Fmt.{decimal}
 use Rattle.std.specs.List.{flat_map}
 use Rattle.vt_svg.specs.declared.attribute.Attribute.{Attribute}
@@ -57,3 +57,15 @@ text_of (Characters characters later) = flat_map escaped characters ++ text_of l
 text_of (Along element attributes points later) = led_along element attributes points ++ text_of later
 text_of (Empty element attributes later) = emptied element attributes ++ text_of later
 text_of (Around element attributes inside later) = opened element attributes ++ (text_of inside ++ (closed element ++ text_of later))
+
+-- nodes, and others behind them
+abbrev pub followed : Nodes → Nodes → Nodes
+followed None later = later
+followed (Characters characters rest) later = Characters characters (followed rest later)
+followed (Along element attributes points rest) later = Along element attributes points (followed rest later)
+followed (Empty element attributes rest) later = Empty element attributes (followed rest later)
+followed (Around element attributes inside rest) later = Around element attributes inside (followed rest later)
+
+-- nodes that are there or not
+abbrev pub when : Bool → Nodes → Nodes
+when is_there nodes = if is_there then nodes else None
