@@ -1,4 +1,4 @@
-//! The circles of a graph, without the items of the nodes of those before.
+//! The circles of a graph: each in what is left without the items of the nodes on those before it.
 
 ghost use Rattle.std.specs.Prelude.{◌≡◌, [], IfOk, slice_set};
 ghost use Rattle.vt_rank.specs.Graphs.{triggered, lists};

@@ -3,7 +3,8 @@
 //! - `circles` returns the circle through the least node on any circle, then, without the items of its nodes, the next,
 //!   until there is none.
 //!
-//! docs/PROFILE.md has the rules: "Triggers and circles" and "All faults". A node is a macro, and an item one of its macro commands.
+//! docs/PROFILE.md has the rules: "Triggers and circles" and "All faults". A node is a macro. Each of its macro
+//! commands is a step, and an item for each event that it may raise.
 #![tactic(auto)]
 
 mod circle_search;

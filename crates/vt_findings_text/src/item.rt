@@ -6,7 +6,7 @@ use vt_needs::Warning;
 /// A finding, a warning or a note about a pool.
 #[derive(Clone, Copy, Drop)]
 pub enum Item<'a> {
-    /// A fault of a record or of a rule.
+    /// A fault of a record, or a rule that is broken.
     Finding(&'a Finding),
     /// A record that a later one replaces.
     Replaced(&'a ReplacedRecord),

@@ -7,7 +7,7 @@ use crate::codes::Code;
 use crate::item::Item;
 use std::fmt;
 
-/// How bad it is.
+/// The severity of a message.
 #[derive(Clone, Copy, Debug, PartialEq, Eq)]
 pub enum Severity {
     /// A terminal refuses the pool.
@@ -19,7 +19,7 @@ pub enum Severity {
 }
 
 impl Severity {
-    /// The word for it.
+    /// The word for a severity, as messages have it.
     pub fn word(self) -> &'static str
         ensures { result.now ≡ severity_word self }
     {
@@ -31,7 +31,7 @@ impl Severity {
     }
 }
 
-/// How bad an item is.
+/// The severity of an item.
 pub(crate) fn severity_of(item: Item<'_>) -> Severity
     ensures { result ≡ severity_of item.entry }
 {
@@ -49,7 +49,7 @@ pub struct Message<'a> {
     pub file: &'a str,
     /// The index of the byte that the message is about.
     pub offset: usize,
-    /// How bad it is.
+    /// The severity.
     pub severity: Severity,
     /// The code.
     pub code: Code,

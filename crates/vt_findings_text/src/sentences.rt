@@ -89,7 +89,7 @@ impl fmt::Display for FindingSentence<'_, '_> {
 fn note_sentence(note: Note) -> &'static str {
     match note {
         Note::Unread { .. } => {
-            "the bytes from here on cannot be read, so nothing is called missing or unused (R01, R03, R08, W02 not judged; R04, R09, W03 to W05 only for objects that were read)"
+            "the bytes from here on cannot be read, so nothing is called missing or unused (R01, R03, R08, W02 not judged; all other codes only for the objects that were read)"
         }
         Note::UnknownTriggers => {
             "a macro ends inside a command, so triggers are not known (R11, R12 not judged; R07 to R10 not for the commands of such a macro)"

@@ -133,14 +133,20 @@ fn mended_bytes(alloc: Global, inspection: &Inspection) -> Result<Vec<usize>, Al
     Ok(bytes)
 }
 
+/// The bytes of the record of an Input Number, without its macros (docs/PROFILE.md, "Kind 9, Input Number").
+const INPUT_NUMBER_BYTES: usize = 38;
+
+/// The bytes of the record of an Output Number, without its macros (docs/PROFILE.md, "Kind 12, Output Number").
+const OUTPUT_NUMBER_BYTES: usize = 29;
+
 /// Whether the scale or the decimals of an object were read as others, so that its text is not known.
 fn is_mended(inspection: &Inspection, mended: &[usize], id: ObjectId) -> bool {
     let Some(record) = inspection.record(id) else {
         return false;
     };
     let size = match record.kind {
-        Kind::InputNumber => 38,
-        Kind::OutputNumber => 29,
+        Kind::InputNumber => INPUT_NUMBER_BYTES,
+        Kind::OutputNumber => OUTPUT_NUMBER_BYTES,
         _ => 0,
     };
     let next = mended.partition_point(|at| *at < record.at);

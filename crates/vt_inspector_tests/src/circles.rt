@@ -36,16 +36,10 @@ const CASES: &[Case<'_>] = &[
     (&[&[1, 1], &[0, 0]], &[&[0, 1]]),
 ];
 
-/// Finds the circles of a graph, a second time if the first search was refused memory.
+/// Finds the circles of a graph.
 fn expect_circles(rt: &(impl Abort + AllocGlobal), case: &Case<'_>) -> Result<(), Fail> {
-    let graph = match graph_of(rt.alloc(), case.0) {
-        Ok(graph) => graph,
-        Err(_) => graph_of(rt.alloc(), case.0)?,
-    };
-    let found = match circles(rt.alloc(), &graph) {
-        Ok(found) => found,
-        Err(_) => circles(rt.alloc(), &graph)?,
-    };
+    let graph = graph_of(rt.alloc(), case.0)?;
+    let found = circles(rt.alloc(), &graph)?;
     assert_eq!(rt; found.len(), case.1.len(), "{:?}", case.0);
     for (circle, path) in found.iter().zip(case.1) {
         assert_eq!(rt; circle.path.as_slice(), *path, "{:?}", case.0);

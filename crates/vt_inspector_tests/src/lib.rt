@@ -1,4 +1,4 @@
-//! Tests of the checker by runs of vt_inspector.
+//! Tests of the checker: runs of vt_inspector, and the circles of graphs.
 #![tactic(auto)]
 
 #[cfg(test)]

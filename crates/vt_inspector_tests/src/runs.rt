@@ -23,6 +23,17 @@ const UNKNOWN: &str = "\
 cut macro:18: \x1b[1;31merror[R06 MacroBytes]\x1b[0m Macro 5: the bytes end inside a command\n\
 cut macro:0: \x1b[1;34mnote[N02 UnknownTriggers]\x1b[0m a macro ends inside a command, so triggers are not known (R11, R12 not judged; R07 to R10 not for the commands of such a macro)\n";
 
+/// An Input Number with a wrong scale, which is not called too wide.
+const WRONG_SCALE: &str = "\
+mended input:53: error[P04 Scale] the scale is none of 1, 0.1, 0.01 and 0.001\n\
+mended input: 1 error, 0 warnings, 4 objects\n";
+
+/// A pool that is cut short, none of whose objects is called unused.
+const CUT_SHORT: &str = "\
+unread:25: error[P01 Truncated] the bytes end inside this record\n\
+unread:25: note[N01 Unread] the bytes from here on cannot be read, so nothing is called missing or unused (R01, R03, R08, W02 not judged; all other codes only for the objects that were read)\n\
+unread: 1 error, 0 warnings, 3 objects\n";
+
 /// A run: its words, then its status, its output, and whether there are messages.
 type Run<'a> = (&'a [&'a str], Status, &'a str, bool);
 
@@ -64,6 +75,27 @@ fn mended_numbers_are_not_too_wide(rt: HostRuntime) -> Result<(), Fail> {
     expect_run(
         &rt,
         &(&["s", "check", "mended"], Status::Found, text, false),
+    )
+}
+
+#[test]
+fn inputs_with_a_wrong_scale_are_not_too_wide(rt: HostRuntime) -> Result<(), Fail> {
+    expect_run(
+        &rt,
+        &(
+            &["s", "check", "mended input"],
+            Status::Found,
+            WRONG_SCALE,
+            false,
+        ),
+    )
+}
+
+#[test]
+fn nothing_is_unused_where_bytes_are_unread(rt: HostRuntime) -> Result<(), Fail> {
+    expect_run(
+        &rt,
+        &(&["s", "check", "unread"], Status::Found, CUT_SHORT, false),
     )
 }
 

@@ -38,6 +38,23 @@ const MENDED: &[u8] = &[
     200, 0, 23, 0, 2, 0, 0, 0, // the Font Attributes 200, of 8x12, at 53
 ];
 
+/// An Input Number in a field of 40 pixels whose scale is wrong: with the scale 1 and 7 decimals it would be wider than its field.
+const MENDED_INPUT: &[u8] = &[
+    0, 0, 0, 0, 1, 0xE8, 3, 0, 0, 0, // the Working Set 0
+    0xE8, 3, 1, 0, 0xFF, 0xFF, 1, 0, 45, 1, 0, 0, 0, 0, // the Data Mask 1000, at 10
+    45, 1, 9, 40, 0, 12, 0, 0, 200, 0, 0, 0xFF, 0xFF, 5, 0, 0, 0, 0, 0, 0, 0, 9, 0, 0, 0, 0, 0, 0,
+    0, 0, 0, 0, 0, 7, 0, 0, 1, 0, // the Input Number 301, at 24
+    200, 0, 23, 0, 2, 0, 0, 0, // the Font Attributes 200, of 8x12, at 62
+];
+
+/// A Number Variable that no object names, before a record that is cut short.
+const UNREAD: &[u8] = &[
+    0, 0, 0, 0, 1, 0xE8, 3, 0, 0, 0, // the Working Set 0
+    0xE8, 3, 1, 0, 0xFF, 0xFF, 0, 0, // the Data Mask 1000, at 10
+    201, 0, 21, 7, 0, 0, 0, // the Number Variable 201, at 18
+    100, 0, 3, // the beginning of a Container, at 25
+];
+
 /// A key with a Rectangle that is wider than a key of 64x64.
 const WIDE_KEY: &[u8] = &[
     0, 0, 0, 0, 1, 0xE8, 3, 0, 0, 0, // the Working Set 0
@@ -63,6 +80,8 @@ impl Open for Shelf {
             "pool" | "-" => Ok(POOL),
             "w" | "a:b,50%" => Ok(WARNED),
             "mended" => Ok(MENDED),
+            "mended input" => Ok(MENDED_INPUT),
+            "unread" => Ok(UNREAD),
             "wide key" => Ok(WIDE_KEY),
             "recoloured" => Ok(RECOLOURED),
             "names" => Ok(NAMES),

@@ -81,6 +81,8 @@ flag_text flags.NameSpace = codes " xmlns=\"http://www.w3.org/2000/svg\""
 abbrev pub attribute_text : Attribute → List ℕ
 attribute_text (attributes.X n) = quoted (codes " x=\"") n
 attribute_text (attributes.Y n) = quoted (codes " y=\"") n
+attribute_text (attributes.Left n) = numbered (codes " x=\"") n
+attribute_text (attributes.Top n) = numbered (codes " y=\"") n
 attribute_text (attributes.Width n) = numbered (codes " width=\"") n
 attribute_text (attributes.Height n) = numbered (codes " height=\"") n
 attribute_text (attributes.CentreX n) = numbered (codes " cx=\"") n

@@ -64,8 +64,12 @@ pub struct Style {
 pub enum Attribute {
     /// The left edge.
     X(i32),
-    /// The upper edge, of a text the base line.
+    /// The upper edge.
     Y(i32),
+    /// The left edge of what lies within its area.
+    Left(u32),
+    /// The upper edge of what lies within its area, of a text the base line.
+    Top(u32),
     /// The width.
     Width(u32),
     /// The height.
@@ -113,6 +117,8 @@ pub(crate) fn push_attribute(out: &mut Vec<u8>, attribute: &Attribute) -> Result
     match attribute {
         Attribute::X(x) => push_quoted(out, b" x=\"", *x),
         Attribute::Y(y) => push_quoted(out, b" y=\"", *y),
+        Attribute::Left(x) => push_measure(out, b" x=\"", *x),
+        Attribute::Top(y) => push_measure(out, b" y=\"", *y),
         Attribute::Width(width) => push_measure(out, b" width=\"", *width),
         Attribute::Height(height) => push_measure(out, b" height=\"", *height),
         Attribute::CentreX(x) => push_measure(out, b" cx=\"", *x),
