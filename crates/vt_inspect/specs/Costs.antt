@@ -24,7 +24,7 @@ macro_finding id = findings.OverBudget id None
 abbrev pub event_finding : Listing → Finding
 event_finding e = findings.OverBudget e.id (Some e.event)
 
--- the macros over the greatest budget, by rising ID, and then the events, by rising ID and number
+-- the macros that can cost too many steps, by rising ID, and then the events, by rising ID and number
 abbrev pub over_findings : Shape → List Finding
 over_findings shape =
     map macro_finding (filter (costs_too_much shape) (named_macros shape))

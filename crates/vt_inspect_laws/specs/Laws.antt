@@ -128,7 +128,7 @@ pub record NoneIsLeftOut (are_all : Bool) (objects : Objects) (found : List Find
   pub circle : (path : List ℕ) → left_out ≡ notes.UnknownCosts ∷ [] → IsCircle (triggered (shape_of objects)) path
       → (f : Finding) × Contains found f × SharesMacro path f
   pub over : (id : ℕ) → left_out ≡ [] → terminal.steps < cost (shape_of objects) id → Contains found (findings.OverBudget id None)
-  -- an event over the greatest budget, without a macro that is over it alone
+  -- an event that can cost too many steps, without a macro that can alone
   pub event_over : (e : Listing) → left_out ≡ [] → Contains (listed_events (shape_of objects)) e → event_costs_too_much (shape_of objects) e ≡ true
       → Contains found (findings.OverBudget e.id (Some e.event))
 
