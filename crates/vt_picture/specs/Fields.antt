@@ -39,7 +39,7 @@ abbrev pub most_rows : Look → Field → ℕ
 most_rows look field = field.area.height / max 1 look.cell.height + 1
 
 -- a text cut after each n characters, at most so often
-abbrev pub pieces : ℕ → ℕ → List ℕ → List (List ℕ)
+unfoldable pub pieces : ℕ → ℕ → List ℕ → List (List ℕ)
 pieces zero n text = []
 pieces (suc rows) n [] = []
 pieces (suc rows) n (c ∷ text) = take n (c ∷ text) ∷ pieces rows n (drop n (c ∷ text))
@@ -49,7 +49,7 @@ abbrev pub behind : ℕ → List ℕ → List ℕ
 behind c [] = if c == 0x20 then [] else c ∷ []
 behind c (d ∷ text) = c ∷ d ∷ text
 
-abbrev pub trimmed : List ℕ → List ℕ
+unfoldable pub trimmed : List ℕ → List ℕ
 trimmed [] = []
 trimmed (c ∷ text) = behind c (trimmed text)
 
@@ -79,6 +79,9 @@ row_attributes look field i row =
 abbrev pub row_node : Look → Field → ℕ → List ℕ → Nodes → Nodes
 row_node look field i row later = Around elements.Text (row_attributes look field i row) (Characters row nodes.None) later
 
+abbrev pub alone : Look → Field → ℕ → List ℕ → Nodes
+alone look field i row = row_node look field i row nodes.None
+
 abbrev pub row_nodes : Look → Field → ℕ → List (List ℕ) → Nodes
 row_nodes look field i [] = nodes.None
 row_nodes look field i (row ∷ rows) = row_node look field i (trimmed row) (row_nodes look field (suc i) rows)
@@ -94,9 +97,11 @@ background None field = if field.is_transparent then paints.None else paints.Col
 background (Some look) field =
     if has_bit look.style 4 then paints.Colour look.colour else if field.is_transparent then paints.None else paints.Colour field.colour
 
+abbrev pub area_attributes : Option Look → Field → List Attribute
+area_attributes look field =
+    attributes.Width field.area.width ∷ attributes.Height field.area.height ∷ attributes.Fill (background look field) ∷ attributes.Stroke field.border
+    ∷ attributes.StrokeWidth 2 ∷ []
+
 -- a field: its area and its border, and the rows of its text
 abbrev pub field_shapes : Option Look → Field → Option (List ℕ) → Nodes
-field_shapes look field text =
-    Empty elements.Rect
-    (attributes.Width field.area.width ∷ attributes.Height field.area.height ∷ attributes.Fill (background look field) ∷ attributes.Stroke field.border
-    ∷ attributes.StrokeWidth 2 ∷ []) (texts look field text)
+field_shapes look field text = Empty elements.Rect (area_attributes look field) (texts look field text)

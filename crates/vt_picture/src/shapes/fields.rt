@@ -1,8 +1,9 @@
 //! Fields with texts: their areas, and the rows of their texts.
 
-ghost use Rattle.std.specs.Prelude.{◌≡◌, ◌≤◌, ◌+◌, ◌*◌, ◌/◌, ◌%◌, ◌^◌, ◌==◌, max, ◌++◌, length, map, OnOk, Some};
+ghost use Rattle.std.specs.Prelude.{◌≡◌, ◌≤◌, ◌<◌, ◌++◌, length, OnOk, slice_get};
 ghost use Rattle.std.specs.FinMap as finite;
 ghost use Rattle.std.specs.Option.{option_map};
+ghost use Rattle.vt_needs.specs.Fonts.{cells};
 ghost use Rattle.vt_svg.specs.declared.element.Element.TheVariants.{Rect};
 ghost use Rattle.vt_svg.specs.Elements.{emptied, text_of};
 ghost use Rattle.vt_picture.specs.Fields as fields;
@@ -99,7 +100,11 @@ fn background(look: Option<Look>, field: Field) -> Paint
 {
     match look {
         Some(look) if has_bit(look.style, 4) => Paint::Colour(look.colour),
-        _ => if field.is_transparent { Paint::None } else { Paint::Colour(field.colour) },
+        _ => if field.is_transparent {
+            Paint::None
+        } else {
+            Paint::Colour(field.colour)
+        },
     }
 }
 
@@ -111,12 +116,7 @@ pub(crate) fn has_bit(byte: u8, bit: u8) -> bool
     (byte >> bit) % 2 == 1
 }
 
-fn draw_rows(
-    out: &mut Vec<u8>,
-    look: Look,
-    field: Field,
-    shown: &[u8],
-) -> Result<(), AllocError>
+fn draw_rows(out: &mut Vec<u8>, look: Look, field: Field, shown: &[u8]) -> Result<(), AllocError>
     ensures { OnOk result (out.new.items ≡ out.old.items ++ text_of (fields.row_nodes look field 0 (fields.rows_of look field shown.now))) }
 {
     let columns = columns(look, field);
@@ -138,4 +138,105 @@ fn most_rows(look: Look, field: Field) -> usize
     ensures { result ≡ fields.most_rows look field }
 {
     usize::from(field.area.height / look.cell.height.max(1)) + 1
+}
+
+/// Draws the pieces of a text of at most so many characters, each in a row, as many rows as may be.
+fn draw_pieces(
+    out: &mut Vec<u8>,
+    look: Look,
+    field: Field,
+    rows: usize,
+    characters: usize,
+    shown: &[u8],
+) -> Result<(), AllocError>
+    requires rows { rows ≤ 65536 }
+    requires characters { characters ≤ 65536 }
+    ensures { OnOk result (out.new.items ≡ out.old.items ++ text_of (fields.row_nodes look field 0 (fields.pieces rows characters shown.now))) }
+{
+    let mut rest = shown;
+    let mut row = 0;
+    while row < rows && !rest.is_empty() {
+        let end = rest.len().min(characters);
+        draw_row(out, look, field, row as u32, trimmed(&rest[..end]))?;
+        rest = &rest[end..];
+        row += 1;
+    }
+    Ok(())
+}
+
+/// Draws the characters of a row.
+fn draw_row(
+    out: &mut Vec<u8>,
+    look: Look,
+    field: Field,
+    row: u32,
+    characters: &[u8],
+) -> Result<(), AllocError>
+    requires row { row ≤ 65536 }
+    requires characters { length characters.now ≤ 65536 }
+    ensures { OnOk result (out.new.items ≡ out.old.items ++ text_of (fields.alone look field row characters.now)) }
+{
+    let height = u32::from(look.cell.height);
+    let long = u32::from(look.cell.width) * characters.len() as u32;
+    open(
+        out,
+        Element::Text,
+        &[
+            Attribute::Left(indent(field.justification, u32::from(field.area.width), long)),
+            Attribute::Top(height * row + height * 7 / 8),
+            Attribute::FontSize(height),
+            Attribute::TextLength(long),
+            Attribute::Flag(Flag::StretchedCharacters),
+            Attribute::Fill(Paint::Colour(ink(look, field))),
+            Attribute::Style(style_of(look.style)),
+            Attribute::Flag(Flag::Spaces),
+        ],
+    )?;
+    text(out, characters)?;
+    close(out, Element::Text)
+}
+
+/// The distance of a row from the left: at the left, in the middle or at the right.
+fn indent(justification: u8, width: u32, row: u32) -> u32
+    ensures { result ≡ fields.indent justification width row }
+{
+    match justification % 4 {
+        1 => width.saturating_sub(row) / 2,
+        2 => width.saturating_sub(row),
+        _ => 0,
+    }
+}
+
+/// The colour of characters.
+fn ink(look: Look, field: Field) -> u8
+    ensures { result ≡ fields.ink look field }
+{
+    if has_bit(look.style, 4) {
+        field.colour
+    } else {
+        look.colour
+    }
+}
+
+fn style_of(style: u8) -> Style
+    ensures { result ≡ fields.style_of style }
+{
+    Style {
+        bold: has_bit(style, 0),
+        italic: has_bit(style, 3),
+        underlined: has_bit(style, 2),
+        crossed_out: has_bit(style, 1),
+    }
+}
+
+/// A text without the spaces at its end.
+fn trimmed(text: &[u8]) -> &[u8]
+    ensures is { result.now ≡ fields.trimmed text.now }
+    ensures most { length result.now ≤ length text.now }
+{
+    let mut end = text.len();
+    while end > 0 && text[end - 1] == b' ' {
+        end -= 1;
+    }
+    &text[..end]
 }
