@@ -1,2 +1,3 @@
 pub mod Arcs
 pub mod Drawn
+pub mod Gauges

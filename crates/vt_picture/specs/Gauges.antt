@@ -1,5 +1,5 @@
 -- Meters and bars (docs/PROFILE.md, "Meters and bars"). Lengths are in tenths of a pixel.
-use Rattle.std.specs.Prelude.{ℕ, zero, suc, ◌+◌, ◌-◌, ◌*◌, ◌/◌, ◌%◌, ◌^◌, min, max, Bool, nat_le, ◌==◌, if◌then◌else◌, List, [], ◌∷◌, Option, Some, None}
+use Rattle.std.specs.Prelude.{ℕ, zero, suc, ◌+◌, ◌-◌, ◌*◌, ◌/◌, ◌%◌, ◌^◌, min, max, Bool, not, nat_le, ◌==◌, if◌then◌else◌, List, [], ◌∷◌, Option, Some, None}
 use Rattle.vt_kinds.specs.declared.graphs.Meter.{Meter}
 use Rattle.vt_kinds.specs.declared.graphs.LinearBar.{LinearBar}
 use Rattle.vt_kinds.specs.declared.graphs.ArchedBar.{ArchedBar}
@@ -98,9 +98,13 @@ is_horizontal o = has_bit o.options 4
 abbrev pub length_of : LinearBar → ℕ
 length_of o = 10 * (if is_horizontal o then o.width else o.height)
 
+-- whether a bar begins at the left or upper edge: it grows to the right, or downwards
+abbrev pub begins_at_zero : LinearBar → Bool
+begins_at_zero o = if is_horizontal o then has_bit o.options 5 else not (has_bit o.options 5)
+
 -- the distance from the left or upper edge, of a length from the end at which the bar begins
 abbrev pub along_axis : LinearBar → ℕ → ℕ
-along_axis o n = if is_horizontal o == has_bit o.options 5 then n else length_of o - n
+along_axis o n = if begins_at_zero o then n else length_of o - n
 
 -- a line across a bar, from the left or upper edge, of at most some length
 abbrev pub across : LinearBar → List Attribute → ℕ → ℕ → Nodes

@@ -1,10 +1,9 @@
 -- Lines, rectangles, ellipses and polygons (docs/PROFILE.md, "Shapes"). Lengths are in tenths of a pixel.
-use Rattle.std.specs.Prelude.{ℕ, ◌+◌, ◌-◌, ◌*◌, ◌/◌, ◌%◌, ◌==◌, if◌then◌else◌, List, [], ◌∷◌, map}
+use Rattle.std.specs.Prelude.{ℕ, ◌+◌, ◌*◌, ◌/◌, ◌%◌, ◌==◌, if◌then◌else◌, List, [], ◌∷◌, map}
 use Rattle.std.specs.FinMap as finite
 use Rattle.vt_kinds.specs.declared.entries.Point as corners
 use Rattle.vt_kinds.specs.declared.shapes.Line.{Line}
 use Rattle.vt_kinds.specs.declared.shapes.Rectangle.{Rectangle}
-use Rattle.vt_kinds.specs.declared.shapes.Ellipse.{Ellipse}
 use Rattle.vt_kinds.specs.declared.shapes.Polygon.{Polygon}
 use Rattle.vt_stores.specs.Stores.{ObjectMap}
 use Rattle.vt_svg.specs.declared.attribute.Attribute.{Attribute}

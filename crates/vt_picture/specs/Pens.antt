@@ -1,5 +1,5 @@
 -- The lines and the insides of shapes (docs/PROFILE.md, "Lines and fillings").
-use Rattle.std.specs.Prelude.{ℕ, ◌+◌, ◌-◌, ◌*◌, ◌==◌, if◌then◌else◌, max, List, [], ◌∷◌, Option, Some, None}
+use Rattle.std.specs.Prelude.{ℕ, ◌-◌, ◌*◌, ◌==◌, if◌then◌else◌, max, List, [], ◌∷◌, Option, Some}
 use Rattle.vt_kinds.specs.declared.object.Object.TheVariants as objects
 use Rattle.vt_kinds.specs.Records.{Seen}
 use Rattle.vt_svg.specs.declared.attribute.Attribute.{Attribute}

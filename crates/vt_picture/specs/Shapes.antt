@@ -11,6 +11,7 @@ use Rattle.vt_svg.specs.declared.attribute.Attribute.TheVariants as attributes
 use Rattle.vt_svg.specs.declared.attribute.Paint.TheVariants.{Colour}
 use Rattle.vt_svg.specs.declared.element.Element.TheVariants as elements
 use Rattle.vt_svg.specs.Elements.{Nodes, None, Empty}
+use Rattle.vt_picture.specs.Gauges.{arch_shapes, bar_shapes, meter_shapes}
 use Rattle.vt_picture.specs.Lines.{line_shapes, polygon_shapes, rectangle_shapes}
 
 abbrev pub grey : ℕ
@@ -32,4 +33,7 @@ shapes sizes store (objects.Button o) = button_shapes o
 shapes sizes store (objects.Line o) = line_shapes store o
 shapes sizes store (objects.Rectangle o) = rectangle_shapes store o
 shapes sizes store (objects.Polygon o) = polygon_shapes store o
+shapes sizes store (objects.Meter o) = meter_shapes store o
+shapes sizes store (objects.LinearBar o) = bar_shapes store o
+shapes sizes store (objects.ArchedBar o) = arch_shapes store o
 shapes sizes store _ = None

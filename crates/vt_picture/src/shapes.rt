@@ -7,8 +7,10 @@ ghost use Rattle.vt_picture.specs.Shapes.{button_shapes, key_shapes, shapes};
 
 mod arcs;
 mod fields;
+mod gauges;
 mod lines;
 
+use gauges::{draw_arched_bar, draw_linear_bar, draw_meter};
 use lines::{draw_line, draw_polygon, draw_rectangle};
 use std::alloc::AllocError;
 use vt_needs::Sizes;
@@ -30,6 +32,9 @@ pub(crate) fn draw_shapes<S: Store>(
         Object::Line(o) => draw_line(text, store, o),
         Object::Rectangle(o) => draw_rectangle(text, store, o),
         Object::Polygon(o) => draw_polygon(text, store, o),
+        Object::Meter(o) => draw_meter(text, store, o),
+        Object::LinearBar(o) => draw_linear_bar(text, store, o),
+        Object::ArchedBar(o) => draw_arched_bar(text, store, o),
         _ => Ok(()),
     }
 }

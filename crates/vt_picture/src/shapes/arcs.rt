@@ -18,7 +18,7 @@ pub(crate) struct Oval {
 }
 
 /// The steps in a circle.
-const STEPS: u8 = 180;
+pub(crate) const STEPS: u8 = 180;
 
 /// The steps in a quarter of a circle.
 const QUARTER: u8 = 45;

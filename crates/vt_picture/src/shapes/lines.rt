@@ -27,7 +27,7 @@ fn drawn_with(paint: Paint, pen: Pen) -> [Attribute; 4]
 }
 
 /// A length in tenths of a pixel.
-fn tenths(length: u16) -> u32
+pub(crate) fn tenths(length: u16) -> u32
     ensures { result ≡ 10 * length }
 {
     u32::from(length) * 10

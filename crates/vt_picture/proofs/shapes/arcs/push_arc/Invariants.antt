@@ -1,4 +1,4 @@
-use Rattle.std.proofs.Common.{◌≡◌, ◌<◌, ◌++◌, ◌%◌}
+use Rattle.std.proofs.Common.{◌≡◌, ◌<◌, ◌++◌}
 use Rattle.std.specs.List.{flat_map}
 use Rattle.vt_svg.specs.Elements.{point_text}
 use Rattle.vt_picture.specs.Arcs.{angles, arc, point_on}

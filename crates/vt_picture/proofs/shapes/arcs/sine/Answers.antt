@@ -1,5 +1,5 @@
-use Rattle.std.proofs.Common.{◌≡◌, ◌≤◌, ◌∙◌, ℕ, get_or, ap, sym, subst}
-use Rattle.vt_picture.specs.Arcs.{sine, sines}
+use Rattle.std.proofs.Common.{◌≤◌, ◌∙◌, ℕ, get_or, ap, sym, subst}
+use Rattle.vt_picture.specs.Arcs.{sines}
 use Rattle.vt_picture.proofs.Arcs.{sine_at, sine_most}
 use Rattle.vt_picture.proofs.shapes.arcs.sine.Goals as goal
 
