@@ -1,6 +1,5 @@
 -- The definitions used in the contracts of vt_picture.
 pub mod Arcs
-pub mod Fields
 pub mod Frames
 pub mod Gauges
 pub mod Lines

@@ -6,7 +6,6 @@ ghost use Rattle.vt_svg.specs.Elements.{text_of};
 ghost use Rattle.vt_picture.specs.Shapes.{button_shapes, key_shapes, shapes};
 
 mod arcs;
-mod fields;
 mod gauges;
 mod lines;
 
