@@ -1,3 +1,4 @@
 pub mod Arcs
 pub mod Drawn
 pub mod Gauges
+pub mod Rows

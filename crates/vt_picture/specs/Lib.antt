@@ -1,5 +1,6 @@
 -- The definitions used in the contracts of vt_picture.
 pub mod Arcs
+pub mod Fields
 pub mod Frames
 pub mod Gauges
 pub mod Lines
@@ -7,3 +8,4 @@ pub mod Marks
 pub mod Pens
 pub mod Pictures
 pub mod Shapes
+pub mod Texts

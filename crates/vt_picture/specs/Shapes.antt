@@ -12,6 +12,7 @@ use Rattle.vt_svg.specs.declared.attribute.Paint.TheVariants.{Colour}
 use Rattle.vt_svg.specs.declared.element.Element.TheVariants as elements
 use Rattle.vt_svg.specs.Elements.{Nodes, None, Empty}
 use Rattle.vt_picture.specs.Gauges.{arch_shapes, bar_shapes, meter_shapes}
+use Rattle.vt_picture.specs.Texts.{input_boolean_shapes, input_list_shapes, input_number_shapes, input_string_shapes, output_number_shapes, output_string_shapes}
 use Rattle.vt_picture.specs.Lines.{line_shapes, polygon_shapes, rectangle_shapes}
 
 abbrev pub grey : ℕ
@@ -30,6 +31,12 @@ button_shapes o =
 abbrev pub shapes : Sizes → ObjectMap → Seen → Nodes
 shapes sizes store (objects.Key o) = key_shapes sizes o
 shapes sizes store (objects.Button o) = button_shapes o
+shapes sizes store (objects.InputBoolean o) = input_boolean_shapes store o
+shapes sizes store (objects.InputString o) = input_string_shapes store o
+shapes sizes store (objects.InputNumber o) = input_number_shapes store o
+shapes sizes store (objects.InputList o) = input_list_shapes o
+shapes sizes store (objects.OutputString o) = output_string_shapes store o
+shapes sizes store (objects.OutputNumber o) = output_number_shapes store o
 shapes sizes store (objects.Line o) = line_shapes store o
 shapes sizes store (objects.Rectangle o) = rectangle_shapes store o
 shapes sizes store (objects.Polygon o) = polygon_shapes store o

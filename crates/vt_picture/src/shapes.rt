@@ -6,12 +6,18 @@ ghost use Rattle.vt_svg.specs.Elements.{text_of};
 ghost use Rattle.vt_picture.specs.Shapes.{button_shapes, key_shapes, shapes};
 
 mod arcs;
+mod fields;
 mod gauges;
 mod lines;
+mod texts;
 
 use gauges::{draw_arched_bar, draw_linear_bar, draw_meter};
 use lines::{draw_line, draw_polygon, draw_rectangle};
 use std::alloc::AllocError;
+use texts::{
+    draw_input_boolean, draw_input_list, draw_input_number, draw_input_string, draw_output_number,
+    draw_output_string,
+};
 use vt_needs::Sizes;
 use vt_objects::{Button, Key, Object, Store};
 use vt_svg::{Attribute, Element, Paint, empty};
@@ -28,6 +34,12 @@ pub(crate) fn draw_shapes<S: Store>(
     match object {
         Object::Key(o) => draw_key(text, sizes, o),
         Object::Button(o) => draw_button(text, o),
+        Object::InputBoolean(o) => draw_input_boolean(text, store, o),
+        Object::InputString(o) => draw_input_string(text, store, o),
+        Object::InputNumber(o) => draw_input_number(text, store, o),
+        Object::InputList(o) => draw_input_list(text, o),
+        Object::OutputString(o) => draw_output_string(text, store, o),
+        Object::OutputNumber(o) => draw_output_number(text, store, o),
         Object::Line(o) => draw_line(text, store, o),
         Object::Rectangle(o) => draw_rectangle(text, store, o),
         Object::Polygon(o) => draw_polygon(text, store, o),
