@@ -11,6 +11,7 @@ use Rattle.vt_svg.specs.declared.attribute.Attribute.TheVariants as attributes
 use Rattle.vt_svg.specs.declared.attribute.Paint.TheVariants.{Colour}
 use Rattle.vt_svg.specs.declared.element.Element.TheVariants as elements
 use Rattle.vt_svg.specs.Elements.{Nodes, None, Empty}
+use Rattle.vt_picture.specs.Ellipses.{ellipse_shapes}
 use Rattle.vt_picture.specs.Gauges.{arch_shapes, bar_shapes, meter_shapes}
 use Rattle.vt_picture.specs.Texts.{input_boolean_shapes, input_list_shapes, input_number_shapes, input_string_shapes, output_number_shapes, output_string_shapes}
 use Rattle.vt_picture.specs.Lines.{line_shapes, polygon_shapes, rectangle_shapes}
@@ -39,6 +40,7 @@ shapes sizes store (objects.OutputString o) = output_string_shapes store o
 shapes sizes store (objects.OutputNumber o) = output_number_shapes store o
 shapes sizes store (objects.Line o) = line_shapes store o
 shapes sizes store (objects.Rectangle o) = rectangle_shapes store o
+shapes sizes store (objects.Ellipse o) = ellipse_shapes store o
 shapes sizes store (objects.Polygon o) = polygon_shapes store o
 shapes sizes store (objects.Meter o) = meter_shapes store o
 shapes sizes store (objects.LinearBar o) = bar_shapes store o

@@ -6,11 +6,13 @@ ghost use Rattle.vt_svg.specs.Elements.{text_of};
 ghost use Rattle.vt_picture.specs.Shapes.{button_shapes, key_shapes, shapes};
 
 mod arcs;
+mod ellipses;
 mod fields;
 mod gauges;
 mod lines;
 mod texts;
 
+use ellipses::draw_ellipse;
 use gauges::{draw_arched_bar, draw_linear_bar, draw_meter};
 use lines::{draw_line, draw_polygon, draw_rectangle};
 use std::alloc::AllocError;
@@ -42,11 +44,25 @@ pub(crate) fn draw_shapes<S: Store>(
         Object::OutputNumber(o) => draw_output_number(text, store, o),
         Object::Line(o) => draw_line(text, store, o),
         Object::Rectangle(o) => draw_rectangle(text, store, o),
+        Object::Ellipse(o) => draw_ellipse(text, store, o),
         Object::Polygon(o) => draw_polygon(text, store, o),
         Object::Meter(o) => draw_meter(text, store, o),
         Object::LinearBar(o) => draw_linear_bar(text, store, o),
         Object::ArchedBar(o) => draw_arched_bar(text, store, o),
-        _ => Ok(()),
+        Object::WorkingSet(_)
+        | Object::DataMask(_)
+        | Object::AlarmMask(_)
+        | Object::Container(_)
+        | Object::SoftKeyMask(_)
+        | Object::Picture(_)
+        | Object::NumberVariable(_)
+        | Object::StringVariable(_)
+        | Object::Font(_)
+        | Object::LineAttributes(_)
+        | Object::FillAttributes(_)
+        | Object::InputAttributes(_)
+        | Object::ObjectPointer(_)
+        | Object::Macro(_) => Ok(()),
     }
 }
 

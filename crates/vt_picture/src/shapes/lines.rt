@@ -14,7 +14,7 @@ use vt_objects::{Line, Point, Polygon, Rectangle, Store};
 use vt_svg::{Attribute, Element, Paint, along, close_points, empty, open_points, push_point};
 
 /// The attributes of a shape with its inside and its lines.
-fn drawn_with(paint: Paint, pen: Pen) -> [Attribute; 4]
+pub(crate) fn drawn_with(paint: Paint, pen: Pen) -> [Attribute; 4]
     ensures { result ≡ drawn_with paint pen }
 {
     let width = u16::from(pen.width) * 10;
@@ -34,7 +34,7 @@ pub(crate) fn tenths(length: u16) -> u32
 }
 
 /// Half the width of a line, in tenths of a pixel.
-fn half(pen: Pen) -> u32
+pub(crate) fn half(pen: Pen) -> u32
     ensures { result ≡ half pen }
 {
     u32::from(pen.width) * 5
