@@ -1,8 +1,8 @@
 //! The working sets, with the time of the last frame of each address (docs/PROFILE.md, "Working sets", "Silence").
 
-ghost use Rattle.std.specs.Prelude.{◌≡◌, ◌≢◌, ◌<◌, ◌≤◌, ℕ, None, Some, Err, [], length, slice_get, unwrap_or, OnOk, OnErr, if◌then◌else◌};
+ghost use Rattle.std.specs.Prelude.{◌≡◌, ◌≢◌, ◌<◌, ◌≤◌, ℕ, None, Some, Ok, Err, [], length, slice_get, unwrap_or, IfErr, IfNone, IfSome, OnOk, OnErr, if◌then◌else◌};
 ghost use Rattle.std.specs.Option.{option_copied};
-ghost use Rattle.vt_names.specs.Registry.{set_at, with_set, without, registering, joining, binding, preloaded, AreApart, IsUnnamed};
+ghost use Rattle.vt_names.specs.Registry.{set_at, with_set, without, registering, joining, binding, preloaded, has_place, AreApart, IsUnnamed};
 ghost use Rattle.vt_names.specs.declared.registry.RegistryFault.TheVariants as declared;
 ghost use Rattle.vt_node.specs.Watches.{first_silent_of, is_silent};
 ghost use Rattle.vt_node.specs.Registries.{AreHeardSince, sooner};
@@ -102,23 +102,28 @@ impl WatchedRegistry {
         self.registry.reserve(address)
     }
 
-    /// Registers a set by a master message, with the holder of its address.
+    /// Registers a set by a master message, with the holder of its address. After an error the sets are unchanged.
     pub fn master(
         &mut self,
         address: u8,
         holder: Option<Name>,
         count: u8,
     ) -> Result<(), RegistryFault>
+        ensures not_claimed { IfNone holder (result ≡ Err declared.NotClaimed) }
+        ensures claimed { IfSome holder (λ _. IfErr result (λ fault. fault ≡ declared.OutOfMemory)) }
         ensures capacity { 0 < self.old.capacity → result ≢ Err declared.OutOfMemory }
         ensures sets { result ≢ Err declared.OutOfMemory → self.new.sets ≡ registering address holder count self.old.sets }
+        ensures err { OnErr result (self.new.sets ≡ self.old.sets) }
         ensures watch { self.new.watch ≡ self.old.watch }
     {
         self.earliest = sooner(self.earliest, self.watch.last_heard(address));
         self.registry.master(address, holder, count)
     }
 
-    /// Adds a member by a member message.
+    /// Adds a member by a member message. After an error the sets are unchanged.
     pub fn member(&mut self, address: u8, name: Name) -> Result<(), RegistryFault>
+        ensures no_set { set_at address self.old.sets ≡ None → result ≡ Err declared.NotMaster }
+        ensures set { IfSome (set_at address self.old.sets) (λ set. result ≡ (if has_place set then Ok tt else Err declared.TooManyMembers)) }
         ensures sets { self.new.sets ≡ joining (set_at address self.old.sets) name self.old.sets }
         ensures watch { self.new.watch ≡ self.old.watch }
     {
