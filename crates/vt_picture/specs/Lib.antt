@@ -1,5 +1,6 @@
 -- The definitions used in the contracts of vt_picture.
 pub mod Arcs
+pub mod Documents
 pub mod Ellipses
 pub mod Fields
 pub mod Frames

@@ -1,8 +1,19 @@
-//! The picture of a mask as SVG.
+//! The picture of a mask as SVG (ISO 11783-6).
+//!
+//! - `draw` returns the picture of a mask with its soft keys: each element in its area, with its own shapes and the elements
+//!   within it.
+//!
+//! The laws about the definitions are in the crate vt_picture_laws. docs/PROFILE.md, "Pictures", says how each kind looks.
 #![tactic(auto)]
 
 mod canvas;
+mod document;
 mod frame;
 mod pen;
 mod shapes;
 mod walk;
+
+pub use document::draw;
+
+/// A refused allocation.
+pub use std::alloc::AllocError as OutOfMemory;

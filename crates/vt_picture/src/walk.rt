@@ -66,7 +66,7 @@ fn draw_entry<S: Store>(
 
 /// Draws the elements within an element.
 #[cycle(drawing)]
-fn draw_within<S: Store>(
+pub(crate) fn draw_within<S: Store>(
     store: &S,
     sizes: Sizes,
     depth: u8,

@@ -1,0 +1,105 @@
+-- The picture of a mask with its soft keys (docs/PROFILE.md, "The picture of a mask").
+use Rattle.std.specs.Prelude.{◌≡◌, ℕ, ℤ, suc, pos, ◌+◌, ◌-◌, ◌*◌, ◌/◌, ◌%◌, min, max, List, [], ◌∷◌, ◌++◌, length, Option, Some}
+use Rattle.std.specs.FinMap as finite
+use Rattle.vt_kinds.specs.declared.entries.Child.{Child}
+use Rattle.vt_kinds.specs.declared.object.Object.TheVariants as objects
+use Rattle.vt_kinds.specs.Records.{Seen}
+use Rattle.vt_stores.specs.Stores.{ObjectMap}
+use Rattle.vt_chains.specs.Limits.{terminal}
+use Rattle.vt_shown.specs.ShownElements.{soft_keys}
+use Rattle.vt_layout.specs.Drawings.{mask_entries}
+use Rattle.vt_needs.specs.declared.sizes.Sizes.{Sizes}
+use Rattle.vt_svg.specs.declared.attribute.Attribute.{Attribute}
+use Rattle.vt_svg.specs.declared.attribute.Attribute.TheVariants as attributes
+use Rattle.vt_svg.specs.declared.attribute.Flag.TheVariants as flags
+use Rattle.vt_svg.specs.declared.attribute.Paint.{Paint}
+use Rattle.vt_svg.specs.declared.attribute.Paint.TheVariants as paints
+use Rattle.vt_svg.specs.declared.element.Element.TheVariants as elements
+use Rattle.vt_svg.specs.Elements.{closed, emptied, opened}
+use Rattle.vt_picture.specs.declared.canvas.Canvas.{Canvas}
+use Rattle.vt_picture.specs.Marks.{Marks, marks, cut, count}
+use Rattle.vt_picture.specs.Pictures.{marks_text}
+
+-- the most elements of a picture
+abbrev pub most_marks : ℕ
+most_marks = 2000
+
+-- the pixels between a mask and its keys, and between keys
+abbrev pub gap : ℕ
+gap = 8
+
+-- ---- the places of keys
+
+-- the keys of a column
+abbrev pub keys_in_column : Sizes → ℕ
+keys_in_column sizes = max 1 (sizes.mask.height / (sizes.key.height + gap))
+
+-- a distance, as far as an entry can have it
+abbrev pub reach : ℕ → ℤ
+reach n = pos (min n 32767)
+
+-- a key by its index: down a column, and then down the next one to the right
+abbrev pub key_place : Sizes → ℕ → ℕ → Child
+key_place sizes i id = record {
+  id = id;
+  x = reach (i / keys_in_column sizes * (sizes.key.width + gap));
+  y = reach (i % keys_in_column sizes * (sizes.key.height + gap));
+}
+
+-- keys from an index on
+abbrev pub key_places : Sizes → ℕ → List ℕ → List Child
+key_places sizes i [] = []
+key_places sizes i (id ∷ ids) = key_place sizes i id ∷ key_places sizes (suc i) ids
+
+-- ---- the whole picture
+
+-- the width of a picture with some keys, as far as it is a number of 32 bits
+abbrev pub width_of : Sizes → ℕ → ℕ
+width_of sizes keys = min (sizes.mask.width + (keys + keys_in_column sizes - 1) / keys_in_column sizes * (sizes.key.width + gap)) 0xFFFFFFFF
+
+abbrev pub background : Option Seen → Paint
+background (Some (objects.WorkingSet o)) = paints.Colour o.colour
+background (Some (objects.DataMask o)) = paints.Colour o.colour
+background (Some (objects.AlarmMask o)) = paints.Colour o.colour
+background _ = paints.None
+
+abbrev pub picture_attributes : Sizes → ℕ → List Attribute
+picture_attributes sizes keys =
+    attributes.Flag flags.NameSpace ∷ attributes.Width (width_of sizes keys) ∷ attributes.Height sizes.mask.height
+    ∷ attributes.Coordinates (width_of sizes keys) sizes.mask.height ∷ attributes.Flag flags.Font ∷ []
+
+-- the tag of a picture, and the background of its mask
+abbrev pub beginning : Sizes → ℕ → Paint → List ℕ
+beginning sizes keys paint =
+    opened elements.Svg (picture_attributes sizes keys)
+    ++ emptied elements.Rect (attributes.Width sizes.mask.width ∷ attributes.Height sizes.mask.height ∷ attributes.Fill paint ∷ [])
+
+-- the elements within an area
+abbrev pub framed : List Attribute → Sizes → ObjectMap → Marks → List ℕ
+framed area sizes store m = opened elements.Svg area ++ (marks_text sizes store m ++ closed elements.Svg)
+
+abbrev pub mask_area : Sizes → List Attribute
+mask_area sizes = attributes.Width sizes.mask.width ∷ attributes.Height sizes.mask.height ∷ []
+
+abbrev pub keys_area : Sizes → List Attribute
+keys_area sizes = attributes.Left (sizes.mask.width + gap) ∷ []
+
+abbrev pub mask_marks : ObjectMap → ℕ → Marks
+mask_marks store mask = cut most_marks (marks terminal.inclusions store (mask_entries store mask))
+
+-- the keys, as many elements as fit behind those of the mask
+abbrev pub key_marks : Sizes → ObjectMap → ℕ → Marks
+key_marks sizes store mask =
+    cut (most_marks - count (mask_marks store mask)) (marks terminal.inclusions store (key_places sizes 0 (soft_keys store mask)))
+
+-- the mask on its background, and its keys beside it
+abbrev pub picture : Sizes → ObjectMap → ℕ → List ℕ
+picture sizes store mask =
+    beginning sizes (length (soft_keys store mask)) (background (finite.get store mask))
+    ++ (framed (mask_area sizes) sizes store (mask_marks store mask)
+    ++ (framed (keys_area sizes) sizes store (key_marks sizes store mask) ++ closed elements.Svg))
+
+-- the marks that fit are drawn in an area
+pub record DrawsFramed (area : List Attribute) (sizes : Sizes) (store : ObjectMap) (m : Marks) (old new : Canvas) : Type 0 where
+  pub text : new.text.items ≡ old.text.items ++ framed area sizes store (cut old.left m)
+  pub left : new.left ≡ old.left - count (cut old.left m)
