@@ -28,3 +28,13 @@ for crate in vt_examples vt_replay vt_sample vt_pool_examples segyolant; do
         fi
     done
 done
+
+# The pool whose mask the gate draws.
+if [ "${1-}" = --check ]; then
+    cmp examples/sprayer.iop crates/vt_picture_examples/stdin || {
+        echo "examples/sprayer.iop is not what the gate draws: make examples copies it" >&2
+        exit 1
+    }
+else
+    cp examples/sprayer.iop crates/vt_picture_examples/stdin
+fi
