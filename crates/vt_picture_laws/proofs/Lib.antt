@@ -1,3 +1,4 @@
 pub mod DrawnMarks
 pub mod FirstMarks
+pub mod KeyPlaces
 pub mod WholePictures

@@ -2,10 +2,13 @@
 use Rattle.std.proofs.Common.{◌≡◌, ℕ, ◌-◌, ◌++◌, take, length, sym, ap, ap₂, ◌∙◌}
 use Rattle.std.proofs.lemmas.List.{map-append}
 use Rattle.vt_chains.specs.Limits.{terminal}
+use Rattle.vt_shown.specs.ShownElements.{soft_keys}
 use Rattle.vt_layout.specs.Drawings.{origin, mask_entries, key_entries}
 use Rattle.vt_layout.specs.Walks.{elements}
+use Rattle.vt_picture.specs.Documents.{key_places, most_marks}
 use Rattle.vt_picture.specs.Marks.{Marks, marks, count, cut, ids}
 use Rattle.vt_picture_laws.specs.Laws.{PicturesShowTheDrawing}
+use Rattle.vt_picture_laws.proofs.KeyPlaces.{same_keys}
 use Rattle.vt_picture_laws.proofs.DrawnMarks.{marks_drawn}
 use Rattle.vt_picture_laws.proofs.FirstMarks.{take_append, ids_counted, first_ids}
 
@@ -17,11 +20,12 @@ first_of_two n m k =
     ∙ sym (take_append n (ids m) (ids k))
 
 pub picture_shows : PicturesShowTheDrawing
-picture_shows store mask n =
+picture_shows sizes store mask =
     let in_mask = mask_entries store mask in
     let of_keys = key_entries store mask in
-    first_of_two n (marks terminal.inclusions store in_mask) (marks terminal.inclusions store of_keys)
-    ∙ ap (take n) (
-    ap₂ (λ a b. a ++ b) (marks_drawn store terminal.inclusions in_mask origin) (marks_drawn store terminal.inclusions of_keys origin)
+    first_of_two most_marks (marks terminal.inclusions store in_mask) (marks terminal.inclusions store (key_places sizes 0 (soft_keys store mask)))
+    ∙ ap (take most_marks) (
+    ap₂ (λ a b. a ++ b) (marks_drawn store terminal.inclusions in_mask origin)
+    (same_keys store terminal.inclusions sizes (soft_keys store mask) ∙ marks_drawn store terminal.inclusions of_keys origin)
     ∙ sym (map-append (λ e. e.id) (elements terminal.inclusions store in_mask origin) (elements terminal.inclusions store of_keys origin))
     )

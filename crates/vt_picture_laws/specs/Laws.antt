@@ -1,10 +1,10 @@
 -- What pictures show, beside the drawings of their masks (docs/PROFILE.md, "The drawing").
-use Rattle.std.specs.Prelude.{◌≡◌, ℕ, ◌-◌, List, ◌++◌, map, take, length}
+use Rattle.std.specs.Prelude.{◌≡◌, ℕ, List, ◌++◌, map, take, length}
 use Rattle.vt_kinds.specs.declared.entries.Child.{Child}
 use Rattle.vt_stores.specs.Stores.{ObjectMap}
-use Rattle.vt_chains.specs.Limits.{terminal}
-use Rattle.vt_layout.specs.Drawings.{mask_entries, key_entries}
 use Rattle.vt_layout.specs.Walks.{elements, drawing}
+use Rattle.vt_needs.specs.declared.sizes.Sizes.{Sizes}
+use Rattle.vt_picture.specs.Documents.{most_marks, mask_marks, key_marks}
 use Rattle.vt_picture.specs.Marks.{Marks, marks, count, cut, ids}
 
 -- The marks of entries have the IDs of their drawing, in its order.
@@ -16,9 +16,7 @@ MarksAreDrawn = (store : ObjectMap) (depth : ℕ) (entries : List Child) (from :
 abbrev pub CutMarksAreFirst : Type 0
 CutMarksAreFirst = (n : ℕ) (m : Marks) → (ids (cut n m) ≡ take n (ids m)) × (count (cut n m) ≡ length (ids (cut n m)))
 
--- A picture shows the elements of the drawing of its mask in their order, up to n.
+-- A picture shows the elements of the drawing of its mask and of its soft keys, in their order, the first 2,000.
 abbrev pub PicturesShowTheDrawing : Type 0
-PicturesShowTheDrawing = (store : ObjectMap) (mask n : ℕ)
-    → let m = marks terminal.inclusions store (mask_entries store mask) in
-    let k = marks terminal.inclusions store (key_entries store mask) in
-    ids (cut n m) ++ ids (cut (n - count (cut n m)) k) ≡ take n (map (λ e. e.id) (drawing store mask))
+PicturesShowTheDrawing = (sizes : Sizes) (store : ObjectMap) (mask : ℕ)
+    → ids (mask_marks store mask) ++ ids (key_marks sizes store mask) ≡ take most_marks (map (λ e. e.id) (drawing store mask))

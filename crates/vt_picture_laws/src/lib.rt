@@ -16,7 +16,7 @@ pub fn cut_marks_are_first()
     ensures { CutMarksAreFirst }
 {}
 
-/// A picture shows the elements of the drawing of its mask in their order, up to a greatest number of them.
+/// A picture shows the elements of the drawing of its mask and of its soft keys in their order, the first 2,000.
 pub fn pictures_show_the_drawing()
     ensures { PicturesShowTheDrawing }
 {}
