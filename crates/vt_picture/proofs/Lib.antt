@@ -1,4 +1,1 @@
-pub mod Arcs
 pub mod Drawn
-pub mod Gauges
-pub mod Rows

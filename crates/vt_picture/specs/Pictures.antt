@@ -15,7 +15,7 @@ use Rattle.vt_picture.specs.declared.frame.Frame.TheVariants as frames
 use Rattle.vt_picture.specs.declared.canvas.Canvas.{Canvas}
 use Rattle.vt_picture.specs.Frames.{frame_of}
 use Rattle.vt_picture.specs.Marks.{Marks, Nothing, Mark, cut, count}
-use Rattle.vt_picture.specs.Shapes.{shapes}
+use Rattle.vt_shapes.specs.Shapes.{shapes}
 
 -- the size of an element; a fine one has coordinates in tenths of a pixel
 abbrev pub sized : Frame → List Attribute

@@ -8,10 +8,10 @@ ghost use Rattle.vt_picture.specs.Marks.{led_to};
 ghost use Rattle.vt_picture.specs.Pictures.{begun, placed};
 
 use crate::frame::{Frame, frame_of};
-use crate::shapes::draw_shapes;
 use std::alloc::AllocError;
 use vt_needs::Sizes;
 use vt_objects::{Child, Object, ObjectId, Store};
+use vt_shapes::draw_shapes;
 use vt_svg::{Attribute, Element, Flag, open};
 
 /// The text so far, and the number of elements that still fit.

@@ -9,8 +9,6 @@
 mod canvas;
 mod document;
 mod frame;
-mod pen;
-mod shapes;
 mod walk;
 
 pub use document::draw;

@@ -1,0 +1,9 @@
+-- The definitions used in the contracts of vt_shapes.
+pub mod Arcs
+pub mod Ellipses
+pub mod Fields
+pub mod Gauges
+pub mod Lines
+pub mod Pens
+pub mod Shapes
+pub mod Texts

@@ -1,0 +1,36 @@
+-- The lines and the insides of shapes (docs/PROFILE.md, "Lines and fillings").
+use Rattle.std.specs.Prelude.{ℕ, ◌-◌, ◌*◌, ◌==◌, if◌then◌else◌, max, List, [], ◌∷◌, Option, Some}
+use Rattle.vt_kinds.specs.declared.object.Object.TheVariants as objects
+use Rattle.vt_kinds.specs.Records.{Seen}
+use Rattle.vt_svg.specs.declared.attribute.Attribute.{Attribute}
+use Rattle.vt_svg.specs.declared.attribute.Attribute.TheVariants as attributes
+use Rattle.vt_svg.specs.declared.attribute.Paint.{Paint}
+use Rattle.vt_svg.specs.declared.attribute.Paint.TheVariants as paints
+use Rattle.vt_shapes.specs.declared.pen.Pen.{Pen}
+
+abbrev pub no_pen : Pen
+no_pen = record { paint = paints.None; width = 0; art = 0xFFFF }
+
+-- the pen of line attributes; it draws nothing without them
+abbrev pub pen_of : Option Seen → Pen
+pen_of (Some (objects.LineAttributes o)) = record { paint = paints.Colour o.colour; width = o.width; art = o.line_art }
+pen_of _ = no_pen
+
+-- nothing, the colour of the lines, or a colour of its own, which also stands for a pattern
+abbrev pub fill_of : Option Seen → Pen → Paint
+fill_of (Some (objects.FillAttributes o)) pen =
+    if o.fill_type == 0 then paints.None else if o.fill_type == 1 then pen.paint else paints.Colour o.colour
+fill_of _ pen = paints.None
+
+-- a shape with its inside and its lines, whose widths are in tenths of a pixel
+abbrev pub drawn_with : Paint → Pen → List Attribute
+drawn_with paint pen =
+    attributes.Fill paint ∷ attributes.Stroke pen.paint ∷ attributes.StrokeWidth (10 * pen.width) ∷ attributes.LineArt pen.art (10 * pen.width) ∷ []
+
+-- half the width of a line
+abbrev pub half : Pen → ℕ
+half pen = 5 * pen.width
+
+-- the far end of a line in an area: half its width before the edge, but never before its near end
+abbrev pub far : Pen → ℕ → ℕ
+far pen length = max (half pen) (10 * length - half pen)

@@ -1,0 +1,54 @@
+//! The lines and the insides of shapes.
+
+ghost use Rattle.std.specs.Prelude.{◌≡◌};
+ghost use Rattle.std.specs.FinMap as finite;
+ghost use Rattle.vt_shapes.specs.Pens.{fill_of, pen_of};
+
+use vt_objects::{Object, ObjectId, Store};
+use vt_svg::Paint;
+
+/// What lines are drawn with.
+#[derive(Clone, Copy, Debug, PartialEq, Eq)]
+pub(crate) struct Pen {
+    /// The colour, or nothing.
+    pub(crate) paint: Paint,
+    /// The width in pixels.
+    pub(crate) width: u8,
+    /// The line art.
+    pub(crate) art: u16,
+}
+
+/// A pen that draws nothing.
+pub(crate) const NO_PEN: Pen = Pen {
+    paint: Paint::None,
+    width: 0,
+    art: 0xFFFF,
+};
+
+/// The pen of line attributes. It draws nothing without them.
+pub(crate) fn pen_of<S: Store>(store: &S, attributes: ObjectId) -> Pen
+    ensures { result ≡ pen_of (finite.get (S.contents store.now) attributes) }
+{
+    match store.get(attributes) {
+        Some(Object::LineAttributes(o)) => Pen {
+            paint: Paint::Colour(o.colour),
+            width: o.width,
+            art: o.line_art,
+        },
+        _ => NO_PEN,
+    }
+}
+
+/// The inside of a shape that is drawn with a pen. Empty without fill attributes.
+pub(crate) fn fill_of<S: Store>(store: &S, attributes: ObjectId, pen: Pen) -> Paint
+    ensures { result ≡ fill_of (finite.get (S.contents store.now) attributes) pen }
+{
+    match store.get(attributes) {
+        Some(Object::FillAttributes(o)) => match o.fill_type {
+            0 => Paint::None,
+            1 => pen.paint,
+            _ => Paint::Colour(o.colour),
+        },
+        _ => Paint::None,
+    }
+}
