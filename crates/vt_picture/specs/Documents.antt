@@ -30,9 +30,9 @@ gap = 8
 
 -- ---- the places of keys
 
--- the keys of a column
+-- the keys of a column, as many as fit beside a mask, at least one
 abbrev pub keys_in_column : Sizes → ℕ
-keys_in_column sizes = max 1 (sizes.mask.height / (sizes.key.height + gap))
+keys_in_column sizes = max 1 ((sizes.mask.height + gap) / (sizes.key.height + gap))
 
 -- a distance, as far as an entry can have it
 abbrev pub reach : ℕ → ℤ

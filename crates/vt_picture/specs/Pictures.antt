@@ -1,5 +1,5 @@
 -- The text of a picture.
-use Rattle.std.specs.Prelude.{◌≡◌, ℕ, ◌-◌, ◌*◌, List, [], ◌∷◌, ◌++◌, Option, Some, None}
+use Rattle.std.specs.Prelude.{◌≡◌, ℕ, ◌-◌, ◌*◌, max, List, [], ◌∷◌, ◌++◌, Option, Some, None}
 use Rattle.std.specs.FinMap as finite
 use Rattle.vt_kinds.specs.declared.entries.Child.{Child}
 use Rattle.vt_kinds.specs.Records.{Seen}
@@ -17,12 +17,13 @@ use Rattle.vt_picture.specs.Frames.{frame_of}
 use Rattle.vt_picture.specs.Marks.{Marks, Nothing, Mark, cut, count}
 use Rattle.vt_shapes.specs.Shapes.{shapes}
 
--- the size of an element; a fine one has coordinates in tenths of a pixel
+-- the size of an element; a fine one has coordinates in tenths of a pixel, and at least one pixel, without which nothing is shown
 abbrev pub sized : Frame → List Attribute
 sized frames.Whole = []
 sized (frames.Clipped width height) = attributes.Width width ∷ attributes.Height height ∷ []
 sized (frames.Fine area) =
-    attributes.Width area.width ∷ attributes.Height area.height ∷ attributes.Coordinates (10 * area.width) (10 * area.height) ∷ attributes.Flag flags.Overflow ∷ []
+    attributes.Width (max 1 area.width) ∷ attributes.Height (max 1 area.height) ∷ attributes.Coordinates (10 * max 1 area.width) (10 * max 1 area.height)
+    ∷ attributes.Flag flags.Overflow ∷ []
 
 -- the ID, the position and the size of an element
 abbrev pub placed : Child → Frame → List Attribute

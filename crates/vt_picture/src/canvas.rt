@@ -56,8 +56,8 @@ fn open_placed(
             &[id, x, y, Attribute::Width(width), Attribute::Height(height)],
         ),
         Frame::Fine(area) => {
-            let width = u32::from(area.width);
-            let height = u32::from(area.height);
+            let width = u32::from(area.width).max(1);
+            let height = u32::from(area.height).max(1);
             open(
                 text,
                 Element::Svg,

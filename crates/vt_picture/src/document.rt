@@ -75,7 +75,7 @@ fn soft_keys<S: Store>(store: &S, mask: ObjectId) -> &[ObjectId]
 fn keys_in_column(sizes: Sizes) -> u64
     ensures { result ≡ documents.keys_in_column sizes }
 {
-    (u64::from(sizes.mask.height) / (u64::from(sizes.key.height) + GAP)).max(1)
+    ((u64::from(sizes.mask.height) + GAP) / (u64::from(sizes.key.height) + GAP)).max(1)
 }
 
 /// A distance, as far as an entry can have it.
@@ -213,7 +213,7 @@ fn draw_keys<S: Store>(
 ) -> Result<(), AllocError>
     ensures { OnOk result (documents.DrawsFramed (documents.keys_area sizes) sizes (S.contents store.now) (marks 32 (S.contents store.now) places.now) canvas.old canvas.new) }
 {
-    let left = Attribute::Left(u32::from(sizes.mask.width) + 8);
+    let left = Attribute::Left(u32::from(sizes.mask.width) + GAP as u32);
     open(&mut canvas.text, Element::Svg, &[left])?;
     draw_entries(store, sizes, MOST_INCLUSIONS, places, canvas)?;
     close(&mut canvas.text, Element::Svg)

@@ -1,5 +1,5 @@
 -- Ellipses (docs/PROFILE.md, "Shapes"). Lengths are in tenths of a pixel.
-use Rattle.std.specs.Prelude.{◌-◌, ◌*◌, ◌==◌, if◌then◌else◌, List, [], ◌∷◌, ◌++◌}
+use Rattle.std.specs.Prelude.{ℕ, ◌-◌, ◌*◌, ◌%◌, Bool, nat_lt, ◌==◌, ◌&&◌, ◌||◌, if◌then◌else◌, List, [], ◌∷◌, ◌++◌}
 use Rattle.std.specs.FinMap as finite
 use Rattle.vt_kinds.specs.declared.shapes.Ellipse.{Ellipse}
 use Rattle.vt_stores.specs.Stores.{ObjectMap}
@@ -38,10 +38,14 @@ part element paint pen o = Along element (drawn_with paint pen) (arc_of pen o) N
 abbrev pub section : Paint → Pen → Ellipse → Nodes
 section paint pen o = Along elements.Polygon (drawn_with paint pen) (arc_of pen o ++ centre o ∷ []) None
 
+-- an ellipse of type 0, or a segment or a section from an angle to itself
+abbrev pub is_whole : Ellipse → Bool
+is_whole o = o.ellipse_type == 0 || (nat_lt 1 o.ellipse_type && o.start % 180 == o.end % 180)
+
 -- a whole ellipse, an arc, a segment closed by a line, or a section closed through the centre
 abbrev pub outline : Paint → Pen → Ellipse → Nodes
 outline paint pen o =
-    if o.ellipse_type == 0 then whole paint pen o
+    if is_whole o then whole paint pen o
     else if o.ellipse_type == 1 then part elements.Polyline paints.None pen o
     else if o.ellipse_type == 2 then part elements.Polygon paint pen o
     else section paint pen o

@@ -34,7 +34,7 @@ style_of style = record { bold = has_bit style 0; italic = has_bit style 3; unde
 abbrev pub columns : Look → Field → ℕ
 columns look field = max 1 (field.area.width / max 1 look.cell.width)
 
--- the most rows of which a pixel is in the field
+-- the rows of which a pixel may be in the field
 abbrev pub most_rows : Look → Field → ℕ
 most_rows look field = field.area.height / max 1 look.cell.height + 1
 

@@ -41,7 +41,7 @@ stroke colour width = attributes.Fill paints.None ∷ attributes.Stroke (paints.
 abbrev pub line : List Attribute → Point → Point → Nodes
 line attributes first last = Along elements.Polyline attributes (first ∷ last ∷ []) nodes.None
 
--- nodes for each number below one, from the highest down
+-- nodes for each number below a given one, from the highest down
 abbrev pub each_below : (ℕ → Nodes) → ℕ → Nodes
 each_below draws zero = nodes.None
 each_below draws (suc n) = followed (draws n) (each_below draws n)

@@ -1,4 +1,4 @@
--- Lines, rectangles, ellipses and polygons (docs/PROFILE.md, "Shapes"). Lengths are in tenths of a pixel.
+-- Lines, rectangles and polygons (docs/PROFILE.md, "Shapes"). Lengths are in tenths of a pixel.
 use Rattle.std.specs.Prelude.{ℕ, ◌+◌, ◌*◌, ◌/◌, ◌%◌, ◌==◌, if◌then◌else◌, List, [], ◌∷◌, map}
 use Rattle.std.specs.FinMap as finite
 use Rattle.vt_kinds.specs.declared.entries.Point as corners

@@ -22,12 +22,22 @@ pub(crate) fn draw_ellipse<S: Store>(
 {
     let pen = pen_of(store, ellipse.line_attributes);
     let paint = fill_of(store, ellipse.fill, pen);
+    if is_whole(ellipse) {
+        return draw_whole(text, paint, pen, ellipse);
+    }
     match ellipse.ellipse_type {
-        0 => draw_whole(text, paint, pen, ellipse),
         1 => draw_arc(text, Element::Polyline, Paint::None, pen, ellipse),
         2 => draw_arc(text, Element::Polygon, paint, pen, ellipse),
         _ => draw_section(text, paint, pen, ellipse),
     }
+}
+
+/// Whether an ellipse is drawn whole: one of type 0, and a segment or a section from an angle to itself.
+fn is_whole(ellipse: &Ellipse) -> bool
+    ensures { result ≡ ellipses.is_whole ellipse.now }
+{
+    ellipse.ellipse_type == 0
+        || (ellipse.ellipse_type > 1 && ellipse.start % 180 == ellipse.end % 180)
 }
 
 /// The ellipse of an object: half the width of its line within its area.

@@ -133,7 +133,7 @@ fn columns(look: Look, field: Field) -> usize
     usize::from(field.area.width / look.cell.width.max(1)).max(1)
 }
 
-/// The number of rows of which a pixel is in a field.
+/// The number of rows of which a pixel may be in a field.
 fn most_rows(look: Look, field: Field) -> usize
     ensures { result ≡ fields.most_rows look field }
 {

@@ -1,4 +1,4 @@
-//! Lines, rectangles, ellipses and polygons.
+//! Lines, rectangles and polygons.
 
 ghost use Rattle.std.specs.Prelude.{◌≡◌, ◌*◌, [], ◌∷◌, ◌++◌, map, OnOk};
 ghost use Rattle.std.specs.List.{flat_map};
