@@ -1,7 +1,7 @@
 # The program's words. Paths are those of the folder in which make runs.
 ARGS ?= examples/seeder.log
 
-.PHONY: run sample help test examples wrong-bodies build bench bench-hostile bench-counts refuse-memory
+.PHONY: run sample picture help test examples wrong-bodies build bench bench-hostile bench-counts refuse-memory
 
 # Runs the program by the toolchain's quick build, which proves nothing.
 run:
@@ -10,6 +10,11 @@ run:
 # Runs a whole caller of the library by the quick build.
 sample:
 	@cd crates/vt_sample && rt try --data sprayer.iop=$(CURDIR)/examples/sprayer.iop
+
+# Draws the active mask of POOL as SVG on the standard output, by the quick build: make -s picture POOL=my.iop > my.svg
+picture: POOL ?= examples/sprayer.iop
+picture:
+	@cd crates/vt_picture_examples && rt try < $(abspath $(POOL))
 
 # Lists these commands.
 help:
