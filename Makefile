@@ -1,5 +1,7 @@
 # The program's words. Paths are those of the folder in which make runs.
 ARGS ?= examples/seeder.log
+# The pool that is drawn.
+POOL ?= examples/sprayer.iop
 
 .PHONY: run sample picture help test examples wrong-bodies build bench bench-hostile bench-counts refuse-memory
 
@@ -12,7 +14,6 @@ sample:
 	@cd crates/vt_sample && rt try --data sprayer.iop=$(CURDIR)/examples/sprayer.iop
 
 # Draws the active mask of POOL as SVG on the standard output, by the quick build: make -s picture POOL=my.iop > my.svg
-picture: POOL ?= examples/sprayer.iop
 picture:
 	@cd crates/vt_picture_examples && rt try < $(abspath $(POOL))
 
