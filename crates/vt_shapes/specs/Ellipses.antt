@@ -52,4 +52,4 @@ outline paint pen o =
 
 abbrev pub ellipse_shapes : ObjectMap → Ellipse → Nodes
 ellipse_shapes store o =
-    outline (fill_of (finite.get store o.fill) (pen_of (finite.get store o.line_attributes))) (pen_of (finite.get store o.line_attributes)) o
+    outline (fill_of store (finite.get store o.fill) (pen_of (finite.get store o.line_attributes))) (pen_of (finite.get store o.line_attributes)) o

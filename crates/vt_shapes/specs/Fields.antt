@@ -1,5 +1,5 @@
 -- Fields with texts (docs/PROFILE.md, "Fields"). Lengths are in pixels.
-use Rattle.std.specs.Prelude.{ℕ, zero, suc, ◌+◌, ◌-◌, ◌*◌, ◌/◌, ◌%◌, ◌^◌, max, Bool, ◌==◌, if◌then◌else◌, List, [], ◌∷◌, length, take, drop, Option, Some, None, slice_get}
+use Rattle.std.specs.Prelude.{ℕ, zero, suc, ◌+◌, ◌-◌, ◌*◌, ◌/◌, ◌%◌, max, Bool, ◌==◌, if◌then◌else◌, List, [], ◌∷◌, length, take, drop, Option, Some, None, slice_get}
 use Rattle.std.specs.Option.{option_map}
 use Rattle.vt_kinds.specs.declared.object.Object.TheVariants as objects
 use Rattle.vt_kinds.specs.Records.{Seen}
@@ -15,14 +15,12 @@ use Rattle.vt_svg.specs.Elements.{Nodes, Around, Empty, Characters}
 use Rattle.vt_svg.specs.Elements as nodes
 use Rattle.vt_shapes.specs.declared.shapes.fields.Field.{Field}
 use Rattle.vt_shapes.specs.declared.shapes.fields.Look.{Look}
+use Rattle.vt_shapes.specs.Bits.{has_bit}
 
 -- the characters of a font; None for other objects and for a size that is not in the table
 abbrev pub look_of : Option Seen → Option Look
 look_of (Some (objects.Font o)) = option_map (λ cell. record { cell = cell; colour = o.colour; style = o.style }) (slice_get cells o.size)
 look_of _ = None
-
-abbrev pub has_bit : ℕ → ℕ → Bool
-has_bit options bit = options / 2 ^ bit % 2 == 1
 
 -- bit 0 of a style is bold, bit 1 crossed out, bit 2 underlined and bit 3 italic
 abbrev pub style_of : ℕ → Style

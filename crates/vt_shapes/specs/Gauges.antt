@@ -1,5 +1,5 @@
 -- Meters and bars (docs/PROFILE.md, "Meters and bars"). Lengths are in tenths of a pixel.
-use Rattle.std.specs.Prelude.{ℕ, zero, suc, ◌+◌, ◌-◌, ◌*◌, ◌/◌, ◌%◌, ◌^◌, min, max, Bool, not, nat_le, ◌==◌, if◌then◌else◌, List, [], ◌∷◌, Option, Some, None}
+use Rattle.std.specs.Prelude.{ℕ, zero, suc, ◌+◌, ◌-◌, ◌*◌, ◌/◌, ◌%◌, min, max, Bool, not, nat_le, ◌==◌, if◌then◌else◌, List, [], ◌∷◌, Option, Some, None}
 use Rattle.vt_kinds.specs.declared.graphs.Meter.{Meter}
 use Rattle.vt_kinds.specs.declared.graphs.LinearBar.{LinearBar}
 use Rattle.vt_kinds.specs.declared.graphs.ArchedBar.{ArchedBar}
@@ -14,6 +14,7 @@ use Rattle.vt_svg.specs.Elements.{Nodes, Along, Empty, followed, when}
 use Rattle.vt_svg.specs.Elements as nodes
 use Rattle.vt_shapes.specs.declared.shapes.arcs.Oval.{Oval}
 use Rattle.vt_shapes.specs.Arcs.{arc, point_on, sweep}
+use Rattle.vt_shapes.specs.Bits.{has_bit}
 use Rattle.vt_shapes.specs.Lines.{point}
 
 -- ---- values
@@ -31,9 +32,6 @@ or_zero (Some n) = n
 abbrev pub shown : ObjectMap → ℕ → ℕ → ℕ
 shown store variable value = or_zero (number_shown store variable value)
 
-abbrev pub has_bit : ℕ → ℕ → Bool
-has_bit options bit = options / 2 ^ bit % 2 == 1
-
 -- a line of a colour and a width
 abbrev pub stroke : ℕ → ℕ → List Attribute
 stroke colour width = attributes.Fill paints.None ∷ attributes.Stroke (paints.Colour colour) ∷ attributes.StrokeWidth width ∷ []
@@ -41,10 +39,10 @@ stroke colour width = attributes.Fill paints.None ∷ attributes.Stroke (paints.
 abbrev pub line : List Attribute → Point → Point → Nodes
 line attributes first last = Along elements.Polyline attributes (first ∷ last ∷ []) nodes.None
 
--- nodes for each number below a given one, from the highest down
+-- nodes for each number below a given one, from 0 up
 abbrev pub each_below : (ℕ → Nodes) → ℕ → Nodes
 each_below draws zero = nodes.None
-each_below draws (suc n) = followed (draws n) (each_below draws n)
+each_below draws (suc n) = followed (each_below draws n) (draws n)
 
 -- the place of a tick among others, the first at 0 and the last at the end of a span
 abbrev pub tick_at : ℕ → ℕ → ℕ → ℕ

@@ -1,5 +1,6 @@
 -- The definitions used in the contracts of vt_shapes.
 pub mod Arcs
+pub mod Bits
 pub mod Ellipses
 pub mod Fields
 pub mod Gauges
@@ -7,3 +8,4 @@ pub mod Lines
 pub mod Pens
 pub mod Shapes
 pub mod Texts
+pub mod UsedPictures

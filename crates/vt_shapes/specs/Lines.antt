@@ -54,7 +54,7 @@ sides pen o =
 abbrev pub rectangle_shapes : ObjectMap → Rectangle → Nodes
 rectangle_shapes store o =
     let pen = pen_of (finite.get store o.line_attributes) in
-    Empty elements.Rect (inside_attributes (fill_of (finite.get store o.fill) pen) o) (sides pen o)
+    Empty elements.Rect (inside_attributes (fill_of store (finite.get store o.fill) pen) o) (sides pen o)
 
 -- ---- polygons
 
@@ -66,7 +66,7 @@ abbrev pub outline : ObjectMap → Polygon → Pen → Nodes
 outline store o pen =
     if o.polygon_type == 3
     then Along elements.Polyline (drawn_with paints.None pen) (map middle o.points) None
-    else Along elements.Polygon (drawn_with (fill_of (finite.get store o.fill) pen) pen) (map middle o.points) None
+    else Along elements.Polygon (drawn_with (fill_of store (finite.get store o.fill) pen) pen) (map middle o.points) None
 
 abbrev pub polygon_shapes : ObjectMap → Polygon → Nodes
 polygon_shapes store o = outline store o (pen_of (finite.get store o.line_attributes))

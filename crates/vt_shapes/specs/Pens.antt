@@ -1,7 +1,10 @@
 -- The lines and the insides of shapes (docs/PROFILE.md, "Lines and fillings").
 use Rattle.std.specs.Prelude.{ℕ, ◌-◌, ◌*◌, ◌==◌, if◌then◌else◌, max, List, [], ◌∷◌, Option, Some}
+use Rattle.std.specs.FinMap as finite
+use Rattle.vt_kinds.specs.declared.attribute_objects.FillAttributes.{FillAttributes}
 use Rattle.vt_kinds.specs.declared.object.Object.TheVariants as objects
 use Rattle.vt_kinds.specs.Records.{Seen}
+use Rattle.vt_stores.specs.Stores.{ObjectMap}
 use Rattle.vt_svg.specs.declared.attribute.Attribute.{Attribute}
 use Rattle.vt_svg.specs.declared.attribute.Attribute.TheVariants as attributes
 use Rattle.vt_svg.specs.declared.attribute.Paint.{Paint}
@@ -16,11 +19,23 @@ abbrev pub pen_of : Option Seen → Pen
 pen_of (Some (objects.LineAttributes o)) = record { paint = paints.Colour o.colour; width = o.width; art = o.line_art }
 pen_of _ = no_pen
 
--- nothing, the colour of the lines, or a colour of its own, which also stands for a pattern
-abbrev pub fill_of : Option Seen → Pen → Paint
-fill_of (Some (objects.FillAttributes o)) pen =
-    if o.fill_type == 0 then paints.None else if o.fill_type == 1 then pen.paint else paints.Colour o.colour
-fill_of _ pen = paints.None
+-- a Picture as a pattern; nothing for another object
+abbrev pub pattern_of : ℕ → Option Seen → Paint
+pattern_of id (Some (objects.Picture o)) = paints.Pattern id
+pattern_of id _ = paints.None
+
+-- nothing, the colour of the lines, a pattern, or a colour of its own
+abbrev pub filling : ObjectMap → FillAttributes → Pen → Paint
+filling store o pen =
+    if o.fill_type == 0 then paints.None
+    else if o.fill_type == 1 then pen.paint
+    else if o.fill_type == 3 then pattern_of o.pattern (finite.get store o.pattern)
+    else paints.Colour o.colour
+
+-- the inside of a shape with some fill attributes; empty without them
+abbrev pub fill_of : ObjectMap → Option Seen → Pen → Paint
+fill_of store (Some (objects.FillAttributes o)) pen = filling store o pen
+fill_of store _ pen = paints.None
 
 -- a shape with its inside and its lines, whose widths are in tenths of a pixel
 abbrev pub drawn_with : Paint → Pen → List Attribute

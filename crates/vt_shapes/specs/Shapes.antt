@@ -29,20 +29,26 @@ abbrev pub button_shapes : Button → Nodes
 button_shapes o =
     box o.width o.height (attributes.Fill (Colour o.colour) ∷ attributes.Stroke (Colour o.border) ∷ attributes.StrokeWidth 4 ∷ [])
 
-abbrev pub shapes : Sizes → ObjectMap → Seen → Nodes
-shapes sizes store (objects.Key o) = key_shapes sizes o
-shapes sizes store (objects.Button o) = button_shapes o
-shapes sizes store (objects.InputBoolean o) = input_boolean_shapes store o
-shapes sizes store (objects.InputString o) = input_string_shapes store o
-shapes sizes store (objects.InputNumber o) = input_number_shapes store o
-shapes sizes store (objects.InputList o) = input_list_shapes o
-shapes sizes store (objects.OutputString o) = output_string_shapes store o
-shapes sizes store (objects.OutputNumber o) = output_number_shapes store o
-shapes sizes store (objects.Line o) = line_shapes store o
-shapes sizes store (objects.Rectangle o) = rectangle_shapes store o
-shapes sizes store (objects.Ellipse o) = ellipse_shapes store o
-shapes sizes store (objects.Polygon o) = polygon_shapes store o
-shapes sizes store (objects.Meter o) = meter_shapes store o
-shapes sizes store (objects.LinearBar o) = bar_shapes store o
-shapes sizes store (objects.ArchedBar o) = arch_shapes store o
-shapes sizes store _ = None
+-- a picture that is written elsewhere, as large as its area
+abbrev pub picture_shown : ℕ → Nodes
+picture_shown id = Empty elements.Use (attributes.PictureShown id ∷ []) None
+
+-- the shapes of an object, by its ID
+abbrev pub shapes : Sizes → ObjectMap → ℕ → Seen → Nodes
+shapes sizes store id (objects.Key o) = key_shapes sizes o
+shapes sizes store id (objects.Button o) = button_shapes o
+shapes sizes store id (objects.InputBoolean o) = input_boolean_shapes store o
+shapes sizes store id (objects.InputString o) = input_string_shapes store o
+shapes sizes store id (objects.InputNumber o) = input_number_shapes store o
+shapes sizes store id (objects.InputList o) = input_list_shapes o
+shapes sizes store id (objects.OutputString o) = output_string_shapes store o
+shapes sizes store id (objects.OutputNumber o) = output_number_shapes store o
+shapes sizes store id (objects.Line o) = line_shapes store o
+shapes sizes store id (objects.Rectangle o) = rectangle_shapes store o
+shapes sizes store id (objects.Ellipse o) = ellipse_shapes store o
+shapes sizes store id (objects.Polygon o) = polygon_shapes store o
+shapes sizes store id (objects.Meter o) = meter_shapes store o
+shapes sizes store id (objects.LinearBar o) = bar_shapes store o
+shapes sizes store id (objects.ArchedBar o) = arch_shapes store o
+shapes sizes store id (objects.Picture o) = picture_shown id
+shapes sizes store id _ = None

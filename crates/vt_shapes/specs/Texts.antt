@@ -22,7 +22,8 @@ use Rattle.vt_svg.specs.Elements.{Nodes, Along, Empty}
 use Rattle.vt_svg.specs.Elements as nodes
 use Rattle.vt_shapes.specs.declared.shapes.fields.Field.{Field}
 use Rattle.vt_shapes.specs.declared.shapes.fields.Look.{Look}
-use Rattle.vt_shapes.specs.Fields.{field_shapes, has_bit, look_of}
+use Rattle.vt_shapes.specs.Bits.{has_bit}
+use Rattle.vt_shapes.specs.Fields.{field_shapes, look_of}
 use Rattle.vt_shapes.specs.Lines.{point}
 
 -- the border of an input: blue if it is enabled, and else grey

@@ -1,11 +1,16 @@
 //! The shapes of each kind of object as SVG (ISO 11783-6): fields with the rows of their texts, lines and areas, meters and bars.
 //!
-//! - `draw_shapes` appends the shapes of an object, in the coordinates of its own area.
+//! - `draw_shapes` appends the shapes of an object, in the coordinates of its own area. Those of a Picture, and patterns, are references to
+//!   pictures that are written elsewhere.
+//! - `used_picture` returns the Picture to which the shapes of an object refer.
 //!
 //! docs/PROFILE.md, "Pictures", says how each kind looks.
 #![tactic(auto)]
 
+mod bits;
 mod pen;
 mod shapes;
+mod used_pictures;
 
 pub use shapes::draw_shapes;
+pub use used_pictures::used_picture;

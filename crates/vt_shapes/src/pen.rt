@@ -2,7 +2,7 @@
 
 ghost use Rattle.std.specs.Prelude.{◌≡◌};
 ghost use Rattle.std.specs.FinMap as finite;
-ghost use Rattle.vt_shapes.specs.Pens.{fill_of, pen_of};
+ghost use Rattle.vt_shapes.specs.Pens.{fill_of, pattern_of, pen_of};
 
 use vt_objects::{Object, ObjectId, Store};
 use vt_svg::Paint;
@@ -41,14 +41,25 @@ pub(crate) fn pen_of<S: Store>(store: &S, attributes: ObjectId) -> Pen
 
 /// The inside of a shape that is drawn with a pen. Empty without fill attributes.
 pub(crate) fn fill_of<S: Store>(store: &S, attributes: ObjectId, pen: Pen) -> Paint
-    ensures { result ≡ fill_of (finite.get (S.contents store.now) attributes) pen }
+    ensures { result ≡ fill_of (S.contents store.now) (finite.get (S.contents store.now) attributes) pen }
 {
     match store.get(attributes) {
         Some(Object::FillAttributes(o)) => match o.fill_type {
             0 => Paint::None,
             1 => pen.paint,
+            3 => pattern_of(store, o.pattern),
             _ => Paint::Colour(o.colour),
         },
+        _ => Paint::None,
+    }
+}
+
+/// A Picture as a pattern. Nothing for another object.
+fn pattern_of<S: Store>(store: &S, id: ObjectId) -> Paint
+    ensures { result ≡ pattern_of id (finite.get (S.contents store.now) id) }
+{
+    match store.get(id) {
+        Some(Object::Picture(_)) => Paint::Pattern(id.raw()),
         _ => Paint::None,
     }
 }

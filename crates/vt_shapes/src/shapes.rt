@@ -3,7 +3,7 @@
 ghost use Rattle.std.specs.Prelude.{◌≡◌, ◌++◌, OnOk};
 ghost use Rattle.vt_kinds.specs.Records.{seen};
 ghost use Rattle.vt_svg.specs.Elements.{text_of};
-ghost use Rattle.vt_shapes.specs.Shapes.{button_shapes, key_shapes, shapes};
+ghost use Rattle.vt_shapes.specs.Shapes.{button_shapes, key_shapes, picture_shown, shapes};
 
 mod arcs;
 mod ellipses;
@@ -21,17 +21,18 @@ use texts::{
     draw_output_string,
 };
 use vt_needs::Sizes;
-use vt_objects::{Button, Key, Object, Store};
+use vt_objects::{Button, Key, Object, ObjectId, Store};
 use vt_svg::{Attribute, Element, Paint, empty};
 
-/// Appends the shapes of an object, without those of other elements in it.
+/// Appends the shapes of an object, by its ID, without those of other elements in it.
 pub fn draw_shapes<S: Store>(
     text: &mut Vec<u8>,
     store: &S,
     sizes: Sizes,
+    id: ObjectId,
     object: &Object<Vec<u8>>,
 ) -> Result<(), AllocError>
-    ensures { OnOk result (text.new.items ≡ text.old.items ++ text_of (shapes sizes (S.contents store.now) (seen object.now))) }
+    ensures { OnOk result (text.new.items ≡ text.old.items ++ text_of (shapes sizes (S.contents store.now) id (seen object.now))) }
 {
     match object {
         Object::Key(o) => draw_key(text, sizes, o),
@@ -49,12 +50,12 @@ pub fn draw_shapes<S: Store>(
         Object::Meter(o) => draw_meter(text, store, o),
         Object::LinearBar(o) => draw_linear_bar(text, store, o),
         Object::ArchedBar(o) => draw_arched_bar(text, store, o),
+        Object::Picture(_) => show_picture(text, id),
         Object::WorkingSet(_)
         | Object::DataMask(_)
         | Object::AlarmMask(_)
         | Object::Container(_)
         | Object::SoftKeyMask(_)
-        | Object::Picture(_)
         | Object::NumberVariable(_)
         | Object::StringVariable(_)
         | Object::Font(_)
@@ -95,6 +96,13 @@ fn draw_button(text: &mut Vec<u8>, button: &Button) -> Result<(), AllocError>
             Attribute::StrokeWidth(4),
         ],
     )
+}
+
+/// Shows a picture that is written elsewhere.
+fn show_picture(text: &mut Vec<u8>, id: ObjectId) -> Result<(), AllocError>
+    ensures { OnOk result (text.new.items ≡ text.old.items ++ text_of (picture_shown id)) }
+{
+    empty(text, Element::Use, &[Attribute::PictureShown(id.raw())])
 }
 
 /// The number of the colour grey.

@@ -1,6 +1,6 @@
 //! Ellipses, and parts of them.
 
-ghost use Rattle.std.specs.Prelude.{◌≡◌, ◌≤◌, ◌*◌, ◌++◌, OnOk};
+ghost use Rattle.std.specs.Prelude.{◌≡◌, ◌++◌, OnOk};
 ghost use Rattle.std.specs.List.{flat_map};
 ghost use Rattle.vt_svg.specs.Elements.{point_text, text_of};
 ghost use Rattle.vt_shapes.specs.Arcs.{IsOval};
@@ -8,7 +8,7 @@ ghost use Rattle.vt_shapes.specs.Ellipses as ellipses;
 
 use crate::pen::{Pen, fill_of, pen_of};
 use crate::shapes::arcs::{Oval, push_arc, sweep};
-use crate::shapes::lines::{drawn_with, half};
+use crate::shapes::lines::{drawn_with, half, half_of};
 use std::alloc::AllocError;
 use vt_objects::{Ellipse, Store};
 use vt_svg::{Attribute, Element, Paint, Point, close_points, empty, open_points, push_point};
@@ -45,22 +45,14 @@ fn oval_of(pen: Pen, ellipse: &Ellipse) -> Oval
     ensures is { result ≡ ellipses.oval_of pen ellipse.now }
     ensures inside { IsOval result }
 {
-    let x = middle_of(ellipse.width);
-    let y = middle_of(ellipse.height);
+    let x = half_of(ellipse.width);
+    let y = half_of(ellipse.height);
     Oval {
         x,
         y,
         radius_x: x.saturating_sub(half(pen)),
         radius_y: y.saturating_sub(half(pen)),
     }
-}
-
-/// Half a length, in tenths of a pixel.
-fn middle_of(length: u16) -> u32
-    ensures is { result ≡ 5 * length }
-    ensures most { result ≤ 400000 }
-{
-    u32::from(length) * 5
 }
 
 fn draw_whole(

@@ -8,6 +8,7 @@ ghost use Rattle.vt_svg.specs.declared.element.Element.TheVariants.{Rect};
 ghost use Rattle.vt_svg.specs.Elements.{emptied, text_of};
 ghost use Rattle.vt_shapes.specs.Fields as fields;
 
+use crate::bits::has_bit;
 use std::alloc::AllocError;
 use vt_needs::{Area, cell};
 use vt_objects::{Object, ObjectId, Store};
@@ -106,14 +107,6 @@ fn background(look: Option<Look>, field: Field) -> Paint
             Paint::Colour(field.colour)
         },
     }
-}
-
-/// Whether a bit of a byte is set.
-pub(crate) fn has_bit(byte: u8, bit: u8) -> bool
-    requires { bit < 8 }
-    ensures { result ≡ fields.has_bit byte bit }
-{
-    (byte >> bit) % 2 == 1
 }
 
 fn draw_rows(out: &mut Vec<u8>, look: Look, field: Field, shown: &[u8]) -> Result<(), AllocError>

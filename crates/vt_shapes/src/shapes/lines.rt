@@ -1,6 +1,6 @@
 //! Lines, rectangles and polygons.
 
-ghost use Rattle.std.specs.Prelude.{◌≡◌, ◌*◌, [], ◌∷◌, ◌++◌, map, OnOk};
+ghost use Rattle.std.specs.Prelude.{◌≡◌, ◌≤◌, ◌*◌, [], ◌∷◌, ◌++◌, map, OnOk};
 ghost use Rattle.std.specs.List.{flat_map};
 ghost use Rattle.vt_svg.specs.declared.attribute.Paint.TheVariants.{None};
 ghost use Rattle.vt_svg.specs.declared.element.Element.TheVariants.{Polyline, Rect};
@@ -31,6 +31,14 @@ pub(crate) fn tenths(length: u16) -> u32
     ensures { result ≡ 10 * length }
 {
     u32::from(length) * 10
+}
+
+/// Half of a length, in tenths of a pixel.
+pub(crate) fn half_of(length: u16) -> u32
+    ensures is { result ≡ 5 * length }
+    ensures most { result ≤ 327675 }
+{
+    u32::from(length) * 5
 }
 
 /// Half the width of a line, in tenths of a pixel.

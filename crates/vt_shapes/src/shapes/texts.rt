@@ -8,7 +8,8 @@ ghost use Rattle.vt_layout.specs.Lines.{text_shown};
 ghost use Rattle.vt_svg.specs.Elements.{text_of};
 ghost use Rattle.vt_shapes.specs.Texts as fields;
 
-use crate::shapes::fields::{Field, Look, draw_field, has_bit, look_of};
+use crate::bits::has_bit;
+use crate::shapes::fields::{Field, Look, draw_field, look_of};
 use std::alloc::AllocError;
 use vt_needs::Area;
 use vt_objects::{

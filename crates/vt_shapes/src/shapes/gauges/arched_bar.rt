@@ -4,13 +4,15 @@ ghost use Rattle.std.specs.Prelude.{◌≡◌, ◌≤◌, ◌<◌, ◌++◌, OnO
 ghost use Rattle.vt_svg.specs.Elements.{text_of, when, Along, None};
 ghost use Rattle.vt_svg.specs.declared.element.Element.TheVariants.{Polyline};
 ghost use Rattle.vt_shapes.specs.Arcs.{arc, IsOval};
-ghost use Rattle.vt_shapes.specs.Gauges.{across_arch, arch_border, arch_part, arch_shapes, arch_steps, arch_target, arch_value, first_angle, has_bit, is_clockwise, ring, stroke, turned};
+ghost use Rattle.vt_shapes.specs.Gauges.{across_arch, arch_border, arch_part, arch_shapes, arch_steps, arch_target, arch_value, first_angle, is_clockwise, ring, stroke, turned};
+ghost use Rattle.vt_shapes.specs.Bits.{has_bit};
 
+use crate::bits::has_bit;
 use crate::shapes::arcs::{Oval, STEPS, point_on, sweep};
 use crate::shapes::gauges::values::{
-    draw_arc, draw_between, half_of, has_bit, share, shown, stroke, turned,
+    draw_arc, draw_between, share, shown, stroke, turned,
 };
-use crate::shapes::lines::tenths;
+use crate::shapes::lines::{half_of, tenths};
 use std::alloc::AllocError;
 use vt_objects::{ArchedBar, Store};
 

@@ -4,7 +4,8 @@ ghost use Rattle.std.specs.Prelude.{◌≡◌, ◌≤◌, ◌++◌, OnOk};
 ghost use Rattle.vt_svg.specs.Elements.{text_of};
 ghost use Rattle.vt_shapes.specs.Gauges.{across, along_axis, begins_at_zero, is_horizontal, length_of, part_between};
 
-use crate::shapes::gauges::values::{draw_between, has_bit};
+use crate::bits::has_bit;
+use crate::shapes::gauges::values::draw_between;
 use crate::shapes::lines::tenths;
 use std::alloc::AllocError;
 use vt_objects::LinearBar;

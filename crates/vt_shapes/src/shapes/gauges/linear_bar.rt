@@ -2,10 +2,12 @@
 
 ghost use Rattle.std.specs.Prelude.{◌≡◌, ◌<◌, ◌++◌, OnOk};
 ghost use Rattle.vt_svg.specs.Elements.{text_of, when};
-ghost use Rattle.vt_shapes.specs.Gauges.{bar_border, bar_shapes, bar_target, bar_tick, each_below, has_bit, value_length, value_part};
+ghost use Rattle.vt_shapes.specs.Gauges.{bar_border, bar_shapes, bar_target, bar_tick, each_below, value_length, value_part};
+ghost use Rattle.vt_shapes.specs.Bits.{has_bit};
 
+use crate::bits::has_bit;
 use crate::shapes::gauges::axis::{draw_across, length_of, part_between};
-use crate::shapes::gauges::values::{has_bit, share, shown, stroke, tick_at};
+use crate::shapes::gauges::values::{share, shown, stroke, tick_at};
 use std::alloc::AllocError;
 use vt_objects::{LinearBar, Store};
 use vt_svg::{Attribute, Element, Paint, along};
@@ -96,13 +98,11 @@ fn draw_ticks_if_set(text: &mut Vec<u8>, bar: &LinearBar) -> Result<(), AllocErr
     draw_ticks(text, bar)
 }
 
-/// Draws all ticks, the last first.
+/// Draws all ticks.
 fn draw_ticks(text: &mut Vec<u8>, bar: &LinearBar) -> Result<(), AllocError>
     ensures { OnOk result (text.new.items ≡ text.old.items ++ text_of (each_below (bar_tick bar.now) bar.now.ticks)) }
 {
-    let mut i = bar.ticks;
-    while i > 0 {
-        i -= 1;
+    for i in 0..bar.ticks {
         draw_tick(text, bar, i)?;
     }
     Ok(())

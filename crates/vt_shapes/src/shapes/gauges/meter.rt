@@ -3,12 +3,15 @@
 ghost use Rattle.std.specs.Prelude.{◌≡◌, ◌≤◌, ◌<◌, ◌++◌, OnOk};
 ghost use Rattle.vt_svg.specs.Elements.{text_of, when};
 ghost use Rattle.vt_shapes.specs.Arcs.{IsOval};
-ghost use Rattle.vt_shapes.specs.Gauges.{dial, each_below, has_bit, meter_arc, meter_border, meter_shapes, meter_tick, needle, share, shown, steps_of, turned};
+ghost use Rattle.vt_shapes.specs.Gauges.{dial, each_below, meter_arc, meter_border, meter_shapes, meter_tick, needle, share, shown, steps_of, turned};
+ghost use Rattle.vt_shapes.specs.Bits.{has_bit};
 
+use crate::bits::has_bit;
 use crate::shapes::arcs::{Oval, point_on, sweep};
 use crate::shapes::gauges::values::{
-    draw_arc, draw_between, half_of, has_bit, share, shown, stroke, tick_at, turned,
+    draw_arc, draw_between, share, shown, stroke, tick_at, turned,
 };
+use crate::shapes::lines::half_of;
 use std::alloc::AllocError;
 use vt_objects::{Meter, Store};
 use vt_svg::{Attribute, Element, Paint, Point, empty};
@@ -137,13 +140,11 @@ fn draw_ticks_if_set(text: &mut Vec<u8>, meter: &Meter) -> Result<(), AllocError
     draw_ticks(text, meter)
 }
 
-/// Draws all ticks, the last first.
+/// Draws all ticks.
 fn draw_ticks(text: &mut Vec<u8>, meter: &Meter) -> Result<(), AllocError>
     ensures { OnOk result (text.new.items ≡ text.old.items ++ text_of (each_below (meter_tick meter.now) meter.now.ticks)) }
 {
-    let mut i = meter.ticks;
-    while i > 0 {
-        i -= 1;
+    for i in 0..meter.ticks {
         draw_tick(text, meter, i)?;
     }
     Ok(())

@@ -4,7 +4,7 @@ ghost use Rattle.std.specs.Prelude.{◌≡◌, ◌≤◌, ◌<◌, ◌*◌, ◌+
 ghost use Rattle.vt_svg.specs.declared.element.Element.TheVariants.{Polyline};
 ghost use Rattle.vt_svg.specs.Elements.{text_of, Along, None};
 ghost use Rattle.vt_shapes.specs.Arcs.{arc, IsOval};
-ghost use Rattle.vt_shapes.specs.Gauges.{has_bit, line, share, shown, stroke, tick_at, turned};
+ghost use Rattle.vt_shapes.specs.Gauges.{line, share, shown, stroke, tick_at, turned};
 
 use crate::shapes::arcs::{Oval, STEPS, push_arc};
 use std::alloc::AllocError;
@@ -34,22 +34,6 @@ pub(crate) fn shown<S: Store>(store: &S, variable: ObjectId, value: u16) -> u32
         Some(number) => number,
         None => 0,
     }
-}
-
-/// Half of a length, in tenths of a pixel.
-pub(crate) fn half_of(length: u16) -> u32
-    ensures is { result ≡ 5 * length }
-    ensures most { result ≤ 327675 }
-{
-    u32::from(length) * 5
-}
-
-/// Whether an option is set, by the number of its bit.
-pub(crate) fn has_bit(options: u8, bit: u8) -> bool
-    requires { bit < 8 }
-    ensures { result ≡ has_bit options bit }
-{
-    (options >> bit) % 2 == 1
 }
 
 /// The place of a tick among others, the first at 0 and the last at the end of a span.

@@ -1,6 +1,7 @@
 use Rattle.std.proofs.lemmas.Result.{on_ok_weaker}
 use Rattle.vt_svg.specs.Elements.{when}
-use Rattle.vt_shapes.specs.Gauges.{bar_border, bar_target, bar_tick, each_below, has_bit, value_part}
+use Rattle.vt_shapes.specs.Bits.{has_bit}
+use Rattle.vt_shapes.specs.Gauges.{bar_border, bar_target, bar_tick, each_below, value_part}
 use Rattle.vt_shapes.proofs.Gauges.{four_written}
 use Rattle.vt_shapes.proofs.shapes.gauges.linear_bar.draw_linear_bar.Goals as goal
 

@@ -1,6 +1,7 @@
 use Rattle.std.proofs.lemmas.Result.{on_ok_weaker}
 use Rattle.vt_svg.specs.Elements.{when}
-use Rattle.vt_shapes.specs.Gauges.{each_below, has_bit, meter_arc, meter_border, meter_tick, needle}
+use Rattle.vt_shapes.specs.Bits.{has_bit}
+use Rattle.vt_shapes.specs.Gauges.{each_below, meter_arc, meter_border, meter_tick, needle}
 use Rattle.vt_shapes.proofs.Gauges.{four_written}
 use Rattle.vt_shapes.proofs.shapes.gauges.meter.draw_meter.Goals as goal
 

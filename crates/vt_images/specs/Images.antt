@@ -1,0 +1,49 @@
+-- Picture objects, each written once (docs/PROFILE.md, "Picture objects").
+use Rattle.std.specs.Prelude.{◌≡◌, ℕ, ◌*◌, List, [], ◌∷◌, ◌++◌, Option, Some}
+use Rattle.std.specs.FinMap as finite
+use Rattle.vt_kinds.specs.declared.object.Object.TheVariants as objects
+use Rattle.vt_kinds.specs.declared.pictures.Picture.{Picture}
+use Rattle.vt_kinds.specs.Records.{Seen}
+use Rattle.vt_raster.specs.declared.run.Run.{Run}
+use Rattle.vt_raster.specs.Formats.{format_of}
+use Rattle.vt_raster.specs.Rasters.{IsRaster}
+use Rattle.vt_stores.specs.Stores.{ObjectMap}
+use Rattle.vt_svg.specs.declared.attribute.Attribute.{Attribute}
+use Rattle.vt_svg.specs.declared.attribute.Attribute.TheVariants as attributes
+use Rattle.vt_svg.specs.declared.attribute.Flag.TheVariants as flags
+use Rattle.vt_svg.specs.declared.attribute.Paint.TheVariants as paints
+use Rattle.vt_svg.specs.declared.element.Element.TheVariants as elements
+use Rattle.vt_svg.specs.Elements.{closed, emptied, opened}
+use Rattle.vt_images.specs.Strokes.{with_pixels}
+
+abbrev pub symbol_attributes : ℕ → Picture (List ℕ) → List Attribute
+symbol_attributes id p =
+    attributes.PictureId id ∷ attributes.Coordinates (2 * p.actual_width) (2 * p.actual_height) ∷ attributes.Flag flags.StretchedPicture
+    ∷ attributes.Flag flags.Crisp ∷ attributes.Fill paints.None ∷ attributes.StrokeWidth 2 ∷ []
+
+-- a text with a picture of the pixels of runs behind it, to be shown elsewhere
+abbrev pub with_symbol : ℕ → Picture (List ℕ) → List Run → List ℕ → List ℕ
+with_symbol id p runs text =
+    with_pixels p (format_of p.format) (text ++ opened elements.Symbol (symbol_attributes id p)) runs ++ closed elements.Symbol
+
+-- as wide and high as its image, in tenths of a pixel
+abbrev pub tile_attributes : ℕ → Picture (List ℕ) → List Attribute
+tile_attributes id p =
+    attributes.PatternId id ∷ attributes.Flag flags.PatternInPixels ∷ attributes.Width (10 * p.actual_width) ∷ attributes.Height (10 * p.actual_height) ∷ []
+
+-- the picture as a pattern for fillings
+abbrev pub tile : ℕ → Picture (List ℕ) → List ℕ
+tile id p =
+    opened elements.Pattern (tile_attributes id p)
+    ++ (emptied elements.Use (attributes.PictureShown id ∷ attributes.Width (10 * p.actual_width) ∷ attributes.Height (10 * p.actual_height) ∷ [])
+    ++ closed elements.Pattern)
+
+-- A Picture is behind a text, with its pixels and as a pattern. For another object the text stays.
+abbrev pub AppendsImage : ℕ → Option Seen → List ℕ → List ℕ → Type 0
+AppendsImage id (Some (objects.Picture p)) old new = (runs : List Run) × IsRaster p runs × (new ≡ with_symbol id p runs old ++ tile id p)
+AppendsImage id _ old new = new ≡ old
+
+-- the pictures of some IDs are behind a text, one after another
+abbrev pub AppendsImages : ObjectMap → List ℕ → List ℕ → List ℕ → Type 0
+AppendsImages store [] old new = new ≡ old
+AppendsImages store (id ∷ ids) old new = (next : List ℕ) × AppendsImage id (finite.get store id) old next × AppendsImages store ids next new

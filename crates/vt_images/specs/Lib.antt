@@ -1,0 +1,3 @@
+-- The definitions used in the contracts of vt_images.
+pub mod Images
+pub mod Strokes
