@@ -1,5 +1,5 @@
 -- Picture objects, each written once (docs/PROFILE.md, "Picture objects").
-use Rattle.std.specs.Prelude.{◌≡◌, ℕ, ◌*◌, List, [], ◌∷◌, ◌++◌, Option, Some}
+use Rattle.std.specs.Prelude.{◌≡◌, ℕ, ◌*◌, List, [], ◌∷◌, ◌++◌, Option, Some, None}
 use Rattle.std.specs.FinMap as finite
 use Rattle.vt_kinds.specs.declared.object.Object.TheVariants as objects
 use Rattle.vt_kinds.specs.declared.pictures.Picture.{Picture}
@@ -38,12 +38,19 @@ tile id p =
     ++ (emptied elements.Use (attributes.PictureShown id ∷ attributes.Width (10 * p.actual_width) ∷ attributes.Height (10 * p.actual_height) ∷ [])
     ++ closed elements.Pattern)
 
--- A Picture is behind a text, with its pixels and as a pattern. For another object the text stays.
-abbrev pub AppendsImage : ℕ → Option Seen → List ℕ → List ℕ → Type 0
-AppendsImage id (Some (objects.Picture p)) old new = (runs : List Run) × IsRaster p runs × (new ≡ with_symbol id p runs old ++ tile id p)
-AppendsImage id _ old new = new ≡ old
+-- ---- as text behind another
+
+abbrev pub picture_in : Option Seen → Option (Picture (List ℕ))
+picture_in (Some (objects.Picture p)) = Some p
+picture_in _ = None
+
+-- A Picture is behind a text, with its pixels and as a pattern. Without one the text stays.
+abbrev pub AppendsImage : ℕ → Option (Picture (List ℕ)) → List ℕ → List ℕ → Type 0
+AppendsImage id None old new = new ≡ old
+AppendsImage id (Some p) old new = (runs : List Run) × IsRaster p runs × (new ≡ with_symbol id p runs old ++ tile id p)
 
 -- the pictures of some IDs are behind a text, one after another
 abbrev pub AppendsImages : ObjectMap → List ℕ → List ℕ → List ℕ → Type 0
 AppendsImages store [] old new = new ≡ old
-AppendsImages store (id ∷ ids) old new = (next : List ℕ) × AppendsImage id (finite.get store id) old next × AppendsImages store ids next new
+AppendsImages store (id ∷ ids) old new =
+    (next : List ℕ) × AppendsImage id (picture_in (finite.get store id)) old next × AppendsImages store ids next new

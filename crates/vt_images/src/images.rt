@@ -3,7 +3,7 @@
 ghost use Rattle.std.specs.Prelude.{◌≡◌, ◌*◌, ◌++◌, OnOk};
 ghost use Rattle.std.specs.FinMap as finite;
 ghost use Rattle.vt_kinds.specs.Records.{seen_picture};
-ghost use Rattle.vt_images.specs.Images.{AppendsImage, AppendsImages, tile, with_symbol};
+ghost use Rattle.vt_images.specs.Images.{AppendsImage, AppendsImages, picture_in, tile, with_symbol};
 
 use crate::strokes::draw_pixels;
 use std::alloc::{AllocError, Global};
@@ -37,7 +37,7 @@ fn draw_image<S: Store>(
     store: &S,
     id: ObjectId,
 ) -> Result<(), AllocError>
-    ensures { OnOk result (AppendsImage id (finite.get (S.contents store.now) id) text.old.items text.new.items) }
+    ensures { OnOk result (AppendsImage id (picture_in (finite.get (S.contents store.now) id)) text.old.items text.new.items) }
 {
     let Some(Object::Picture(picture)) = store.get(id) else {
         return Ok(());
