@@ -1,4 +1,4 @@
--- Marks drawn one after the other.
+-- Marks walked through one after the other.
 use Rattle.std.proofs.Common.{◌≡◌, ℕ, zero, suc, ◌+◌, ◌-◌, ◌<◌, ◌≤◌, Bool, true, false, cond, List, [], ◌∷◌, ◌++◌, drop, length, get_or, Option, Some, None, refl, sym, ap, ap₂, ◌∙◌, arith}
 use Rattle.std.proofs.lemmas.List.{append_assoc, append-nil, at_drop_more, at_drop_all}
 use Rattle.std.specs.FinMap as finite
@@ -7,16 +7,15 @@ use Rattle.vt_kinds.specs.Records.{Seen}
 use Rattle.vt_stores.specs.Stores.{ObjectMap}
 use Rattle.vt_shown.specs.ShownElements.{resolves_to, is_element}
 use Rattle.vt_layout.specs.Drawings.{entries_in}
-use Rattle.vt_needs.specs.declared.sizes.Sizes.{Sizes}
-use Rattle.vt_svg.specs.Elements.{closed}
-use Rattle.vt_svg.specs.declared.element.Element.TheVariants as elements
-use Rattle.vt_picture.specs.declared.canvas.Canvas.{Canvas}
+use Rattle.vt_picture.specs.declared.walk.Step.{Step}
+use Rattle.vt_picture.specs.declared.walk.Step.TheVariants.{Begin, End}
+use Rattle.vt_picture.specs.declared.walk.Walk.{Walk}
 use Rattle.vt_picture.specs.Marks.{Marks, Nothing, Mark, marked, each_marked, marks, count, cut}
-use Rattle.vt_picture.specs.Pictures.{begun, marks_text, Draws}
+use Rattle.vt_picture.specs.Steps.{steps_of, Walks}
 
--- what is left to draw, and what all of it comes to
-pub record IsDrawing (sizes : Sizes) (store : ObjectMap) (rest all : Marks) (old now : Canvas) : Type 0 where
-  pub text : now.text.items ++ marks_text sizes store (cut now.left rest) ≡ old.text.items ++ marks_text sizes store (cut old.left all)
+-- what is left of a walk, and what all of it comes to
+pub record IsWalking (rest all : Marks) (old now : Walk) : Type 0 where
+  pub steps : now.steps.items ++ steps_of (cut now.left rest) ≡ old.steps.items ++ steps_of (cut old.left all)
   pub left : now.left - count (cut now.left rest) ≡ old.left - count (cut old.left all)
 
 -- ---- cut marks
@@ -50,44 +49,41 @@ unfolding marks
 no_entries zero store = refl
 no_entries (suc depth) store = refl
 
-module _ (sizes : Sizes) (store : ObjectMap) where
-  text : Marks → List ℕ
-  text m = marks_text sizes store m
+module _ (store : ObjectMap) where
+  -- ---- marks without steps
 
-  -- ---- marks that are not drawn
-
-  pub drawn_nothing : (m : Marks) (c : Canvas) → m ≡ Nothing → Draws sizes store m c c
+  pub walked_nothing : (m : Marks) (c : Walk) → m ≡ Nothing → Walks m c c
   unfolding cut
-  drawn_nothing m c is = record {
-    text = sym (append-nil c.text.items) ∙ ap (λ m. c.text.items ++ marks_text sizes store (cut c.left m)) (sym is);
+  walked_nothing m c is = record {
+    steps = sym (append-nil c.steps.items) ∙ ap (λ m. c.steps.items ++ steps_of (cut c.left m)) (sym is);
     left = let none : count (cut c.left m) ≡ 0 = ap (λ m. count (cut c.left m)) is in omega arith;
   }
 
-  pub full : (m : Marks) (c : Canvas) → c.left ≡ 0 → Draws sizes store m c c
+  pub full : (m : Marks) (c : Walk) → c.left ≡ 0 → Walks m c c
   full m c none =
       let nothing : cut c.left m ≡ Nothing = ap (λ n. cut n m) none ∙ cut_none m in record {
-        text = sym (append-nil c.text.items) ∙ ap (λ m. c.text.items ++ marks_text sizes store m) (sym nothing);
+        steps = sym (append-nil c.steps.items) ∙ ap (λ m. c.steps.items ++ steps_of m) (sym nothing);
         left = let zero_count : count (cut c.left m) ≡ 0 = ap count nothing in omega arith;
       }
 
   -- ---- an element around others
 
-  around_case : (n : ℕ) (entry : Child) (inside : Marks) (before begun' with_inside after : List ℕ) (left : ℕ)
-      → 0 < n → begun' ≡ before ++ begun sizes store entry (finite.get store entry.id)
-      → with_inside ≡ begun' ++ marks_text sizes store (cut (n - 1) inside) → left ≡ (n - 1) - count (cut (n - 1) inside)
-      → after ≡ with_inside ++ closed elements.Svg
-      → (after ≡ before ++ marks_text sizes store (cut n (Mark entry inside Nothing))) × (left ≡ n - count (cut n (Mark entry inside Nothing)))
+  around_case : (n : ℕ) (entry : Child) (inside : Marks) (before begun with_inside after : List Step) (left : ℕ)
+      → 0 < n → begun ≡ before ++ Begin entry ∷ []
+      → with_inside ≡ begun ++ steps_of (cut (n - 1) inside) → left ≡ (n - 1) - count (cut (n - 1) inside)
+      → after ≡ with_inside ++ End ∷ []
+      → (after ≡ before ++ steps_of (cut n (Mark entry inside Nothing))) × (left ≡ n - count (cut n (Mark entry inside Nothing)))
   unfolding cut
-  around_case zero entry inside before begun' with_inside after left some first second third fourth = absurd (let never : 0 < 0 = some in omega (arith, never))
-  around_case (suc n) entry inside before begun' with_inside after left some first second third fourth =
+  around_case zero entry inside before begun with_inside after left some first second third fourth = absurd (let never : 0 < 0 = some in omega (arith, never))
+  around_case (suc n) entry inside before begun with_inside after left some first second third fourth =
       let less : suc n - 1 ≡ n = omega arith in
-      let head = begun sizes store entry (finite.get store entry.id) in
-      let body : ℕ → List ℕ = λ k. marks_text sizes store (cut k inside) in (
+      let head : List Step = Begin entry ∷ [] in
+      let last : List Step = End ∷ [] in
+      let body : ℕ → List Step = λ k. steps_of (cut k inside) in (
         fourth
-            ∙ ap (λ l. l ++ closed elements.Svg) (second ∙ ap₂ (λ a b. a ++ b) first (ap body less))
-            ∙ ap (λ l. l ++ closed elements.Svg) (append_assoc before head (body n))
-            ∙ append_assoc before (head ++ body n) (closed elements.Svg)
-            ∙ ap (λ l. before ++ l) (append_assoc head (body n) (closed elements.Svg) ∙ ap (λ l. head ++ (body n ++ l)) (sym (append-nil (closed elements.Svg)))),
+            ∙ ap (λ l. l ++ last) (second ∙ ap₂ (λ a b. a ++ b) first (ap body less))
+            ∙ ap (λ l. l ++ last) (append_assoc before head (body n))
+            ∙ append_assoc before (head ++ body n) last,
         third ∙ (let same : count (cut (suc n - 1) inside) ≡ count (cut n inside) = ap (λ k. count (cut k inside)) less in omega (arith, same, less)),
       )
 
@@ -95,38 +91,33 @@ module _ (sizes : Sizes) (store : ObjectMap) where
 
   -- a mark, and then others
   then_later : (n : ℕ) (entry : Child) (inside later : Marks)
-      → (marks_text sizes store (cut n (Mark entry inside later))
-      ≡ marks_text sizes store (cut n (Mark entry inside Nothing)) ++ marks_text sizes store (cut (n - count (cut n (Mark entry inside Nothing))) later))
+      → (steps_of (cut n (Mark entry inside later))
+      ≡ steps_of (cut n (Mark entry inside Nothing)) ++ steps_of (cut (n - count (cut n (Mark entry inside Nothing))) later))
       × (count (cut n (Mark entry inside later))
       ≡ count (cut n (Mark entry inside Nothing)) + count (cut (n - count (cut n (Mark entry inside Nothing))) later))
   unfolding cut
   then_later zero entry inside later = (
-    ap (λ m. marks_text sizes store m) (sym (cut_none later)),
+    ap steps_of (sym (cut_none later)),
     (let none : count (cut 0 later) ≡ 0 = ap count (cut_none later) in omega (arith, none)),
   )
   then_later (suc n) entry inside later =
-      let head = begun sizes store entry (finite.get store entry.id) in
       let i = cut n inside in
       let same : suc n - suc (count i + 0) ≡ n - count i = omega arith in
-      let rest : ℕ → List ℕ = λ k. marks_text sizes store (cut k later) in (
-        ap (λ k. head ++ (marks_text sizes store i ++ (closed elements.Svg ++ rest k))) (sym same)
-            ∙ sym (
-            append_assoc head (marks_text sizes store i ++ (closed elements.Svg ++ [])) (rest (suc n - suc (count i + 0)))
-            ∙ ap (λ l. head ++ l) (append_assoc (marks_text sizes store i) (closed elements.Svg ++ []) (rest (suc n - suc (count i + 0))))
-            ∙ ap (λ l. head ++ (marks_text sizes store i ++ (l ++ rest (suc n - suc (count i + 0))))) (append-nil (closed elements.Svg))
-            ),
+      let rest : ℕ → List Step = λ k. steps_of (cut k later) in (
+        ap (λ k. Begin entry ∷ (steps_of i ++ End ∷ rest k)) (sym same)
+            ∙ ap (λ l. Begin entry ∷ l) (sym (append_assoc (steps_of i) (End ∷ []) (rest (suc n - suc (count i + 0))))),
         (let counts : count (cut (n - count i) later) ≡ count (cut (suc n - suc (count i + 0)) later) = ap (λ k. count (cut k later)) (sym same) in omega (arith, counts)),
       )
 
   -- a part, and then the rest
   record IsFollowed (first rest both : Marks) : Type 0 where
-    pub text_is : (n : ℕ) → marks_text sizes store (cut n both) ≡ marks_text sizes store (cut n first) ++ marks_text sizes store (cut (n - count (cut n first)) rest)
+    pub steps_is : (n : ℕ) → steps_of (cut n both) ≡ steps_of (cut n first) ++ steps_of (cut (n - count (cut n first)) rest)
     pub count_is : (n : ℕ) → count (cut n both) ≡ count (cut n first) + count (cut (n - count (cut n first)) rest)
 
   nothing_first : (rest : Marks) → IsFollowed Nothing rest rest
   unfolding cut
   nothing_first rest = record {
-    text_is = λ n. let same : n - 0 ≡ n = omega arith in ap (λ k. marks_text sizes store (cut k rest)) (sym same);
+    steps_is = λ n. let same : n - 0 ≡ n = omega arith in ap (λ k. steps_of (cut k rest)) (sym same);
     count_is = λ n.
         let same : n - 0 ≡ n = omega arith in
         let counts : count (cut (n - 0) rest) ≡ count (cut n rest) = ap (λ k. count (cut k rest)) same in
@@ -143,36 +134,36 @@ module _ (sizes : Sizes) (store : ObjectMap) where
 
       at : (b : Bool) → IsFollowed (cond b (mark Nothing) Nothing) rest (cond b (mark rest) rest)
       at true = record {
-        text_is = λ n. (then_later n (record { id = id; x = entry.x; y = entry.y }) (within (entries_in store (finite.get store id))) rest).0;
+        steps_is = λ n. (then_later n (record { id = id; x = entry.x; y = entry.y }) (within (entries_in store (finite.get store id))) rest).0;
         count_is = λ n. (then_later n (record { id = id; x = entry.x; y = entry.y }) (within (entries_in store (finite.get store id))) rest).1;
       }
       at false = nothing_first rest
 
-  pub drawing_begins : (rest all : Marks) (c : Canvas) → all ≡ rest → IsDrawing sizes store rest all c c
-  drawing_begins rest all c same = record {
-    text = ap (λ m. c.text.items ++ marks_text sizes store (cut c.left m)) (sym same);
+  pub walk_begins : (rest all : Marks) (c : Walk) → all ≡ rest → IsWalking rest all c c
+  walk_begins rest all c same = record {
+    steps = ap (λ m. c.steps.items ++ steps_of (cut c.left m)) (sym same);
     left = ap (λ m. c.left - count (cut c.left m)) (sym same);
   }
 
-  pub next_drawn : (within : List Child → Marks) (entries : List Child) (i : ℕ) (entry default : Child) (all : Marks) (old now next : Canvas) → i < length entries
-      → get_or entries i default ≡ entry → IsDrawing sizes store (each_marked store within (drop i entries)) all old now
-      → Draws sizes store (marked store within entry (resolves_to store entry.id) Nothing) now next
-      → IsDrawing sizes store (each_marked store within (drop (i + 1) entries)) all old next
-  next_drawn within entries i entry default all old now next lt is so_far drawn =
+  pub next_walked : (within : List Child → Marks) (entries : List Child) (i : ℕ) (entry default : Child) (all : Marks) (old now next : Walk) → i < length entries
+      → get_or entries i default ≡ entry → IsWalking (each_marked store within (drop i entries)) all old now
+      → Walks (marked store within entry (resolves_to store entry.id) Nothing) now next
+      → IsWalking (each_marked store within (drop (i + 1) entries)) all old next
+  next_walked within entries i entry default all old now next lt is so_far walked =
       let rest = each_marked store within (drop (i + 1) entries) in
       let first = marked store within entry (resolves_to store entry.id) Nothing in
       let both = marked store within entry (resolves_to store entry.id) rest in
       let split : each_marked store within (drop i entries) ≡ both =
       at_drop_more (each_marked store within) entries i default lt ∙ ap (λ (e : Child). each_marked store within (e ∷ drop (i + 1) entries)) is in
       let followed = marked_first within entry (resolves_to store entry.id) rest in
-      let left : next.left ≡ now.left - count (cut now.left first) = drawn.left in
+      let left : next.left ≡ now.left - count (cut now.left first) = walked.left in
       record {
-        text =
-            ap₂ (λ (a : List ℕ) (k : ℕ). a ++ marks_text sizes store (cut k rest)) drawn.text left
-            ∙ append_assoc now.text.items (marks_text sizes store (cut now.left first)) (marks_text sizes store (cut (now.left - count (cut now.left first)) rest))
-            ∙ ap (λ l. now.text.items ++ l) (sym (followed.text_is now.left))
-            ∙ ap (λ m. now.text.items ++ marks_text sizes store (cut now.left m)) (sym split)
-            ∙ so_far.text;
+        steps =
+            ap₂ (λ (a : List Step) (k : ℕ). a ++ steps_of (cut k rest)) walked.steps left
+            ∙ append_assoc now.steps.items (steps_of (cut now.left first)) (steps_of (cut (now.left - count (cut now.left first)) rest))
+            ∙ ap (λ l. now.steps.items ++ l) (sym (followed.steps_is now.left))
+            ∙ ap (λ m. now.steps.items ++ steps_of (cut now.left m)) (sym split)
+            ∙ so_far.steps;
         left =
             ap (λ k. k - count (cut k rest)) left
             ∙ (let counts = followed.count_is now.left in
@@ -181,13 +172,13 @@ module _ (sizes : Sizes) (store : ObjectMap) where
             ∙ so_far.left;
       }
 
-  pub drawing_ends : (within : List Child → Marks) (entries : List Child) (i : ℕ) (all : Marks) (old now : Canvas) → length entries ≤ i
-      → IsDrawing sizes store (each_marked store within (drop i entries)) all old now → Draws sizes store all old now
+  pub walk_ends : (within : List Child → Marks) (entries : List Child) (i : ℕ) (all : Marks) (old now : Walk) → length entries ≤ i
+      → IsWalking (each_marked store within (drop i entries)) all old now → Walks all old now
   unfolding cut
-  drawing_ends within entries i all old now past so_far =
+  walk_ends within entries i all old now past so_far =
       let none : each_marked store within (drop i entries) ≡ Nothing = at_drop_all (each_marked store within) entries i past in
       record {
-        text = sym (append-nil now.text.items) ∙ ap (λ m. now.text.items ++ marks_text sizes store (cut now.left m)) (sym none) ∙ so_far.text;
+        steps = sym (append-nil now.steps.items) ∙ ap (λ m. now.steps.items ++ steps_of (cut now.left m)) (sym none) ∙ so_far.steps;
         left = (let nothing : count (cut now.left (each_marked store within (drop i entries))) ≡ 0 = ap (λ m. count (cut now.left m)) none in
             let same : now.left ≡ now.left - count (cut now.left (each_marked store within (drop i entries))) = omega (arith, nothing) in same)
             ∙ so_far.left;
@@ -211,10 +202,10 @@ module _ (sizes : Sizes) (store : ObjectMap) where
       ∙ ap (λ o. cond (is_element o) (mark o) Nothing) there
       ∙ ap (λ b. cond b (mark object) Nothing) is
 
-  pub around : (entry : Child) (inside : Marks) (before after : Canvas) (begun' with_inside : List ℕ) → (before.left ≡ 0 → ⊥)
-      → begun' ≡ before.text.items ++ begun sizes store entry (finite.get store entry.id)
-      → with_inside ≡ begun' ++ marks_text sizes store (cut (before.left - 1) inside) → after.left ≡ (before.left - 1) - count (cut (before.left - 1) inside)
-      → after.text.items ≡ with_inside ++ closed elements.Svg → Draws sizes store (Mark entry inside Nothing) before after
-  around entry inside before after begun' with_inside some first second third fourth =
-      let both = around_case before.left entry inside before.text.items begun' with_inside after.text.items after.left (omega (arith, some)) first second third fourth in
-      record { text = both.0; left = both.1 }
+  pub around : (entry : Child) (inside : Marks) (before after : Walk) (begun with_inside : List Step) → (before.left ≡ 0 → ⊥)
+      → begun ≡ before.steps.items ++ Begin entry ∷ []
+      → with_inside ≡ begun ++ steps_of (cut (before.left - 1) inside) → after.left ≡ (before.left - 1) - count (cut (before.left - 1) inside)
+      → after.steps.items ≡ with_inside ++ End ∷ [] → Walks (Mark entry inside Nothing) before after
+  around entry inside before after begun with_inside some first second third fourth =
+      let both = around_case before.left entry inside before.steps.items begun with_inside after.steps.items after.left (omega (arith, some)) first second third fourth in
+      record { steps = both.0; left = both.1 }

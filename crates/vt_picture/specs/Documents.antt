@@ -16,9 +16,11 @@ use Rattle.vt_svg.specs.declared.attribute.Paint.{Paint}
 use Rattle.vt_svg.specs.declared.attribute.Paint.TheVariants as paints
 use Rattle.vt_svg.specs.declared.element.Element.TheVariants as elements
 use Rattle.vt_svg.specs.Elements.{closed, emptied, opened}
-use Rattle.vt_picture.specs.declared.canvas.Canvas.{Canvas}
+use Rattle.vt_images.specs.Images.{AppendsImages}
+use Rattle.vt_picture.specs.declared.walk.Step.{Step}
 use Rattle.vt_picture.specs.Marks.{Marks, marks, cut, count}
-use Rattle.vt_picture.specs.Pictures.{marks_text}
+use Rattle.vt_picture.specs.Pictures.{with_pictures, with_steps}
+use Rattle.vt_picture.specs.Steps.{steps_of}
 
 -- the most elements of a picture
 abbrev pub most_marks : ℕ
@@ -74,9 +76,9 @@ beginning sizes keys paint =
     opened elements.Svg (picture_attributes sizes keys)
     ++ emptied elements.Rect (attributes.Width sizes.mask.width ∷ attributes.Height sizes.mask.height ∷ attributes.Fill paint ∷ [])
 
--- the elements within an area
-abbrev pub framed : List Attribute → Sizes → ObjectMap → Marks → List ℕ
-framed area sizes store m = opened elements.Svg area ++ (marks_text sizes store m ++ closed elements.Svg)
+-- a text with elements within an area behind it
+abbrev pub with_area : Sizes → ObjectMap → List Attribute → List Step → List ℕ → List ℕ
+with_area sizes store area steps text = with_steps sizes store (text ++ opened elements.Svg area) steps ++ closed elements.Svg
 
 abbrev pub mask_area : Sizes → List Attribute
 mask_area sizes = attributes.Width sizes.mask.width ∷ attributes.Height sizes.mask.height ∷ []
@@ -92,14 +94,25 @@ abbrev pub key_marks : Sizes → ObjectMap → ℕ → Marks
 key_marks sizes store mask =
     cut (most_marks - count (mask_marks store mask)) (marks terminal.inclusions store (key_places sizes 0 (soft_keys store mask)))
 
--- the mask on its background, and its keys beside it
-abbrev pub picture : Sizes → ObjectMap → ℕ → List ℕ
-picture sizes store mask =
-    beginning sizes (length (soft_keys store mask)) (background (finite.get store mask))
-    ++ (framed (mask_area sizes) sizes store (mask_marks store mask)
-    ++ (framed (keys_area sizes) sizes store (key_marks sizes store mask) ++ closed elements.Svg))
+abbrev pub mask_steps : ObjectMap → ℕ → List Step
+mask_steps store mask = steps_of (mask_marks store mask)
 
--- the marks that fit are drawn in an area
-pub record DrawsFramed (area : List Attribute) (sizes : Sizes) (store : ObjectMap) (m : Marks) (old new : Canvas) : Type 0 where
-  pub text : new.text.items ≡ old.text.items ++ framed area sizes store (cut old.left m)
-  pub left : new.left ≡ old.left - count (cut old.left m)
+abbrev pub key_steps : Sizes → ObjectMap → ℕ → List Step
+key_steps sizes store mask = steps_of (key_marks sizes store mask)
+
+-- the mask on its background, and its keys beside it
+abbrev pub mask_and_keys : Sizes → ObjectMap → ℕ → List ℕ
+mask_and_keys sizes store mask =
+    with_area sizes store (keys_area sizes) (key_steps sizes store mask)
+    (with_area sizes store (mask_area sizes) (mask_steps store mask)
+    (beginning sizes (length (soft_keys store mask)) (background (finite.get store mask))))
+
+-- the pictures that are shown, each once
+abbrev pub pictures : Sizes → ObjectMap → ℕ → List ℕ
+pictures sizes store mask = with_pictures store (with_pictures store [] (mask_steps store mask)) (key_steps sizes store mask)
+
+-- the mask and its keys, and the pictures to which their elements refer
+pub record IsPicture (sizes : Sizes) (store : ObjectMap) (mask : ℕ) (text : List ℕ) : Type 0 where
+  pub all : List ℕ
+  pub images : AppendsImages store (pictures sizes store mask) (mask_and_keys sizes store mask) all
+  pub whole : text ≡ all ++ closed elements.Svg

@@ -1,5 +1,5 @@
--- The text of a picture.
-use Rattle.std.specs.Prelude.{◌≡◌, ℕ, ◌-◌, ◌*◌, max, List, [], ◌∷◌, ◌++◌, Option, Some, None}
+-- Elements as text, and the pictures to which they refer.
+use Rattle.std.specs.Prelude.{ℕ, ◌*◌, max, Bool, nat_le, ◌==◌, ◌||◌, false, if◌then◌else◌, List, [], ◌∷◌, ◌++◌, length, Option, Some, None}
 use Rattle.std.specs.FinMap as finite
 use Rattle.vt_kinds.specs.declared.entries.Child.{Child}
 use Rattle.vt_kinds.specs.Records.{Seen}
@@ -12,10 +12,13 @@ use Rattle.vt_svg.specs.declared.element.Element.TheVariants as elements
 use Rattle.vt_svg.specs.Elements.{opened, closed, text_of}
 use Rattle.vt_picture.specs.declared.frame.Frame.{Frame}
 use Rattle.vt_picture.specs.declared.frame.Frame.TheVariants as frames
-use Rattle.vt_picture.specs.declared.canvas.Canvas.{Canvas}
+use Rattle.vt_picture.specs.declared.walk.Step.{Step}
+use Rattle.vt_picture.specs.declared.walk.Step.TheVariants.{Begin, End}
 use Rattle.vt_picture.specs.Frames.{frame_of}
-use Rattle.vt_picture.specs.Marks.{Marks, Nothing, Mark, cut, count}
 use Rattle.vt_shapes.specs.Shapes.{shapes}
+use Rattle.vt_shapes.specs.UsedPictures.{used_picture}
+
+-- ---- elements
 
 -- the size of an element; a fine one has coordinates in tenths of a pixel, and at least one pixel, without which nothing is shown
 abbrev pub sized : Frame → List Attribute
@@ -29,19 +32,52 @@ sized (frames.Fine area) =
 abbrev pub placed : Child → Frame → List Attribute
 placed entry frame = attributes.ObjectId entry.id ∷ attributes.X entry.x ∷ attributes.Y entry.y ∷ sized frame
 
--- the beginning of an element: its tag, and its own shapes
-abbrev pub begun : Sizes → ObjectMap → Child → Option Seen → List ℕ
-begun sizes store entry None = []
-begun sizes store entry (Some object) = opened elements.Svg (placed entry (frame_of sizes object)) ++ text_of (shapes sizes store object)
+-- the most bytes of a text behind which the shapes of another element are appended
+abbrev pub most_bytes : ℕ
+most_bytes = 8000000
 
--- each element is closed behind those within it
-abbrev pub marks_text : Sizes → ObjectMap → Marks → List ℕ
-marks_text sizes store Nothing = []
-marks_text sizes store (Mark entry inside later) =
-    begun sizes store entry (finite.get store entry.id)
-    ++ (marks_text sizes store inside ++ (closed elements.Svg ++ marks_text sizes store later))
+abbrev pub shapes_if : Bool → Sizes → ObjectMap → ℕ → Seen → List ℕ
+shapes_if has_room sizes store id object = if has_room then text_of (shapes sizes store id object) else []
 
--- the marks that fit are drawn
-pub record Draws (sizes : Sizes) (store : ObjectMap) (marks : Marks) (old new : Canvas) : Type 0 where
-  pub text : new.text.items ≡ old.text.items ++ marks_text sizes store (cut old.left marks)
-  pub left : new.left ≡ old.left - count (cut old.left marks)
+-- the beginning of an element: its tag, and its own shapes if there is room for them
+abbrev pub begun : Bool → Sizes → ObjectMap → Child → Option Seen → List ℕ
+begun has_room sizes store entry None = opened elements.Svg []
+begun has_room sizes store entry (Some object) =
+    opened elements.Svg (placed entry (frame_of sizes object)) ++ shapes_if has_room sizes store entry.id object
+
+abbrev pub step_text : Bool → Sizes → ObjectMap → Step → List ℕ
+step_text has_room sizes store (Begin entry) = begun has_room sizes store entry (finite.get store entry.id)
+step_text has_room sizes store End = closed elements.Svg
+
+-- a text with a step behind it
+abbrev pub with_step : Sizes → ObjectMap → List ℕ → Step → List ℕ
+with_step sizes store text step = text ++ step_text (nat_le (length text) most_bytes) sizes store step
+
+abbrev pub with_steps : Sizes → ObjectMap → List ℕ → List Step → List ℕ
+with_steps sizes store text [] = text
+with_steps sizes store text (step ∷ steps) = with_steps sizes store (with_step sizes store text step) steps
+
+-- ---- pictures
+
+-- the picture to which the element of an ID refers
+abbrev pub picture_of : ObjectMap → ℕ → Option Seen → Option ℕ
+picture_of store id None = None
+picture_of store id (Some object) = used_picture store id object
+
+abbrev pub is_in : ℕ → List ℕ → Bool
+is_in id [] = false
+is_in id (other ∷ ids) = id == other || is_in id ids
+
+-- IDs with another behind them, unless it is one of them
+abbrev pub with_id : List ℕ → Option ℕ → List ℕ
+with_id ids None = ids
+with_id ids (Some id) = if is_in id ids then ids else ids ++ id ∷ []
+
+abbrev pub with_picture : ObjectMap → List ℕ → Step → List ℕ
+with_picture store ids (Begin entry) = with_id ids (picture_of store entry.id (finite.get store entry.id))
+with_picture store ids End = ids
+
+-- the pictures to which steps refer, behind others
+abbrev pub with_pictures : ObjectMap → List ℕ → List Step → List ℕ
+with_pictures store ids [] = ids
+with_pictures store ids (step ∷ steps) = with_pictures store (with_picture store ids step) steps

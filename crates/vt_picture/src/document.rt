@@ -8,13 +8,14 @@ ghost use Rattle.vt_svg.specs.declared.element.Element.TheVariants.{Rect, Svg};
 ghost use Rattle.vt_svg.specs.Elements.{emptied, opened};
 ghost use Rattle.vt_layout.specs.Drawings.{mask_entries};
 ghost use Rattle.vt_picture.specs.Documents as documents;
-ghost use Rattle.vt_picture.specs.Marks.{marks};
-ghost use Rattle.vt_picture.specs.Pictures.{Draws};
+ghost use Rattle.vt_picture.specs.Marks.{count, cut, marks};
+ghost use Rattle.vt_picture.specs.Steps.{steps_of, Walks};
 
-use crate::canvas::Canvas;
-use crate::walk::{draw_entries, draw_within};
+use crate::elements::{add_pictures, draw_steps};
+use crate::walk::{Step, Walk, walk_entries, walk_within};
 use std::alloc::{AllocError, Global};
 use vt_chains::TERMINAL_LIMITS;
+use vt_images::draw_images;
 use vt_needs::Sizes;
 use vt_objects::{Child, Object, ObjectId, Store};
 use vt_shown::soft_key_mask;
@@ -33,7 +34,7 @@ const GAP: u64 = 8;
 const FARTHEST: u64 = 32_767;
 
 /// Draws a mask with its soft keys as SVG: its elements on its background, and the keys in columns to its right, at most 2,000
-/// elements in all. Without a mask the picture is empty (ISO 11783-6; docs/PROFILE.md, "Pictures").
+/// elements in all, and at most some 13 MB. Without a mask the picture is empty (ISO 11783-6; docs/PROFILE.md, "Pictures").
 ///
 /// # Errors
 /// `AllocError` when an allocation is refused.
@@ -43,21 +44,62 @@ pub fn draw<S: Store>(
     sizes: Sizes,
     mask: ObjectId,
 ) -> Result<Vec<u8>, AllocError>
-    ensures { IfOk result (λ text. text.items ≡ documents.picture sizes (S.contents store.now) mask) }
+    ensures { IfOk result (λ text. documents.IsPicture sizes (S.contents store.now) mask text.items) }
 {
     let keys = soft_keys(store, mask);
     let places = key_places(alloc, sizes, keys)?;
-    let mut canvas = Canvas {
-        text: Vec::new(alloc),
+    let in_mask = walk_mask(alloc, store, mask)?;
+    let in_keys = walk_keys(alloc, store, places.as_slice(), in_mask.left)?;
+    let mut text = Vec::new(alloc);
+    begin_picture(&mut text, sizes, keys.len(), background(store, mask))?;
+    draw_mask(&mut text, store, sizes, in_mask.steps.as_slice())?;
+    draw_keys(&mut text, store, sizes, in_keys.steps.as_slice())?;
+    let mut pictures = Vec::new(alloc);
+    add_pictures(&mut pictures, store, in_mask.steps.as_slice())?;
+    add_pictures(&mut pictures, store, in_keys.steps.as_slice())?;
+    draw_images(alloc, &mut text, store, pictures.as_slice())?;
+    close(&mut text, Element::Svg)?;
+    Ok(text)
+}
+
+/// Walks through the elements within a mask.
+fn walk_mask<S: Store>(alloc: Global, store: &S, mask: ObjectId) -> Result<Walk, AllocError>
+    ensures steps { IfOk result (λ walk. walk.steps.items ≡ documents.mask_steps (S.contents store.now) mask) }
+    ensures left { IfOk result (λ walk. walk.left ≡ documents.most_marks - count (documents.mask_marks (S.contents store.now) mask)) }
+{
+    let mut walk = Walk {
+        steps: Vec::new(alloc),
         left: MOST_ELEMENTS,
     };
-    let paint = background(store, mask);
-    begin_picture(&mut canvas.text, sizes, keys.len(), paint)?;
-    draw_mask(store, sizes, mask, &mut canvas)?;
-    draw_keys(store, sizes, places.as_slice(), &mut canvas)?;
-    close(&mut canvas.text, Element::Svg)?;
-    let Canvas { text, left: _ } = canvas;
-    Ok(text)
+    walk_inside(store, mask, &mut walk)?;
+    Ok(walk)
+}
+
+/// Walks through the elements within a mask. Without a mask there are none.
+fn walk_inside<S: Store>(store: &S, mask: ObjectId, walk: &mut Walk) -> Result<(), AllocError>
+    ensures { OnOk result (Walks (marks 32 (S.contents store.now) (mask_entries (S.contents store.now) mask)) walk.old walk.new) }
+{
+    match store.get(mask) {
+        Some(object) => walk_within(store, MOST_INCLUSIONS, object, walk),
+        None => Ok(()),
+    }
+}
+
+/// Walks through keys and the elements within them, of which some still fit.
+fn walk_keys<S: Store>(
+    alloc: Global,
+    store: &S,
+    places: &[Child],
+    left: u16,
+) -> Result<Walk, AllocError>
+    ensures { IfOk result (λ walk. walk.steps.items ≡ steps_of (cut left (marks 32 (S.contents store.now) places.now))) }
+{
+    let mut walk = Walk {
+        steps: Vec::new(alloc),
+        left,
+    };
+    walk_entries(store, MOST_INCLUSIONS, places, &mut walk)?;
+    Ok(walk)
 }
 
 /// The soft keys of a mask. Empty without a soft key mask.
@@ -170,51 +212,36 @@ fn begin_picture(
 
 /// Draws the elements within a mask, in its area.
 fn draw_mask<S: Store>(
+    text: &mut Vec<u8>,
     store: &S,
     sizes: Sizes,
-    mask: ObjectId,
-    canvas: &mut Canvas,
+    steps: &[Step],
 ) -> Result<(), AllocError>
-    ensures { OnOk result (documents.DrawsFramed (documents.mask_area sizes) sizes (S.contents store.now) (marks 32 (S.contents store.now) (mask_entries (S.contents store.now) mask)) canvas.old canvas.new) }
+    ensures { OnOk result (text.new.items ≡ documents.with_area sizes (S.contents store.now) (documents.mask_area sizes) steps.now text.old.items) }
 {
     open(
-        &mut canvas.text,
+        text,
         Element::Svg,
         &[
             Attribute::Width(u32::from(sizes.mask.width)),
             Attribute::Height(u32::from(sizes.mask.height)),
         ],
     )?;
-    draw_inside(store, sizes, mask, canvas)?;
-    close(&mut canvas.text, Element::Svg)
-}
-
-/// Draws the elements within a mask. Nothing without a mask.
-fn draw_inside<S: Store>(
-    store: &S,
-    sizes: Sizes,
-    mask: ObjectId,
-    canvas: &mut Canvas,
-) -> Result<(), AllocError>
-    ensures { OnOk result (Draws sizes (S.contents store.now) (marks 32 (S.contents store.now) (mask_entries (S.contents store.now) mask)) canvas.old canvas.new) }
-{
-    match store.get(mask) {
-        Some(object) => draw_within(store, sizes, MOST_INCLUSIONS, object, canvas),
-        None => Ok(()),
-    }
+    draw_steps(text, store, sizes, steps)?;
+    close(text, Element::Svg)
 }
 
 /// Draws keys beside a mask.
 fn draw_keys<S: Store>(
+    text: &mut Vec<u8>,
     store: &S,
     sizes: Sizes,
-    places: &[Child],
-    canvas: &mut Canvas,
+    steps: &[Step],
 ) -> Result<(), AllocError>
-    ensures { OnOk result (documents.DrawsFramed (documents.keys_area sizes) sizes (S.contents store.now) (marks 32 (S.contents store.now) places.now) canvas.old canvas.new) }
+    ensures { OnOk result (text.new.items ≡ documents.with_area sizes (S.contents store.now) (documents.keys_area sizes) steps.now text.old.items) }
 {
     let left = Attribute::Left(u32::from(sizes.mask.width) + GAP as u32);
-    open(&mut canvas.text, Element::Svg, &[left])?;
-    draw_entries(store, sizes, MOST_INCLUSIONS, places, canvas)?;
-    close(&mut canvas.text, Element::Svg)
+    open(text, Element::Svg, &[left])?;
+    draw_steps(text, store, sizes, steps)?;
+    close(text, Element::Svg)
 }

@@ -6,8 +6,8 @@
 //! The laws about the definitions are in the crate vt_picture_laws. docs/PROFILE.md, "Pictures", says how each kind looks.
 #![tactic(auto)]
 
-mod canvas;
 mod document;
+mod elements;
 mod frame;
 mod walk;
 

@@ -8,48 +8,59 @@ ghost use Rattle.vt_kinds.specs.declared.object.Object.TheVariants as objects;
 ghost use Rattle.vt_kinds.specs.Records.{seen};
 ghost use Rattle.vt_shown.specs.ShownElements.{resolves_to, item_of, number_shown};
 ghost use Rattle.vt_layout.specs.Drawings.{entries_in};
-ghost use Rattle.vt_picture.specs.Marks.{marks, marked, Nothing};
-ghost use Rattle.vt_picture.specs.Pictures.{Draws};
+ghost use Rattle.vt_picture.specs.Marks.{led_to, marks, marked, Nothing};
+ghost use Rattle.vt_picture.specs.Steps.{Walks};
 
-use crate::canvas::{Canvas, begin};
 use std::alloc::AllocError;
-use vt_needs::Sizes;
 use vt_objects::{Child, Container, InputList, Object, ObjectId, Store};
 use vt_shown::{is_element, number_shown, resolve};
-use vt_svg::{Element, close};
 
-/// Draws the elements of entries, at most `depth` within each other.
-#[cycle(drawing)]
-pub(crate) fn draw_entries<S: Store>(
+/// A step of a walk.
+#[derive(Clone, Copy, Debug, PartialEq, Eq)]
+pub(crate) enum Step {
+    /// An element begins: its own ID, and its position in the element around it.
+    Begin(Child),
+    /// The element that began last, of those that have not ended, ends.
+    End,
+}
+
+/// The steps so far, and the number of elements that still fit.
+#[derive(Drop)]
+pub(crate) struct Walk {
+    pub(crate) steps: Vec<Step>,
+    pub(crate) left: u16,
+}
+
+/// Walks through the elements of entries, at most `depth` within each other.
+#[cycle(walking)]
+pub(crate) fn walk_entries<S: Store>(
     store: &S,
-    sizes: Sizes,
     depth: u8,
     entries: &[Child],
-    canvas: &mut Canvas,
+    walk: &mut Walk,
 ) -> Result<(), AllocError>
-    ensures { OnOk result (Draws sizes (S.contents store.now) (marks depth (S.contents store.now) entries.now) canvas.old canvas.new) }
+    ensures { OnOk result (Walks (marks depth (S.contents store.now) entries.now) walk.old walk.new) }
 {
     if depth == 0 {
         return Ok(());
     }
     for entry in entries {
-        draw_entry(store, sizes, depth - 1, entry, canvas)?;
+        walk_entry(store, depth - 1, entry, walk)?;
     }
     Ok(())
 }
 
-/// Draws the element of an entry.
-#[cycle(drawing)]
-fn draw_entry<S: Store>(
+/// Walks through the element of an entry.
+#[cycle(walking)]
+fn walk_entry<S: Store>(
     store: &S,
-    sizes: Sizes,
     depth: u8,
     entry: &Child,
-    canvas: &mut Canvas,
+    walk: &mut Walk,
 ) -> Result<(), AllocError>
-    ensures { OnOk result (Draws sizes (S.contents store.now) (marked (S.contents store.now) (marks depth (S.contents store.now)) entry.now (resolves_to (S.contents store.now) entry.now.id) Nothing) canvas.old canvas.new) }
+    ensures { OnOk result (Walks (marked (S.contents store.now) (marks depth (S.contents store.now)) entry.now (resolves_to (S.contents store.now) entry.now.id) Nothing) walk.old walk.new) }
 {
-    if canvas.left == 0 {
+    if walk.left == 0 {
         return Ok(());
     }
     let Some(found) = resolve(store, entry.id) else {
@@ -58,31 +69,42 @@ fn draw_entry<S: Store>(
     if !is_element(found.1) {
         return Ok(());
     }
-    canvas.left -= 1;
-    begin(&mut canvas.text, store, sizes, entry, found.0, found.1)?;
-    draw_within(store, sizes, depth, found.1, canvas)?;
-    close(&mut canvas.text, Element::Svg)
+    walk.left -= 1;
+    walk.steps.push(Step::Begin(led_to(entry, found.0)))?;
+    walk_within(store, depth, found.1, walk)?;
+    walk.steps.push(Step::End)?;
+    Ok(())
 }
 
-/// Draws the elements within an element.
-#[cycle(drawing)]
-pub(crate) fn draw_within<S: Store>(
+/// The object that an entry leads to, at the position of the entry.
+fn led_to(entry: &Child, id: ObjectId) -> Child
+    ensures { result ≡ led_to entry.now id }
+{
+    Child {
+        id,
+        x: entry.x,
+        y: entry.y,
+    }
+}
+
+/// Walks through the elements within an element.
+#[cycle(walking)]
+pub(crate) fn walk_within<S: Store>(
     store: &S,
-    sizes: Sizes,
     depth: u8,
     object: &Object<Vec<u8>>,
-    canvas: &mut Canvas,
+    walk: &mut Walk,
 ) -> Result<(), AllocError>
-    ensures { OnOk result (Draws sizes (S.contents store.now) (marks depth (S.contents store.now) (entries_in (S.contents store.now) (Some (seen object.now)))) canvas.old canvas.new) }
+    ensures { OnOk result (Walks (marks depth (S.contents store.now) (entries_in (S.contents store.now) (Some (seen object.now)))) walk.old walk.new) }
 {
     match object {
-        Object::WorkingSet(o) => draw_entries(store, sizes, depth, o.children.as_slice(), canvas),
-        Object::DataMask(o) => draw_entries(store, sizes, depth, o.children.as_slice(), canvas),
-        Object::AlarmMask(o) => draw_entries(store, sizes, depth, o.children.as_slice(), canvas),
-        Object::Container(o) => draw_entries(store, sizes, depth, if_visible(o), canvas),
-        Object::Key(o) => draw_entries(store, sizes, depth, o.children.as_slice(), canvas),
-        Object::Button(o) => draw_entries(store, sizes, depth, o.children.as_slice(), canvas),
-        Object::InputList(o) => draw_item(store, sizes, depth, o, canvas),
+        Object::WorkingSet(o) => walk_entries(store, depth, o.children.as_slice(), walk),
+        Object::DataMask(o) => walk_entries(store, depth, o.children.as_slice(), walk),
+        Object::AlarmMask(o) => walk_entries(store, depth, o.children.as_slice(), walk),
+        Object::Container(o) => walk_entries(store, depth, if_visible(o), walk),
+        Object::Key(o) => walk_entries(store, depth, o.children.as_slice(), walk),
+        Object::Button(o) => walk_entries(store, depth, o.children.as_slice(), walk),
+        Object::InputList(o) => walk_item(store, depth, o, walk),
         _ => Ok(()),
     }
 }
@@ -98,19 +120,18 @@ fn if_visible(container: &Container) -> &[Child]
     }
 }
 
-/// Draws the current item of an input list, at the position of the list.
-#[cycle(drawing)]
-fn draw_item<S: Store>(
+/// Walks through the current item of an input list, at the position of the list.
+#[cycle(walking)]
+fn walk_item<S: Store>(
     store: &S,
-    sizes: Sizes,
     depth: u8,
     list: &InputList,
-    canvas: &mut Canvas,
+    walk: &mut Walk,
 ) -> Result<(), AllocError>
-    ensures { OnOk result (Draws sizes (S.contents store.now) (marks depth (S.contents store.now) (entries_in (S.contents store.now) (Some (objects.InputList list.now)))) canvas.old canvas.new) }
+    ensures { OnOk result (Walks (marks depth (S.contents store.now) (entries_in (S.contents store.now) (Some (objects.InputList list.now)))) walk.old walk.new) }
 {
     match item(store, list) {
-        Some(id) => draw_entries(store, sizes, depth, &[Child { id, x: 0, y: 0 }], canvas),
+        Some(id) => walk_entries(store, depth, &[Child { id, x: 0, y: 0 }], walk),
         None => Ok(()),
     }
 }

@@ -1,3 +1,4 @@
+pub mod ClosedPictures
 pub mod DrawnMarks
 pub mod FirstMarks
 pub mod KeyPlaces

@@ -4,7 +4,8 @@ use Rattle.vt_kinds.specs.declared.entries.Child.{Child}
 use Rattle.vt_stores.specs.Stores.{ObjectMap}
 use Rattle.vt_layout.specs.Walks.{elements, drawing}
 use Rattle.vt_needs.specs.declared.sizes.Sizes.{Sizes}
-use Rattle.vt_picture.specs.Documents.{most_marks, mask_marks, key_marks}
+use Rattle.vt_svg.specs.Elements.{Nodes, text_of}
+use Rattle.vt_picture.specs.Documents.{IsPicture, most_marks, mask_marks, key_marks}
 use Rattle.vt_picture.specs.Marks.{Marks, marks, count, cut, ids}
 
 -- The marks of entries have the IDs of their drawing, in its order.
@@ -20,3 +21,7 @@ CutMarksAreFirst = (n : ℕ) (m : Marks) → (ids (cut n m) ≡ take n (ids m)) 
 abbrev pub PicturesShowTheDrawing : Type 0
 PicturesShowTheDrawing = (sizes : Sizes) (store : ObjectMap) (mask : ℕ)
     → ids (mask_marks store mask) ++ ids (key_marks sizes store mask) ≡ take most_marks (map (λ e. e.id) (drawing store mask))
+
+-- The text of a picture is that of elements within each other, each of which is closed behind all that is in it.
+abbrev pub PicturesAreClosed : Type 0
+PicturesAreClosed = (sizes : Sizes) (store : ObjectMap) (mask : ℕ) (text : List ℕ) → IsPicture sizes store mask text → (nodes : Nodes) × (text ≡ text_of nodes)

@@ -4,7 +4,7 @@
 //! code meets by its contracts, and calling it changes nothing.
 #![tactic(auto)]
 
-ghost use Rattle.vt_picture_laws.specs.Laws.{CutMarksAreFirst, MarksAreDrawn, PicturesShowTheDrawing};
+ghost use Rattle.vt_picture_laws.specs.Laws.{CutMarksAreFirst, MarksAreDrawn, PicturesAreClosed, PicturesShowTheDrawing};
 
 /// The marks of entries have the IDs of their drawing, in its order.
 pub fn marks_are_drawn()
@@ -19,4 +19,9 @@ pub fn cut_marks_are_first()
 /// A picture shows the elements of the drawing of its mask and of its soft keys in their order, the first 2,000.
 pub fn pictures_show_the_drawing()
     ensures { PicturesShowTheDrawing }
+{}
+
+/// Each element of a picture is closed behind all that is in it.
+pub fn pictures_are_closed()
+    ensures { PicturesAreClosed }
 {}

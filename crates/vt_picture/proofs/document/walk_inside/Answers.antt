@@ -3,11 +3,11 @@ use Rattle.std.specs.FinMap as finite
 use Rattle.vt_kinds.specs.Records.{Seen}
 use Rattle.vt_layout.specs.Drawings.{entries_in}
 use Rattle.vt_picture.specs.Marks.{marks}
-use Rattle.vt_picture.proofs.Drawn.{drawn_nothing, no_entries}
-use Rattle.vt_picture.proofs.document.draw_inside.Goals as goal
+use Rattle.vt_picture.proofs.Walked.{walked_nothing, no_entries}
+use Rattle.vt_picture.proofs.document.walk_inside.Goals as goal
 
 pub returns-in-None : goal.returns-in-None
 returns-in-None g c =
     let store = g.S.Store.contents c.args.store.now in
     let none : finite.get store c.args.mask ≡ None = search rules in
-    drawn_nothing c.args.sizes store _ c.args.canvas.now (ap (λ (o : Option Seen). marks 32 store (entries_in store o)) none ∙ no_entries 32 store)
+    walked_nothing store _ c.args.walk.now (ap (λ (o : Option Seen). marks 32 store (entries_in store o)) none ∙ no_entries 32 store)

@@ -1,0 +1,5 @@
+use Rattle.vt_picture_laws.proofs.ClosedPictures.{picture_closed}
+use Rattle.vt_picture_laws.proofs.pictures_are_closed.Goals as goal
+
+pub returns : goal.returns
+returns c = picture_closed
