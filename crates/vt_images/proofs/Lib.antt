@@ -1,1 +1,2 @@
+pub mod ClosedImages
 mod StrokesOfBytes

@@ -1,1 +1,2 @@
+pub mod ClosedPictures
 pub mod Walked

@@ -1,4 +1,3 @@
-pub mod ClosedPictures
 pub mod DrawnMarks
 pub mod FirstMarks
 pub mod KeyPlaces

@@ -1,3 +1,4 @@
+pub mod AppendedNodes
 pub mod Bits
 pub mod Followed
 pub mod NoMarkup

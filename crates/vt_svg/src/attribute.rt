@@ -34,10 +34,6 @@ pub enum Flag {
     Overflow,
     /// Edges are sharp.
     Crisp,
-    /// Points that are inside twice are outside.
-    EvenOdd,
-    /// Half of what is behind shows through.
-    Faded,
     /// Spaces are kept.
     Spaces,
     /// The font of all texts.
@@ -184,8 +180,6 @@ fn flag_text(flag: Flag) -> &'static str
         Flag::StretchedPicture => " preserveAspectRatio=\"none\"",
         Flag::Overflow => " overflow=\"visible\"",
         Flag::Crisp => " shape-rendering=\"crispEdges\"",
-        Flag::EvenOdd => " fill-rule=\"evenodd\"",
-        Flag::Faded => " opacity=\"0.5\"",
         Flag::Spaces => " xml:space=\"preserve\"",
         Flag::Font => " font-family=\"DejaVu Sans Mono, monospace\"",
         Flag::NameSpace => " xmlns=\"http://www.w3.org/2000/svg\"",

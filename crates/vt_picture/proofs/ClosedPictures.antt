@@ -1,0 +1,81 @@
+-- Texts of pictures are texts of nodes.
+use Rattle.std.proofs.Common.{◌≡◌, ℕ, Bool, true, false, List, [], ◌∷◌, ◌++◌, length, Option, Some, None, refl, sym, ap, ◌∙◌}
+use Rattle.std.specs.Prelude.{nat_le}
+use Rattle.std.proofs.lemmas.List.{append_assoc, append-nil}
+use Rattle.std.specs.FinMap as finite
+use Rattle.vt_kinds.specs.declared.entries.Child.{Child}
+use Rattle.vt_kinds.specs.Records.{Seen}
+use Rattle.vt_stores.specs.Stores.{ObjectMap}
+use Rattle.vt_shown.specs.ShownElements.{soft_keys}
+use Rattle.vt_needs.specs.declared.sizes.Sizes.{Sizes}
+use Rattle.vt_svg.specs.declared.attribute.Attribute.{Attribute}
+use Rattle.vt_svg.specs.declared.element.Element.TheVariants as elements
+use Rattle.vt_svg.specs.Elements.{Nodes, closed, opened, text_of}
+use Rattle.vt_svg.specs.Elements as nodes
+use Rattle.vt_svg.proofs.AppendedNodes.{AppendsNodes, around, empty, one_more, same}
+use Rattle.vt_images.proofs.ClosedImages.{images_behind}
+use Rattle.vt_shapes.specs.Shapes.{shapes}
+use Rattle.vt_picture.specs.declared.walk.Step.{Step}
+use Rattle.vt_picture.specs.declared.walk.Step.TheVariants.{Begin, End}
+use Rattle.vt_picture.specs.Documents.{IsPicture, background, beginning, key_marks, keys_area, mask_and_keys, mask_area, mask_marks, mask_steps, picture_attributes, pictures, with_area}
+use Rattle.vt_picture.specs.Frames.{frame_of}
+use Rattle.vt_picture.specs.Marks.{Marks, Nothing, Mark}
+use Rattle.vt_picture.specs.Pictures.{begun, most_bytes, placed, with_step, with_steps}
+use Rattle.vt_picture.specs.Steps.{steps_of}
+
+module _ (sizes : Sizes) (store : ObjectMap) where
+  shapes_behind : (has_room : Bool) (entry : Child) (object : Seen) (text : List ℕ)
+      → AppendsNodes (text ++ opened elements.Svg (placed entry (frame_of sizes object))) (text ++ begun has_room sizes store entry (Some object))
+  shapes_behind true entry object text = record {
+    nodes = shapes sizes store entry.id object;
+    is = sym (append_assoc text (opened elements.Svg (placed entry (frame_of sizes object))) (text_of (shapes sizes store entry.id object)));
+  }
+  shapes_behind false entry object text = record {
+    nodes = nodes.None;
+    is = sym (append_assoc text (opened elements.Svg (placed entry (frame_of sizes object))) []);
+  }
+
+  begun_behind : (has_room : Bool) (entry : Child) (object : Option Seen) (text : List ℕ)
+      → (attributes : List Attribute) × AppendsNodes (text ++ opened elements.Svg attributes) (text ++ begun has_room sizes store entry object)
+  begun_behind has_room entry None text = ([], same (text ++ opened elements.Svg []))
+  begun_behind has_room entry (Some object) text = (placed entry (frame_of sizes object), shapes_behind has_room entry object text)
+
+  -- the steps of marks append nodes, whatever comes behind them
+  steps_behind : (m : Marks) (text : List ℕ) (rest : List Step)
+      → (next : List ℕ) × AppendsNodes text next × (with_steps sizes store text (steps_of m ++ rest) ≡ with_steps sizes store next rest)
+  steps_behind Nothing text rest = (text, same text, refl)
+  steps_behind (Mark entry inside later) text rest =
+      let has_room = nat_le (length text) most_bytes in
+      let object = finite.get store entry.id in
+      let began = with_step sizes store text (Begin entry) in
+      let first = begun_behind has_room entry object text in
+      let i = steps_behind inside began (End ∷ (steps_of later ++ rest)) in
+      let ended = with_step sizes store i.0 End in
+      let l = steps_behind later ended rest in
+      let element = around elements.Svg first.0 text i.0 ended (one_more (text ++ opened elements.Svg first.0) began i.0 first.1 i.1) refl in (
+        l.0,
+        one_more text ended l.0 element l.1,
+        ap (λ s. with_steps sizes store began s) (append_assoc (steps_of inside) (End ∷ steps_of later) rest) ∙ i.2 ∙ l.2,
+      )
+
+  area_behind : (area : List Attribute) (m : Marks) (text : List ℕ) → AppendsNodes text (with_area sizes store area (steps_of m) text)
+  area_behind area m text =
+      let begun' = text ++ opened elements.Svg area in
+      let s = steps_behind m begun' [] in
+      let all : with_steps sizes store begun' (steps_of m) ≡ s.0 = ap (λ steps. with_steps sizes store begun' steps) (sym (append-nil (steps_of m))) ∙ s.2 in
+      around elements.Svg area text s.0 _ s.1 (ap (λ l. l ++ closed elements.Svg) all)
+
+pub picture_closed : (sizes : Sizes) (store : ObjectMap) (mask : ℕ) (text : List ℕ) → IsPicture sizes store mask text → (nodes : Nodes) × (text ≡ text_of nodes)
+picture_closed sizes store mask text is =
+    let keys = length (soft_keys store mask) in
+    let paint = background (finite.get store mask) in
+    let first = opened elements.Svg (picture_attributes sizes keys) in
+    let start = beginning sizes keys paint in
+    let with_mask = with_area sizes store (mask_area sizes) (mask_steps store mask) start in
+    let with_keys = mask_and_keys sizes store mask in
+    let inside = one_more first start is.all (empty elements.Rect _ first)
+    (one_more start with_mask is.all (area_behind sizes store (mask_area sizes) (mask_marks store mask) start)
+    (one_more with_mask with_keys is.all (area_behind sizes store (keys_area sizes) (key_marks sizes store mask) with_mask)
+    (images_behind store (pictures sizes store mask) with_keys is.all is.images))) in
+    let whole = around elements.Svg (picture_attributes sizes keys) [] is.all text inside is.whole in
+    (whole.nodes, whole.is)
