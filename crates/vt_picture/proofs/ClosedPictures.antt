@@ -1,5 +1,5 @@
--- Texts of pictures are texts of nodes.
-use Rattle.std.proofs.Common.{◌≡◌, ℕ, Bool, true, false, List, [], ◌∷◌, ◌++◌, length, Option, Some, None, refl, sym, ap, ◌∙◌}
+-- Texts of pictures are texts of nodes, with the IDs of their marks.
+use Rattle.std.proofs.Common.{◌≡◌, ℕ, Bool, true, false, List, [], ◌∷◌, ◌++◌, length, Option, Some, None, refl, sym, ap, subst, ◌∙◌}
 use Rattle.std.specs.Prelude.{nat_le}
 use Rattle.std.proofs.lemmas.List.{append_assoc, append-nil}
 use Rattle.std.specs.FinMap as finite
@@ -8,41 +8,55 @@ use Rattle.vt_kinds.specs.Records.{Seen}
 use Rattle.vt_stores.specs.Stores.{ObjectMap}
 use Rattle.vt_shown.specs.ShownElements.{soft_keys}
 use Rattle.vt_needs.specs.declared.sizes.Sizes.{Sizes}
+use Rattle.std.specs.List.{flat_map}
 use Rattle.vt_svg.specs.declared.attribute.Attribute.{Attribute}
+use Rattle.vt_svg.specs.declared.attribute.Attribute.TheVariants as attributes
 use Rattle.vt_svg.specs.declared.element.Element.TheVariants as elements
-use Rattle.vt_svg.specs.Elements.{Nodes, closed, opened, text_of}
+use Rattle.vt_svg.specs.Elements.{Nodes, closed, object_id, object_ids, opened, text_of}
 use Rattle.vt_svg.specs.Elements as nodes
 use Rattle.vt_svg.proofs.AppendedNodes.{AppendsNodes, around, empty, one_more, same}
 use Rattle.vt_images.proofs.ClosedImages.{images_behind}
 use Rattle.vt_shapes.specs.Shapes.{shapes}
+use Rattle.vt_shapes.proofs.NoIds.{no_ids}
+use Rattle.vt_picture.specs.declared.frame.Frame.{Frame}
+use Rattle.vt_picture.specs.declared.frame.Frame.TheVariants as frames
 use Rattle.vt_picture.specs.declared.walk.Step.{Step}
 use Rattle.vt_picture.specs.declared.walk.Step.TheVariants.{Begin, End}
 use Rattle.vt_picture.specs.Documents.{IsPicture, background, beginning, key_marks, keys_area, mask_and_keys, mask_area, mask_marks, mask_steps, picture_attributes, pictures, with_area}
 use Rattle.vt_picture.specs.Frames.{frame_of}
-use Rattle.vt_picture.specs.Marks.{Marks, Nothing, Mark}
+use Rattle.vt_picture.specs.Marks.{Marks, Nothing, Mark, ids}
 use Rattle.vt_picture.specs.Pictures.{begun, most_bytes, placed, with_step, with_steps}
 use Rattle.vt_picture.specs.Steps.{steps_of}
 
 module _ (sizes : Sizes) (store : ObjectMap) where
   shapes_behind : (has_room : Bool) (entry : Child) (object : Seen) (text : List ℕ)
-      → AppendsNodes (text ++ opened elements.Svg (placed entry (frame_of sizes object))) (text ++ begun has_room sizes store entry (Some object))
+      → AppendsNodes [] (text ++ opened elements.Svg (placed entry (frame_of sizes object))) (text ++ begun has_room sizes store entry (Some object))
   shapes_behind true entry object text = record {
     nodes = shapes sizes store entry.id object;
     is = sym (append_assoc text (opened elements.Svg (placed entry (frame_of sizes object))) (text_of (shapes sizes store entry.id object)));
+    shown = no_ids sizes store entry.id object;
   }
   shapes_behind false entry object text = record {
     nodes = nodes.None;
     is = sym (append_assoc text (opened elements.Svg (placed entry (frame_of sizes object))) []);
+    shown = refl;
   }
 
-  begun_behind : (has_room : Bool) (entry : Child) (object : Option Seen) (text : List ℕ)
-      → (attributes : List Attribute) × AppendsNodes (text ++ opened elements.Svg attributes) (text ++ begun has_room sizes store entry object)
-  begun_behind has_room entry None text = ([], same (text ++ opened elements.Svg []))
-  begun_behind has_room entry (Some object) text = (placed entry (frame_of sizes object), shapes_behind has_room entry object text)
+  -- the ID of an element is the only one in its tag
+  id_placed : (entry : Child) (frame : Frame) → flat_map object_id (placed entry frame) ≡ entry.id ∷ []
+  id_placed entry frames.Whole = refl
+  id_placed entry (frames.Clipped width height) = refl
+  id_placed entry (frames.Fine area) = refl
 
-  -- the steps of marks append nodes, whatever comes behind them
+  begun_behind : (has_room : Bool) (entry : Child) (object : Option Seen) (text : List ℕ)
+      → (attributes : List Attribute) × (flat_map object_id attributes ≡ entry.id ∷ []) × AppendsNodes [] (text ++ opened elements.Svg attributes) (text ++ begun has_room sizes store entry object)
+  begun_behind has_room entry None text = (attributes.ObjectId entry.id ∷ [], refl, same (text ++ opened elements.Svg (attributes.ObjectId entry.id ∷ [])))
+  begun_behind has_room entry (Some object) text =
+      (placed entry (frame_of sizes object), id_placed entry (frame_of sizes object), shapes_behind has_room entry object text)
+
+  -- the steps of marks append nodes with their IDs, whatever comes behind them
   steps_behind : (m : Marks) (text : List ℕ) (rest : List Step)
-      → (next : List ℕ) × AppendsNodes text next × (with_steps sizes store text (steps_of m ++ rest) ≡ with_steps sizes store next rest)
+      → (next : List ℕ) × AppendsNodes (ids m) text next × (with_steps sizes store text (steps_of m ++ rest) ≡ with_steps sizes store next rest)
   steps_behind Nothing text rest = (text, same text, refl)
   steps_behind (Mark entry inside later) text rest =
       let has_room = nat_le (length text) most_bytes in
@@ -52,20 +66,23 @@ module _ (sizes : Sizes) (store : ObjectMap) where
       let i = steps_behind inside began (End ∷ (steps_of later ++ rest)) in
       let ended = with_step sizes store i.0 End in
       let l = steps_behind later ended rest in
-      let element = around elements.Svg first.0 text i.0 ended (one_more (text ++ opened elements.Svg first.0) began i.0 first.1 i.1) refl in (
+      let element = around elements.Svg first.0 (ids inside) text i.0 ended (one_more [] (ids inside) (text ++ opened elements.Svg first.0) began i.0 first.2 i.1) refl in
+      let all = one_more (flat_map object_id first.0 ++ ids inside) (ids later) text ended l.0 element l.1 in (
         l.0,
-        one_more text ended l.0 element l.1,
+        subst (λ (own : List ℕ). AppendsNodes ((own ++ ids inside) ++ ids later) text l.0) first.1 all,
         ap (λ s. with_steps sizes store began s) (append_assoc (steps_of inside) (End ∷ steps_of later) rest) ∙ i.2 ∙ l.2,
       )
 
-  area_behind : (area : List Attribute) (m : Marks) (text : List ℕ) → AppendsNodes text (with_area sizes store area (steps_of m) text)
-  area_behind area m text =
+  area_behind : (area : List Attribute) (m : Marks) (text : List ℕ) → flat_map object_id area ≡ [] → AppendsNodes (ids m) text (with_area sizes store area (steps_of m) text)
+  area_behind area m text none =
       let begun' = text ++ opened elements.Svg area in
       let s = steps_behind m begun' [] in
       let all : with_steps sizes store begun' (steps_of m) ≡ s.0 = ap (λ steps. with_steps sizes store begun' steps) (sym (append-nil (steps_of m))) ∙ s.2 in
-      around elements.Svg area text s.0 _ s.1 (ap (λ l. l ++ closed elements.Svg) all)
+      subst (λ (own : List ℕ). AppendsNodes (own ++ ids m) text (with_area sizes store area (steps_of m) text)) none
+      (around elements.Svg area (ids m) text s.0 _ s.1 (ap (λ l. l ++ closed elements.Svg) all))
 
-pub picture_closed : (sizes : Sizes) (store : ObjectMap) (mask : ℕ) (text : List ℕ) → IsPicture sizes store mask text → (nodes : Nodes) × (text ≡ text_of nodes)
+pub picture_closed : (sizes : Sizes) (store : ObjectMap) (mask : ℕ) (text : List ℕ) → IsPicture sizes store mask text
+    → (nodes : Nodes) × (text ≡ text_of nodes) × (object_ids nodes ≡ ids (mask_marks store mask) ++ ids (key_marks sizes store mask))
 picture_closed sizes store mask text is =
     let keys = length (soft_keys store mask) in
     let paint = background (finite.get store mask) in
@@ -73,9 +90,11 @@ picture_closed sizes store mask text is =
     let start = beginning sizes keys paint in
     let with_mask = with_area sizes store (mask_area sizes) (mask_steps store mask) start in
     let with_keys = mask_and_keys sizes store mask in
-    let inside = one_more first start is.all (empty elements.Rect _ first)
-    (one_more start with_mask is.all (area_behind sizes store (mask_area sizes) (mask_marks store mask) start)
-    (one_more with_mask with_keys is.all (area_behind sizes store (keys_area sizes) (key_marks sizes store mask) with_mask)
+    let of_mask = ids (mask_marks store mask) in
+    let of_keys = ids (key_marks sizes store mask) in
+    let inside = one_more [] (of_mask ++ (of_keys ++ [])) first start is.all (empty elements.Rect _ first)
+    (one_more of_mask (of_keys ++ []) start with_mask is.all (area_behind sizes store (mask_area sizes) (mask_marks store mask) start refl)
+    (one_more of_keys [] with_mask with_keys is.all (area_behind sizes store (keys_area sizes) (key_marks sizes store mask) with_mask refl)
     (images_behind store (pictures sizes store mask) with_keys is.all is.images))) in
-    let whole = around elements.Svg (picture_attributes sizes keys) [] is.all text inside is.whole in
-    (whole.nodes, whole.is)
+    let whole = around elements.Svg (picture_attributes sizes keys) (of_mask ++ (of_keys ++ [])) [] is.all text inside is.whole in
+    (whole.nodes, whole.is, whole.shown ∙ ap (λ l. of_mask ++ l) (append-nil of_keys))

@@ -7,7 +7,8 @@ use Rattle.vt_layout.specs.Drawings.{origin, mask_entries, key_entries}
 use Rattle.vt_layout.specs.Walks.{elements}
 use Rattle.vt_picture.specs.Documents.{key_places, most_marks}
 use Rattle.vt_picture.specs.Marks.{Marks, marks, count, cut, ids}
-use Rattle.vt_picture_laws.specs.Laws.{PicturesShowTheDrawing}
+use Rattle.vt_picture_laws.specs.Laws.{ElementsAreTheDrawing, PicturesShowTheDrawing}
+use Rattle.vt_picture.proofs.ClosedPictures.{picture_closed}
 use Rattle.vt_picture_laws.proofs.KeyPlaces.{same_keys}
 use Rattle.vt_picture_laws.proofs.DrawnMarks.{marks_drawn}
 use Rattle.vt_picture_laws.proofs.FirstMarks.{take_append, ids_counted, first_ids}
@@ -19,8 +20,8 @@ first_of_two n m k =
     ap₂ (λ a b. a ++ b) (first_ids n m) (first_ids (n - count (cut n m)) k ∙ ap (λ i. take i (ids k)) wanted)
     ∙ sym (take_append n (ids m) (ids k))
 
-pub picture_shows : PicturesShowTheDrawing
-picture_shows sizes store mask =
+pub elements_shown : ElementsAreTheDrawing
+elements_shown sizes store mask =
     let in_mask = mask_entries store mask in
     let of_keys = key_entries store mask in
     first_of_two most_marks (marks terminal.inclusions store in_mask) (marks terminal.inclusions store (key_places sizes 0 (soft_keys store mask)))
@@ -29,3 +30,8 @@ picture_shows sizes store mask =
     (same_keys store terminal.inclusions sizes (soft_keys store mask) ∙ marks_drawn store terminal.inclusions of_keys origin)
     ∙ sym (map-append (λ e. e.id) (elements terminal.inclusions store in_mask origin) (elements terminal.inclusions store of_keys origin))
     )
+
+pub picture_shows : PicturesShowTheDrawing
+picture_shows sizes store mask text is =
+    let whole = picture_closed sizes store mask text is in
+    (whole.0, whole.1, whole.2 ∙ elements_shown sizes store mask)

@@ -4,7 +4,7 @@
 //! code meets by its contracts, and calling it changes nothing.
 #![tactic(auto)]
 
-ghost use Rattle.vt_picture_laws.specs.Laws.{CutMarksAreFirst, MarksAreDrawn, PicturesAreClosed, PicturesShowTheDrawing};
+ghost use Rattle.vt_picture_laws.specs.Laws.{CutMarksAreFirst, ElementsAreTheDrawing, MarksAreDrawn, PicturesShowTheDrawing};
 
 /// The marks of entries have the IDs of their drawing, in its order.
 pub fn marks_are_drawn()
@@ -16,12 +16,13 @@ pub fn cut_marks_are_first()
     ensures { CutMarksAreFirst }
 {}
 
-/// A picture shows the elements of the drawing of its mask and of its soft keys in their order, the first 2,000.
-pub fn pictures_show_the_drawing()
-    ensures { PicturesShowTheDrawing }
+/// The elements of a mask and of its soft keys have the IDs of their drawing in its order, the first 2,000.
+pub fn elements_are_the_drawing()
+    ensures { ElementsAreTheDrawing }
 {}
 
-/// Each element of a picture is closed behind all that is in it.
-pub fn pictures_are_closed()
-    ensures { PicturesAreClosed }
+/// A picture is the text of elements within each other, each closed behind all that is in it. The IDs of objects in it are, in their order,
+/// those of the drawing of its mask, the first 2,000.
+pub fn pictures_show_the_drawing()
+    ensures { PicturesShowTheDrawing }
 {}

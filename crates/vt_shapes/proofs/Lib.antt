@@ -1,3 +1,4 @@
 pub mod Arcs
 pub mod Gauges
+pub mod NoIds
 pub mod Rows

@@ -1,8 +1,9 @@
 -- Elements as text.
-use Rattle.std.specs.Prelude.{ℕ, Bool, if◌then◌else◌, List, [], ◌++◌, codes}
+use Rattle.std.specs.Prelude.{ℕ, Bool, if◌then◌else◌, List, [], ◌∷◌, ◌++◌, codes}
 use Rattle.std.specs.Fmt.{decimal}
 use Rattle.std.specs.List.{flat_map}
 use Rattle.vt_svg.specs.declared.attribute.Attribute.{Attribute}
+use Rattle.vt_svg.specs.declared.attribute.Attribute.TheVariants.{ObjectId}
 use Rattle.vt_svg.specs.declared.element.Element.{Element}
 use Rattle.vt_svg.specs.declared.element.Element.TheVariants as elements
 use Rattle.vt_svg.specs.declared.points.Point.{Point}
@@ -69,3 +70,17 @@ followed (Around element attributes inside rest) later = Around element attribut
 -- nodes that are there or not
 abbrev pub when : Bool → Nodes → Nodes
 when is_there nodes = if is_there then nodes else None
+
+-- ---- the IDs of objects
+
+abbrev pub object_id : Attribute → List ℕ
+object_id (ObjectId id) = id ∷ []
+object_id _ = []
+
+-- the IDs in the attributes of nodes, in their order
+abbrev pub object_ids : Nodes → List ℕ
+object_ids None = []
+object_ids (Characters characters later) = object_ids later
+object_ids (Along element attributes points later) = flat_map object_id attributes ++ object_ids later
+object_ids (Empty element attributes later) = flat_map object_id attributes ++ object_ids later
+object_ids (Around element attributes inside later) = flat_map object_id attributes ++ (object_ids inside ++ object_ids later)
