@@ -1,0 +1,2 @@
+-- The specifications that the contracts of vt_gallery use.
+pub mod Html
