@@ -1,6 +1,6 @@
 //! HTML as it is written: markup of the program's own, and texts from outside, which are never markup.
 
-ghost use Rattle.std.specs.Prelude.{◌≡◌, ◌++◌, OnOk};
+ghost use Rattle.std.specs.Prelude.{◌≡◌, ◌++◌, [], OnOk};
 ghost use Rattle.std.specs.List.{flat_map};
 ghost use Rattle.vt_gallery.specs.Html.{html_escaped};
 
@@ -14,7 +14,9 @@ pub(crate) struct Html {
 
 impl Html {
     /// No text. Allocates nothing.
-    pub(crate) fn new(alloc: Global) -> Html {
+    pub(crate) fn new(alloc: Global) -> Html
+        ensures { result.bytes.items ≡ [] }
+    {
         Html {
             bytes: Vec::new(alloc),
         }
