@@ -51,10 +51,7 @@ pub(crate) fn named_mask(masks: &[ObjectId], id: ObjectId) -> Result<ObjectId, R
 }
 
 /// The active mask of the working set, among the masks of a pool. Of several working sets it is the last.
-pub(crate) fn active_mask(
-    masks: &[ObjectId],
-    objects: &SortedStore,
-) -> Result<ObjectId, Refusal>
+pub(crate) fn active_mask(masks: &[ObjectId], objects: &SortedStore) -> Result<ObjectId, Refusal>
     ensures { IfOk result (λ mask. option_map (λ found. found.1) (spec.last_set None objects.now) ≡ Some mask) }
 {
     first_mask(masks)?;

@@ -60,7 +60,7 @@ fn draw_source<F: Save, W: Write, E: Write>(
     let masks = masks_of(alloc, &source.inspection.objects)?;
     let sheet = Sheet {
         alloc,
-        source,
+        source: &*source,
         masks: masks.as_slice(),
         sizes: options.sizes,
     };
@@ -175,11 +175,7 @@ impl Sheet<'_> {
     }
 
     /// The mask, or `None` if there is none, which `errors` says.
-    fn found<E: Write>(
-        &self,
-        mask: Result<ObjectId, Refusal>,
-        errors: &mut E,
-    ) -> Option<ObjectId> {
+    fn found<E: Write>(&self, mask: Result<ObjectId, Refusal>, errors: &mut E) -> Option<ObjectId> {
         match mask {
             Ok(mask) => Some(mask),
             Err(refusal) => {
