@@ -72,8 +72,16 @@ fn expect_run(rt: &(impl Abort + AllocGlobal), wanted: &Run<'_>) -> Result<(), F
     let ended = run(alloc, words, Look::Plain, &mut files, &mut out, &mut errors)?;
     assert_eq!(rt; errors.as_slice(), messages.as_bytes(), "{words:?}");
     assert_eq!(rt; ended, status, "{words:?}");
-    assert_eq!(rt; out.as_slice(), joined(alloc, shown)?.as_slice(), "{words:?}");
-    assert_eq!(rt; files.written.as_slice(), joined(alloc, written)?.as_slice(), "{words:?}");
+    assert_eq!(rt;
+        out.as_slice(),
+        joined(alloc, shown)?.as_slice(),
+        "{words:?}"
+    );
+    assert_eq!(rt;
+        files.written.as_slice(),
+        joined(alloc, written)?.as_slice(),
+        "{words:?}"
+    );
     Ok(())
 }
 
@@ -109,7 +117,15 @@ const ONE_PICTURE: [Run<'static>; 5] = [
         "",
     ),
     (
-        &["s", "draw", "pool", "--size", "240x200", "--key-size", "60x50"],
+        &[
+            "s",
+            "draw",
+            "pool",
+            "--size",
+            "240x200",
+            "--key-size",
+            "60x50",
+        ],
         Status::Clean,
         &[Part::Picture((POOL, SMALL, 1000))],
         &[],
@@ -130,7 +146,15 @@ const ONE_PICTURE: [Run<'static>; 5] = [
         ONE_ERROR,
     ),
     (
-        &["s", "draw", "masks", "--mask", "2000", "--out", "a/alarm.svg"],
+        &[
+            "s",
+            "draw",
+            "masks",
+            "--mask",
+            "2000",
+            "--out",
+            "a/alarm.svg",
+        ],
         Status::Found,
         &[],
         &[Part::Text("== a/alarm.svg\n"), Part::Picture(ALARM)],
@@ -183,7 +207,13 @@ li { font-family: monospace; }
 const GALLERIES: [Run<'static>; 2] = [
     (
         &[
-            "s", "draw", "pools/<\"&>.iop", "--names", "markup", "--out", "out/",
+            "s",
+            "draw",
+            "pools/<\"&>.iop",
+            "--names",
+            "markup",
+            "--out",
+            "out/",
         ],
         Status::Found,
         &[],
