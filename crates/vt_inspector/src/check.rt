@@ -1,16 +1,15 @@
 //! The subcommand `check`.
 
-use crate::files::{Open, read_file, read_names};
 use crate::program::{Look, Status, put_message};
-use std::alloc::{AllocError, Global};
+use std::alloc::Global;
 use std::io::{self, Write};
+use vt_files::{Open, read_file, read_names};
 use vt_findings_json::{item_json, summary_json};
 use vt_findings_text::{GithubLine, Item, Names, Source, Summary};
-use vt_inspect::{Finding, Inspection, Note, inspect};
+use vt_inspect::inspect;
 use vt_inspector_words::{CheckOptions, Format};
-use vt_needs::{TERMINAL_SIZES, Warning, warnings};
-use vt_objects::{Kind, ObjectId, Store};
-use vt_pool::PoolFault;
+use vt_items::{items_of, summary_of};
+use vt_needs::{TERMINAL_SIZES, warnings};
 
 /// The form of the lines.
 #[derive(Clone, Copy, Debug, PartialEq, Eq)]
@@ -81,84 +80,9 @@ fn check_pool<W: Write>(
     for note in inspection.notes.iter() {
         put_item(alloc, &source, Item::Note(*note), lines, out)?;
     }
-    let errors = inspection.findings.len();
-    let summary = Summary {
-        file: path,
-        errors,
-        warnings: items.len().saturating_sub(errors),
-        objects: inspection.objects.count(),
-        left_out: items.len().saturating_sub(most),
-    };
+    let summary = summary_of(&source, items.as_slice(), most);
     put_summary(alloc, summary, lines, out)?;
     Ok(status_of(&summary, options.denies_warnings))
-}
-
-/// The findings, then the replaced records, then the warnings. If bytes could not be read, no object is called unused. A number whose
-/// scale or decimals are wrong has no text that could be too wide.
-fn items_of<'a>(
-    alloc: Global,
-    inspection: &'a Inspection,
-    warnings: &'a [Warning],
-) -> Result<Vec<Item<'a>>, AllocError> {
-    let mut items = Vec::new(alloc);
-    for finding in inspection.findings.iter() {
-        items.push(Item::Finding(finding))?;
-    }
-    for replaced in inspection.replaced.iter() {
-        items.push(Item::Replaced(replaced))?;
-    }
-    let is_read = !inspection.notes.iter().any(is_unread);
-    let mended = mended_bytes(alloc, inspection)?;
-    for warning in warnings {
-        let is_judged = match warning {
-            Warning::Unused { .. } => is_read,
-            Warning::TextTooWide(field) => !is_mended(inspection, mended.as_slice(), field.id),
-            _ => true,
-        };
-        if is_judged {
-            items.push(Item::Warning(warning))?;
-        }
-    }
-    Ok(items)
-}
-
-/// The indices of the bytes with a wrong scale or wrong decimals, in their order.
-fn mended_bytes(alloc: Global, inspection: &Inspection) -> Result<Vec<usize>, AllocError> {
-    let mut bytes = Vec::new(alloc);
-    for finding in inspection.findings.iter() {
-        if let Finding::Record(PoolFault::Scale { at } | PoolFault::Decimals { at }) = finding {
-            bytes.push(*at)?;
-        }
-    }
-    Ok(bytes)
-}
-
-/// The bytes of the record of an Input Number, without its macros (docs/PROFILE.md, "Kind 9, Input Number").
-const INPUT_NUMBER_BYTES: usize = 38;
-
-/// The bytes of the record of an Output Number, without its macros (docs/PROFILE.md, "Kind 12, Output Number").
-const OUTPUT_NUMBER_BYTES: usize = 29;
-
-/// Whether the scale or the decimals of an object were read as others, so that its text is not known.
-fn is_mended(inspection: &Inspection, mended: &[usize], id: ObjectId) -> bool {
-    let Some(record) = inspection.record(id) else {
-        return false;
-    };
-    let size = match record.kind {
-        Kind::InputNumber => INPUT_NUMBER_BYTES,
-        Kind::OutputNumber => OUTPUT_NUMBER_BYTES,
-        _ => 0,
-    };
-    let next = mended.partition_point(|at| *at < record.at);
-    match mended.get(next) {
-        Some(at) => *at < record.at.saturating_add(size),
-        None => false,
-    }
-}
-
-/// Whether a note is on bytes that could not be read.
-fn is_unread(note: &Note) -> bool {
-    matches!(note, Note::Unread { .. })
 }
 
 fn put_item<W: Write>(

@@ -5,13 +5,14 @@ ghost use Rattle.vt_inspector.specs.Statuses.{status_code};
 
 use crate::check::run_check;
 use crate::diff::run_diff;
-use crate::files::Open;
 use crate::needs::run_needs;
 use crate::why::run_why;
 use std::alloc::Global;
 use std::convert::AsStr;
 use std::io::{self, Write};
+use vt_files::{Open, Save};
 use vt_findings_text::{ColouredLine, Message};
+use vt_gallery::{Outcome, run_draw};
 use vt_inspect::{Inspection, Note};
 use vt_inspector_words::{Options, UsageError};
 
@@ -58,9 +59,9 @@ pub enum Look {
 }
 
 /// Runs the program on its words, of which the first is its name. `errors` gets a sentence for wrong words, for each
-/// file that cannot be read, and for a pool that the subcommand cannot judge. An error is returned if `out` cannot be written or memory
+/// file that cannot be read or written, and for a pool that the subcommand cannot judge or draw. An error is returned if `out` cannot be written or memory
 /// is refused.
-pub fn run<S: AsStr, F: Open, W: Write, E: Write>(
+pub fn run<S: AsStr, F: Open + Save, W: Write, E: Write>(
     alloc: Global,
     words: &[S],
     look: Look,
@@ -77,9 +78,19 @@ pub fn run<S: AsStr, F: Open, W: Write, E: Write>(
         Options::Why(options) => run_why(alloc, options, look, files, out, errors)?,
         Options::Needs(options) => run_needs(alloc, options, files, out, errors)?,
         Options::Diff(options) => run_diff(alloc, options, files, out, errors)?,
+        Options::Draw(options) => status_of(run_draw(alloc, options, files, out, errors)?),
     };
     out.flush()?;
     Ok(status)
+}
+
+/// The status of a run of `draw`.
+fn status_of(outcome: Outcome) -> Status {
+    match outcome {
+        Outcome::Clean => Status::Clean,
+        Outcome::Faulty => Status::Found,
+        Outcome::NotDrawn => Status::NotJudged,
+    }
 }
 
 fn refuse<W: Write, E: Write>(

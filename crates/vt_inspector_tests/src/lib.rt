@@ -4,6 +4,8 @@
 #[cfg(test)]
 mod circles;
 #[cfg(test)]
+mod pictures;
+#[cfg(test)]
 mod runs;
 #[cfg(test)]
 mod shelf;

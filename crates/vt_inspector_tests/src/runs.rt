@@ -45,7 +45,7 @@ fn expect_run(rt: &(impl Abort + AllocGlobal), wanted: &Run<'_>) -> Result<(), F
         rt.alloc(),
         words,
         Look::Plain,
-        &mut Shelf,
+        &mut Shelf::new(rt.alloc()),
         &mut out,
         &mut errors,
     )?;
@@ -200,7 +200,8 @@ fn the_standard_input_is_read_once(rt: HostRuntime) -> Result<(), Fail> {
         let mut out = Vec::new(rt.alloc());
         let mut errors = Vec::new(rt.alloc());
         let alloc = rt.alloc();
-        let ended = run(alloc, words, Look::Plain, &mut Shelf, &mut out, &mut errors)?;
+        let mut files = Shelf::new(alloc);
+        let ended = run(alloc, words, Look::Plain, &mut files, &mut out, &mut errors)?;
         assert_eq!(rt; ended, Status::NotJudged, "{words:?}");
         assert_eq!(rt; errors.as_slice(), GIVEN_TWICE.as_bytes(), "{words:?}");
     }
@@ -224,7 +225,8 @@ fn expect_coloured(
     let mut errors = Vec::new(rt.alloc());
     let alloc = rt.alloc();
     let look = Look::Coloured;
-    let ended = run(alloc, words, look, &mut Shelf, &mut out, &mut errors)?;
+    let mut files = Shelf::new(alloc);
+    let ended = run(alloc, words, look, &mut files, &mut out, &mut errors)?;
     assert_eq!(rt; ended, status);
     assert_eq!(rt; out.as_slice(), text.as_bytes());
     Ok(())

@@ -1,8 +1,9 @@
 //! The files of the tests, in memory.
 
-use std::io::{self, Error, ErrorKind};
-use vt_inspector::Open;
-use vt_testing::POOL;
+use std::alloc::Global;
+use std::io::{self, Error, ErrorKind, Write};
+use vt_inspector::{Open, Save};
+use vt_testing::{MASK, POOL, WORKING_SET};
 
 /// A pool with each warning but ExtraKeys. The record of the Container 100 comes twice.
 const WARNED: &[u8] = &[
@@ -64,13 +65,59 @@ const WIDE_KEY: &[u8] = &[
     20, 0, 14, 0xFF, 0xFF, 65, 0, 9, 0, 0, 0xFF, 0xFF, 0, // the Rectangle 20, at 39
 ];
 
+/// A pool with two masks, of which the alarm mask has a child that is missing.
+pub(crate) const MASKS: &[u8] = &[
+    0, 0, 0, 0, 1, 0xE8, 3, 0, 0, 0, // the Working Set 0
+    0xD0, 7, 2, 12, 0xFF, 0xFF, 0, 0, 1, 0, 9, 0, 0, 0, 0, 0, // the Alarm Mask 2000, at 10
+    0xE8, 3, 1, 4, 0xFF, 0xFF, 0, 0, // the Data Mask 1000, at 26
+];
+
+/// A pool whose active mask is its Container.
+const ASTRAY: &[u8] = &[
+    0, 0, 0, 0, 1, 100, 0, 0, 0, 0, // the Working Set 0
+    100, 0, 3, 50, 0, 20, 0, 0, 0, 0, // the Container 100, at 10
+    0xE8, 3, 1, 4, 0xFF, 0xFF, 0, 0, // the Data Mask 1000, at 20
+];
+
+/// Names with characters that are markup.
+const MARKUP: &[u8] = b"1000,\"work\" & <b>\n2000,alarm\n";
+
 /// Names in both forms, with lines that are passed over, one of them not UTF-8.
 const NAMES: &[u8] =
     b"// a comment\n100,old\n#define box 0x64 // of the mask\n\xFF,7\r\n300, label \r\n#define\n#define rate 201\n65536,big\n5,\n";
 
 /// The files of the tests.
 #[derive(Drop)]
-pub(crate) struct Shelf;
+pub(crate) struct Shelf {
+    /// The folders and files that were written, each below a line with its path.
+    pub(crate) written: Vec<u8>,
+}
+
+impl Shelf {
+    /// The files of the tests, of which none is written yet.
+    pub(crate) fn new(alloc: Global) -> Shelf {
+        Shelf {
+            written: Vec::new(alloc),
+        }
+    }
+}
+
+impl Save for Shelf {
+    fn save(&mut self, path: &str, bytes: &[u8]) -> io::Result<()> {
+        if path.starts_with("full") {
+            return Err(Error::from(ErrorKind::StorageFull));
+        }
+        writeln!(self.written, "== {path}")?;
+        self.written.write_all(bytes)
+    }
+
+    fn make_folder(&mut self, path: &str) -> io::Result<()> {
+        if path.starts_with("none") {
+            return Err(Error::from(ErrorKind::NotFound));
+        }
+        writeln!(self.written, "== {path} is made")
+    }
+}
 
 impl Open for Shelf {
     type Reader = &'static [u8];
@@ -85,6 +132,11 @@ impl Open for Shelf {
             "wide key" => Ok(WIDE_KEY),
             "recoloured" => Ok(RECOLOURED),
             "names" => Ok(NAMES),
+            "masks" | "pools/<\"&>.iop" => Ok(MASKS),
+            "astray" => Ok(ASTRAY),
+            "no mask" => Ok(WORKING_SET),
+            "no set" => Ok(MASK),
+            "markup" => Ok(MARKUP),
             "cut" => Ok(&WARNED[..35]),
             "cut macro" => Ok(CUT_MACRO),
             _ => Err(Error::from(ErrorKind::NotFound)),

@@ -1,5 +1,6 @@
 //! Runs that are refused memory: the bytes written by then begin the output, and a new run writes it all.
 
+use crate::pictures::picture_of;
 use crate::runs::WARNINGS;
 use crate::shelf::Shelf;
 use std::alloc::{AllocError, Global};
@@ -7,6 +8,8 @@ use std::io::ErrorKind;
 use std::process::Abort;
 use std::test::Fail;
 use vt_inspector::{Look, Status, run};
+use vt_needs::TERMINAL_SIZES;
+use vt_testing::POOL;
 
 /// An empty vector with capacity for the whole output, so that no writer is refused memory.
 fn empty_text(alloc: Global) -> Result<Vec<u8>, AllocError> {
@@ -23,7 +26,8 @@ fn run_on(
     out: &mut Vec<u8>,
     errors: &mut Vec<u8>,
 ) -> Result<Option<Status>, Fail> {
-    match run(alloc, words, Look::Plain, &mut Shelf, out, errors) {
+    let mut files = Shelf::new(alloc);
+    match run(alloc, words, Look::Plain, &mut files, out, errors) {
         Ok(Status::NotJudged) => Ok(None),
         Ok(status) => Ok(Some(status)),
         Err(error) if error.kind() == ErrorKind::OutOfMemory => Ok(None),
@@ -81,10 +85,24 @@ const RUNS: [Run<'static>; 4] = [
     (&["s", "diff", "pool", "w"], Status::Found, DIFFERENCES),
 ];
 
+/// The picture of the Data Mask 1000, also if it is first refused memory.
+fn picture(alloc: Global) -> Result<Vec<u8>, AllocError> {
+    match picture_of(alloc, POOL, TERMINAL_SIZES, 1000) {
+        Ok(picture) => Ok(picture),
+        Err(_) => picture_of(alloc, POOL, TERMINAL_SIZES, 1000),
+    }
+}
+
+fn expect_picture(rt: &(impl Abort + AllocGlobal)) -> Result<(), Fail> {
+    let picture = picture(rt.alloc())?;
+    let text = std::str::from_utf8(picture.as_slice()).unwrap_or("");
+    expect_run(rt, &(&["s", "draw", "pool"], Status::Clean, text))
+}
+
 #[test]
 fn want_of_memory(rt: HostRuntime) -> Result<(), Fail> {
     for wanted in RUNS.iter() {
         expect_run(&rt, wanted)?;
     }
-    Ok(())
+    expect_picture(&rt)
 }

@@ -4,9 +4,11 @@
 //! has the subcommands.
 #![tactic(auto)]
 
+mod draw;
 mod options;
 mod words;
 
+pub use draw::{DrawOptions, Drawing};
 pub use options::{
     CheckOptions, DiffOptions, Format, NeedsOptions, Options, UsageError, WhyOptions,
 };

@@ -3,6 +3,7 @@
 ghost use Rattle.std.specs.Prelude.{IsTrue, ◌↔◌};
 ghost use Rattle.vt_inspector_words.specs.Refusals.{AsksForHelp};
 
+use crate::draw::{DrawOptions, area_of, draw_options};
 use crate::words::command;
 use clap::error::ErrorKind;
 use clap::{ArgMatches, Error};
@@ -23,6 +24,8 @@ pub enum Options<'a> {
     Needs(NeedsOptions<'a>),
     /// `diff`.
     Diff(DiffOptions<'a>),
+    /// `draw`.
+    Draw(DrawOptions<'a>),
 }
 
 /// The form of the output.
@@ -93,6 +96,12 @@ pub enum UsageError<'a> {
     Words(Error),
     /// The value of `--size` is no width and height.
     Size(&'a str),
+    /// The value of `--key-size` is no width and height.
+    KeySize(&'a str),
+    /// The value of `--mask` is no ID, and not `all`.
+    Mask(&'a str),
+    /// All masks are to be drawn, but not into a folder.
+    AllMasks,
     /// The word for the event is no object's ID and event's number.
     Event(&'a str),
     /// There is no subcommand.
@@ -111,6 +120,9 @@ impl UsageError<'_> {
         match self {
             UsageError::Words(error) => !error.use_stderr(),
             UsageError::Size(_)
+            | UsageError::KeySize(_)
+            | UsageError::Mask(_)
+            | UsageError::AllMasks
             | UsageError::Event(_)
             | UsageError::NoSubcommand
             | UsageError::InputTwice
@@ -129,6 +141,20 @@ impl fmt::Display for UsageError<'_> {
                     "error: --size {value}: a width and a height are wanted, as 480x480"
                 )
             }
+            UsageError::KeySize(value) => {
+                writeln!(
+                    f,
+                    "error: --key-size {value}: a width and a height are wanted, as 64x64"
+                )
+            }
+            UsageError::Mask(value) => writeln!(
+                f,
+                "error: --mask {value}: the ID of a mask is wanted, as 1000, or all"
+            ),
+            UsageError::AllMasks => writeln!(
+                f,
+                "error: --mask all draws a file for each mask, so a folder is wanted, as --mask all --out masks"
+            ),
             UsageError::Event(value) => {
                 writeln!(
                     f,
@@ -137,7 +163,7 @@ impl fmt::Display for UsageError<'_> {
             }
             UsageError::NoSubcommand => writeln!(
                 f,
-                "error: a subcommand is wanted: check, why, needs or diff; segyolant --help says what each does"
+                "error: a subcommand is wanted: check, why, needs, diff or draw; segyolant --help says what each does"
             ),
             UsageError::InputTwice => writeln!(
                 f,
@@ -171,6 +197,7 @@ impl<'a> Options<'a> {
             Some(("why", matches)) => Options::Why(why_options(alloc, matches)?),
             Some(("needs", matches)) => Options::Needs(needs_options(alloc, matches)?),
             Some(("diff", matches)) => Options::Diff(diff_options(alloc, matches)?),
+            Some(("draw", matches)) => Options::Draw(draw_options(alloc, matches)?),
             Some((_, matches)) => Options::Check(check_options(alloc, matches)?),
             // clap refuses these words; its contract does not say so.
             None => return Err(UsageError::NoSubcommand),
@@ -188,6 +215,7 @@ impl<'a> Options<'a> {
             Options::Why(options) => (inputs_among(&[options.pool]), &options.names),
             Options::Needs(options) => (inputs_among(&[options.pool]), &options.names),
             Options::Diff(options) => (inputs_among(&[options.old, options.new]), &options.names),
+            Options::Draw(options) => (inputs_among(&[options.pool]), &options.names),
         };
         files.saturating_add(inputs_among(names.as_slice()))
     }
@@ -247,12 +275,9 @@ fn needs_options<'a>(
     alloc: Global,
     matches: &ArgMatches<'a>,
 ) -> Result<NeedsOptions<'a>, UsageError<'a>> {
-    let mask = match matches.get_str("size") {
-        None => TERMINAL_SIZES.mask,
-        Some(value) => match area(value) {
-            Some(area) => area,
-            None => return Err(UsageError::Size(value)),
-        },
+    let mask = match area_of(matches, "size", TERMINAL_SIZES.mask) {
+        Ok(area) => area,
+        Err(value) => return Err(UsageError::Size(value)),
     };
     let keys = matches.get_one::<u8>("keys").unwrap_or(TERMINAL_SIZES.keys);
     Ok(NeedsOptions {
@@ -267,7 +292,7 @@ fn needs_options<'a>(
 }
 
 /// The area of a text such as `480x480`.
-fn area(text: &str) -> Option<Area> {
+pub(crate) fn area(text: &str) -> Option<Area> {
     let (width, height) = text.split_once('x')?;
     let width = width.parse::<u16>().ok()?;
     let height = height.parse::<u16>().ok()?;
@@ -286,7 +311,7 @@ fn diff_options<'a>(
 }
 
 /// The values of an option, in their order.
-fn all_of<'a>(
+pub(crate) fn all_of<'a>(
     alloc: Global,
     matches: &ArgMatches<'a>,
     option: &str,

@@ -5,7 +5,7 @@ use std::alloc::{AllocError, Global};
 
 /// The text of help after the subcommands.
 const AFTER_HELP: &str = "\
-Status: 0 nothing found, 1 something found, 2 not judged (words, file, memory, or a pool that the subcommand cannot take)
+Status: 0 nothing found, 1 something found, 2 not judged or not drawn (words, file, memory, or a pool that the subcommand cannot take)
 
   segyolant check my.iop                                every fault, and warnings
   segyolant check my.iop --names my.h --format github   the same, by names, for a workflow
@@ -13,6 +13,8 @@ Status: 0 nothing found, 1 something found, 2 not judged (words, file, memory, o
   segyolant why my.iop 2002:24 --names my.h             what the event 24 of the object 2002 can cost, and why
   segyolant needs my.iop --size 240x240 --keys 6        whether the pool fits a terminal
   segyolant diff old.iop new.iop                        what is removed, changed and added
+  segyolant draw my.iop > my.svg                        the active mask with its soft keys, as SVG
+  segyolant draw my.iop --out masks --names my.h        all masks, and a page of them with every fault
 
 docs/POOLS.md has the codes.";
 
@@ -32,6 +34,16 @@ sum of those below it, up to 1000000000000.
 
   segyolant why my.iop 2002:24";
 
+/// The text of help after the options of `draw`.
+const AFTER_DRAW: &str = "\
+A pool with errors is drawn as far as it can be read. A folder gets a picture ID.svg of each mask, and index.html with all of them and
+the lines of check. Status: 0 drawn, 1 drawn but the pool has errors, 2 not drawn.
+
+  segyolant draw my.iop > my.svg                        the active mask
+  segyolant draw my.iop --mask 2000 --out alarm.svg     another
+  segyolant draw my.iop --out masks --names my.h        all, with masks/index.html
+  segyolant draw my.iop --size 240x240 --key-size 60x60 > small.svg";
+
 /// The command line.
 pub(crate) fn command<'a>(alloc: Global) -> Result<Command<'a>, AllocError> {
     Command::new(alloc, "segyolant")
@@ -45,7 +57,8 @@ pub(crate) fn command<'a>(alloc: Global) -> Result<Command<'a>, AllocError> {
         .subcommand(check(alloc)?)?
         .subcommand(why(alloc)?)?
         .subcommand(needs(alloc)?)?
-        .subcommand(diff(alloc)?)
+        .subcommand(diff(alloc)?)?
+        .subcommand(draw(alloc)?)
 }
 
 fn check<'a>(alloc: Global) -> Result<Command<'a>, AllocError> {
@@ -153,6 +166,51 @@ fn diff<'a>(alloc: Global) -> Result<Command<'a>, AllocError> {
                 .required(true),
         )?
         .arg(names(alloc))
+}
+
+fn draw<'a>(alloc: Global) -> Result<Command<'a>, AllocError> {
+    Command::new(alloc, "draw")
+        .about("Draws masks of an object pool with their soft keys, as SVG")
+        .after_help(AFTER_DRAW)
+        .arg(
+            Arg::new(alloc, "POOL")
+                .help("The file of the pool; - is the standard input")
+                .action(ArgAction::Set)
+                .required(true),
+        )?
+        .arg(names(alloc))?
+        .arg(
+            Arg::new(alloc, "mask")
+                .long("mask")
+                .value_name("ID|all")
+                .help(
+                    "The mask that is drawn, or all of them into a folder [default: the active mask; all for a folder]",
+                )
+                .action(ArgAction::Set),
+        )?
+        .arg(
+            Arg::new(alloc, "size")
+                .long("size")
+                .value_name("WxH")
+                .help("The terminal's area of a mask, in pixels [default: 480x480]")
+                .action(ArgAction::Set),
+        )?
+        .arg(
+            Arg::new(alloc, "key-size")
+                .long("key-size")
+                .value_name("WxH")
+                .help("The terminal's area of a key, in pixels [default: 64x64]")
+                .action(ArgAction::Set),
+        )?
+        .arg(
+            Arg::new(alloc, "out")
+                .long("out")
+                .value_name("PATH")
+                .help(
+                    "A file, if PATH ends in .svg, or a folder, which is made if it is not there [default: the standard output]",
+                )
+                .action(ArgAction::Set),
+        )
 }
 
 /// The formats of output.

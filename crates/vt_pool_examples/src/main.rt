@@ -6,7 +6,7 @@ use std::io::{self, BufWriter, Write};
 use vt_inspector::{Files, Look, run};
 
 /// The words of each run, the program's name first.
-const RUNS: [&[&str]; 38] = [
+const RUNS: [&[&str]; 50] = [
     &["segyolant", "check", "sprayer.iop", "--names", "sprayer.h"],
     &[
         "segyolant",
@@ -126,11 +126,41 @@ const RUNS: [&[&str]; 38] = [
         "fault-4-scale.iop",
         "fault-5-decimals.iop",
     ],
+    &["segyolant", "draw", "pool.iop"],
+    &["segyolant", "draw", "refusal-03-missing.iop"],
+    &[
+        "segyolant",
+        "draw",
+        "refusal-03-missing.iop",
+        "--mask",
+        "1000",
+        "--size",
+        "200x100",
+        "--key-size",
+        "40x40",
+    ],
+    &["segyolant", "draw", "refusal-01-no-working-set.iop"],
+    &[
+        "segyolant",
+        "draw",
+        "sprayer.iop",
+        "--names",
+        "sprayer.h",
+        "--mask",
+        "2002",
+    ],
+    &["segyolant", "draw", "fault-3-left-out-type.iop"],
+    &["segyolant", "draw", "missing.iop"],
+    &["segyolant", "draw", "pool.iop", "--out", "missing/masks"],
+    &["segyolant", "draw", "pool.iop", "--out", "sprayer.iop"],
+    &["segyolant", "draw", "pool.iop", "--mask", "all"],
+    &["segyolant", "draw", "pool.iop", "--key-size", "64"],
     &["segyolant"],
     &["segyolant", "check", "--format", "xml", "pool.iop"],
     &["segyolant", "--help"],
     &["segyolant", "check", "--help"],
     &["segyolant", "needs", "--help"],
+    &["segyolant", "draw", "--help"],
 ];
 
 fn main(rt: HostRuntime) -> io::Result<()> {

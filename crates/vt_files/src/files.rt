@@ -1,9 +1,7 @@
 //! The files of the system, and its standard input.
 
-use std::alloc::Global;
 use std::fs::{self, File};
-use std::io::{self, Error, ErrorKind, Read, Stdin, Write};
-use vt_findings_text::Names;
+use std::io::{self, Error, ErrorKind, Read, Stdin};
 
 /// Opens files by their paths.
 pub trait Open {
@@ -12,43 +10,13 @@ pub trait Open {
     fn open(&mut self, path: &str) -> io::Result<Self::Reader>;
 }
 
-/// The bytes of a file, or `None` if it cannot be read, which `errors` says.
-pub(crate) fn read_file<F: Open, E: Write>(
-    alloc: Global,
-    path: &str,
-    files: &mut F,
-    errors: &mut E,
-) -> io::Result<Option<Vec<u8>>> {
-    let mut bytes = Vec::new(alloc);
-    let read = match files.open(path) {
-        Ok(mut file) => file.read_to_end(&mut bytes),
-        Err(error) => Err(error),
-    };
-    match read {
-        Ok(_) => Ok(Some(bytes)),
-        Err(error) if error.kind() == ErrorKind::OutOfMemory => Err(error),
-        Err(error) => {
-            let _ = writeln!(errors, "segyolant: {path}: {error}");
-            Ok(None)
-        }
-    }
-}
+/// Writes files by their paths.
+pub trait Save {
+    /// Writes a file. What was in it is replaced.
+    fn save(&mut self, path: &str, bytes: &[u8]) -> io::Result<()>;
 
-/// The names in files, or `None` if one of them cannot be read, which `errors` says.
-pub(crate) fn read_names<F: Open, E: Write>(
-    alloc: Global,
-    paths: &[&str],
-    files: &mut F,
-    errors: &mut E,
-) -> io::Result<Option<Names>> {
-    let mut names = Names::new(alloc);
-    for path in paths {
-        match read_file(alloc, path, files, errors)? {
-            Some(bytes) => names.add(alloc, bytes.as_slice())?,
-            None => return Ok(None),
-        }
-    }
-    Ok(Some(names))
+    /// Makes a folder, unless it is there.
+    fn make_folder(&mut self, path: &str) -> io::Result<()>;
 }
 
 /// The files of the system. The path `-` is the standard input.
@@ -95,5 +63,20 @@ impl Open for Files<'_> {
             return Err(Error::from(ErrorKind::IsADirectory));
         }
         Ok(Opened::File(file))
+    }
+}
+
+impl Save for Files<'_> {
+    fn save(&mut self, path: &str, bytes: &[u8]) -> io::Result<()> {
+        fs::write(self.rt, path, bytes)
+    }
+
+    fn make_folder(&mut self, path: &str) -> io::Result<()> {
+        match fs::metadata(self.rt, path) {
+            Ok(found) if found.is_dir() => Ok(()),
+            Ok(_) => Err(Error::from(ErrorKind::NotADirectory)),
+            Err(error) if error.kind() == ErrorKind::NotFound => fs::create_dir(self.rt, path),
+            Err(error) => Err(error),
+        }
     }
 }

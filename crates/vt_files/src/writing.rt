@@ -1,0 +1,50 @@
+//! Files and folders that are written.
+
+use crate::files::Save;
+use std::io::{self, Error, ErrorKind, Write};
+
+/// Writes a file, and returns whether it is written; if not, `errors` says why.
+pub fn save_file<F: Save, E: Write>(
+    path: &str,
+    bytes: &[u8],
+    files: &mut F,
+    errors: &mut E,
+) -> io::Result<bool> {
+    is_done(files.save(path, bytes), path, errors)
+}
+
+/// Makes a folder unless it is there, and returns whether it is there then; if not, `errors` says why.
+pub fn make_folder<F: Save, E: Write>(
+    path: &str,
+    files: &mut F,
+    errors: &mut E,
+) -> io::Result<bool> {
+    is_done(files.make_folder(path), path, errors)
+}
+
+/// Whether a file or a folder is written; if not, `errors` says why. Want of memory stays an error.
+fn is_done<E: Write>(written: io::Result<()>, path: &str, errors: &mut E) -> io::Result<bool> {
+    match written {
+        Ok(()) => Ok(true),
+        Err(error) if error.kind() == ErrorKind::OutOfMemory => Err(error),
+        Err(error) => {
+            let _ = writeln!(
+                errors,
+                "segyolant: {path}: cannot be written: {error}{}",
+                cure_of(&error)
+            );
+            Ok(false)
+        }
+    }
+}
+
+/// What may be done about an error.
+fn cure_of(error: &Error) -> &'static str {
+    match error.kind() {
+        ErrorKind::NotFound => "; the folder around it is wanted first",
+        ErrorKind::NotADirectory => {
+            "; a folder is wanted there, and the path of one picture ends in .svg"
+        }
+        _ => "",
+    }
+}

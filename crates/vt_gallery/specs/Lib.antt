@@ -1,0 +1,3 @@
+-- The specifications that the contracts of vt_gallery use.
+pub mod Html
+pub mod Masks
