@@ -23,22 +23,23 @@ sine_most step = bounded sines 10000 refl step
 
 -- ---- the angles of an arc
 
-angle_first : (angle steps : ℕ) → 0 < steps → angles angle steps ≡ angle ∷ angles ((angle + 1) % 180) (steps - 1)
+angle_first : (turn angle steps : ℕ) → 0 < steps → angles turn angle steps ≡ angle ∷ angles turn ((angle + turn) % 180) (steps - 1)
 unfolding angles
-angle_first angle zero some = absurd (let never : 0 < 0 = some in omega (arith, never))
-angle_first angle (suc steps) some = let less : suc steps - 1 ≡ steps = omega arith in ap (λ n. angle ∷ angles ((angle + 1) % 180) n) (sym less)
+angle_first turn angle zero some = absurd (let never : 0 < 0 = some in omega (arith, never))
+angle_first turn angle (suc steps) some = let less : suc steps - 1 ≡ steps = omega arith in ap (λ n. angle ∷ angles turn ((angle + turn) % 180) n) (sym less)
 
 -- one more point is written
-pub next_angle : (f : ℕ → List ℕ) (angle steps : ℕ) (text longer total : List ℕ) → 0 < steps → longer ≡ text ++ f angle → text ++ flat_map f (angles angle steps) ≡ total
-    → longer ++ flat_map f (angles ((angle + 1) % 180) (steps - 1)) ≡ total
-next_angle f angle steps text longer total some made is =
-    let rest = flat_map f (angles ((angle + 1) % 180) (steps - 1)) in
-    ap (λ l. l ++ rest) made ∙ append_assoc text (f angle) rest ∙ sym (ap (λ l. text ++ flat_map f l) (angle_first angle steps some)) ∙ is
+pub next_angle : (f : ℕ → List ℕ) (turn angle steps : ℕ) (text longer total : List ℕ) → 0 < steps → longer ≡ text ++ f angle
+    → text ++ flat_map f (angles turn angle steps) ≡ total → longer ++ flat_map f (angles turn ((angle + turn) % 180) (steps - 1)) ≡ total
+next_angle f turn angle steps text longer total some made is =
+    let rest = flat_map f (angles turn ((angle + turn) % 180) (steps - 1)) in
+    ap (λ l. l ++ rest) made ∙ append_assoc text (f angle) rest ∙ sym (ap (λ l. text ++ flat_map f l) (angle_first turn angle steps some)) ∙ is
 
-pub last_angle : (f : ℕ → List ℕ) (angle steps : ℕ) (text longer total : List ℕ) → steps ≡ 0 → longer ≡ text ++ f angle → text ++ flat_map f (angles angle steps) ≡ total → longer ≡ total
+pub last_angle : (f : ℕ → List ℕ) (turn angle steps : ℕ) (text longer total : List ℕ) → steps ≡ 0 → longer ≡ text ++ f angle
+    → text ++ flat_map f (angles turn angle steps) ≡ total → longer ≡ total
 unfolding angles
-last_angle f angle steps text longer total none made is =
-    made ∙ ap (λ l. text ++ l) (sym (append-nil (f angle))) ∙ ap (λ n. text ++ flat_map f (angles angle n)) (sym none) ∙ is
+last_angle f turn angle steps text longer total none made is =
+    made ∙ ap (λ l. text ++ l) (sym (append-nil (f angle))) ∙ ap (λ n. text ++ flat_map f (angles turn angle n)) (sym none) ∙ is
 
 -- points along angles
 pub through : (f : Point → List ℕ) (g : ℕ → Point) (l : List ℕ) → flat_map f (map g l) ≡ flat_map (λ a. f (g a)) l

@@ -22,10 +22,9 @@ use Rattle.vt_svg.proofs.AppendedNodes.{ids_followed}
 use Rattle.vt_shapes.specs.declared.pen.Pen.{Pen}
 use Rattle.vt_shapes.specs.declared.shapes.fields.Field.{Field}
 use Rattle.vt_shapes.specs.declared.shapes.fields.Look.{Look}
-use Rattle.vt_shapes.specs.Arcs.{arc}
 use Rattle.vt_shapes.specs.Bits.{has_bit}
 use Rattle.vt_shapes.specs.Ellipses as ellipses
-use Rattle.vt_shapes.specs.Fields.{field_shapes, look_of, row_nodes, rows_of, texts, trimmed}
+use Rattle.vt_shapes.specs.Fields.{columns, field_shapes, look_of, most_rows, only_row, pieces, row_nodes, trimmed}
 use Rattle.vt_shapes.specs.Gauges as gauges
 use Rattle.vt_shapes.specs.Lines as lines
 use Rattle.vt_shapes.specs.Pens.{drawn_with, fill_of, pen_of}
@@ -47,6 +46,10 @@ all_below draws none (suc n) = both (gauges.each_below draws n) (draws n) (all_b
 
 -- ---- fields
 
+only_none : (look : Look) (field : Field) (text : List ℕ) → object_ids (only_row look field text) ≡ []
+only_none look field [] = refl
+only_none look field (c ∷ text) = refl
+
 rows : (look : Look) (field : Field) (i : ℕ) (texts : List (List ℕ)) → object_ids (row_nodes look field i texts) ≡ []
 rows look field i [] = refl
 rows look field i (row ∷ more) = rows look field (suc i) more
@@ -54,7 +57,9 @@ rows look field i (row ∷ more) = rows look field (suc i) more
 field_none : (look : Option Look) (field : Field) (text : Option (List ℕ)) → object_ids (field_shapes look field text) ≡ []
 field_none None field text = refl
 field_none (Some look) field None = refl
-field_none (Some look) field (Some text) = rows look field 0 (rows_of look field text)
+field_none (Some look) field (Some text) =
+    either field.wraps (row_nodes look field 0 (pieces (most_rows look field) (columns look field) text)) (only_row look field (trimmed text))
+    (rows look field 0 (pieces (most_rows look field) (columns look field) text)) (only_none look field (trimmed text))
 
 tick_none : (look : Option Look) (width : ℕ) (n : Option ℕ) → object_ids (fields.ticked look width n) ≡ []
 tick_none look width None = refl
@@ -99,7 +104,7 @@ arch_none : (store : ObjectMap) (o : ArchedBar) → object_ids (gauges.arch_part
 arch_none store o =
     let n = gauges.arch_value store o in
     let line = gauges.across_arch o o.colour n in
-    let filled = Along elements.Polyline (gauges.stroke o.colour (10 * o.bar_width)) (arc (gauges.ring o (5 * o.bar_width)) (gauges.first_angle o n) n) nodes.None in
+    let filled = Along elements.Polygon (attributes.Fill (paints.Colour o.colour) ∷ []) (gauges.between_edges o (gauges.first_angle o n) n) nodes.None in
     either (has_bit o.options 3) line filled refl refl
 
 pub no_ids : (sizes : Sizes) (store : ObjectMap) (id : ℕ) (object : Seen) → object_ids (shapes sizes store id object) ≡ []
@@ -133,16 +138,15 @@ no_ids sizes store id (objects.LinearBar o) =
     let ticks = if_set (has_bit o.options 2) (gauges.each_below (gauges.bar_tick o) o.ticks)
     (all_below (gauges.bar_tick o) (λ i. across_none o 0 10 (gauges.tick_at (gauges.length_of o) o.ticks i) 40) o.ticks) in
     let length = gauges.share (gauges.length_of o) o.min o.max (gauges.shown store o.target_variable o.target) in
-    both value (followed marked (followed target border)) (value_none store o)
-    (both marked (followed target border) ticks
-    (both target border (if_set (has_bit o.options 1) (gauges.bar_target store o) (across_none o o.target_colour 20 length 1000000))
-    (if_set (has_bit o.options 0) (gauges.bar_border o) refl)))
+    both value (followed border (followed marked target)) (value_none store o)
+    (both border (followed marked target) (if_set (has_bit o.options 0) (gauges.bar_border o) refl)
+    (both marked target ticks (if_set (has_bit o.options 1) (gauges.bar_target store o) (across_none o o.target_colour 20 length 1000000))))
 no_ids sizes store id (objects.ArchedBar o) =
     let value = gauges.arch_part store o in
     let target = when (has_bit o.options 1) (gauges.arch_target store o) in
     let border = when (has_bit o.options 0) (gauges.arch_border o) in
-    both value (followed target border) (arch_none store o)
-    (both target border (if_set (has_bit o.options 1) (gauges.arch_target store o) refl) (if_set (has_bit o.options 0) (gauges.arch_border o) refl))
+    both value (followed border target) (arch_none store o)
+    (both border target (if_set (has_bit o.options 0) (gauges.arch_border o) refl) (if_set (has_bit o.options 1) (gauges.arch_target store o) refl))
 no_ids sizes store id (objects.Picture o) = refl
 no_ids sizes store id (objects.WorkingSet o) = refl
 no_ids sizes store id (objects.DataMask o) = refl

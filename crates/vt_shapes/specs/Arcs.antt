@@ -35,14 +35,18 @@ whole_if_none steps = if steps == 0 then 180 else steps
 abbrev pub sweep : ℕ → ℕ → ℕ
 sweep start end = whole_if_none ((end % 180 + 180 - start % 180) % 180)
 
--- an angle, and those at some more steps
-unfoldable pub angles : ℕ → ℕ → List ℕ
-angles angle zero = angle ∷ []
-angles angle (suc steps) = angle ∷ angles ((angle + 1) % 180) steps
+-- an angle, and those at some more steps, each the same turn from the one before
+unfoldable pub angles : ℕ → ℕ → ℕ → List ℕ
+angles turn angle zero = angle ∷ []
+angles turn angle (suc steps) = angle ∷ angles turn ((angle + turn) % 180) steps
 
--- the points of an arc
+-- the points of an arc, counterclockwise
 abbrev pub arc : Oval → ℕ → ℕ → List Point
-arc o start steps = map (point_on o) (angles (start % 180) steps)
+arc o start steps = map (point_on o) (angles 1 (start % 180) steps)
+
+-- the points of an arc, clockwise
+abbrev pub arc_back : Oval → ℕ → ℕ → List Point
+arc_back o end steps = map (point_on o) (angles 179 (end % 180) steps)
 
 -- the ellipse is in the area of an object
 pub record IsOval (o : Oval) : Type 0 where

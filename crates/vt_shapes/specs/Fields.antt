@@ -51,11 +51,6 @@ unfoldable pub trimmed : List ℕ → List ℕ
 trimmed [] = []
 trimmed (c ∷ text) = behind c (trimmed text)
 
--- the rows of a text: as many as there are if it wraps, and else one of the characters of which a pixel may be in the field
-abbrev pub rows_of : Look → Field → List ℕ → List (List ℕ)
-rows_of look field text =
-    if field.wraps then pieces (most_rows look field) (columns look field) text else pieces 1 (columns look field + 1) text
-
 -- ---- the drawn rows
 
 -- the distance of a row from the left: at the left, in the middle or at the right
@@ -70,8 +65,8 @@ ink look field = if has_bit look.style 4 then field.colour else look.colour
 abbrev pub row_attributes : Look → Field → ℕ → List ℕ → List Attribute
 row_attributes look field i row =
     attributes.Left (indent field.justification field.area.width (look.cell.width * length row))
-    ∷ attributes.Top (look.cell.height * i + look.cell.height * 7 / 8)
-    ∷ attributes.FontSize look.cell.height ∷ attributes.TextLength (look.cell.width * length row) ∷ attributes.Flag flags.StretchedCharacters
+    ∷ attributes.Top (look.cell.height * i + look.cell.height * 19 / 24)
+    ∷ attributes.FontSize ((5 * look.cell.height + 3) / 6) ∷ attributes.TextLength (look.cell.width * length row) ∷ attributes.Flag flags.StretchedCharacters
     ∷ attributes.Fill (paints.Colour (ink look field)) ∷ attributes.Style (style_of look.style) ∷ attributes.Flag flags.Spaces ∷ []
 
 abbrev pub row_node : Look → Field → ℕ → List ℕ → Nodes → Nodes
@@ -84,10 +79,20 @@ abbrev pub row_nodes : Look → Field → ℕ → List (List ℕ) → Nodes
 row_nodes look field i [] = nodes.None
 row_nodes look field i (row ∷ rows) = row_node look field i (trimmed row) (row_nodes look field (suc i) rows)
 
+-- the only row of a text, cut behind the character of which a pixel may be in the field
+abbrev pub only_row : Look → Field → List ℕ → Nodes
+only_row look field [] = nodes.None
+only_row look field (c ∷ text) = alone look field 0 (take (columns look field + 1) (c ∷ text))
+
+-- the rows of a text: as many as there are if it wraps, and else one
+abbrev pub rows_of : Look → Field → List ℕ → Nodes
+rows_of look field text =
+    if field.wraps then row_nodes look field 0 (pieces (most_rows look field) (columns look field) text) else only_row look field (trimmed text)
+
 abbrev pub texts : Option Look → Field → Option (List ℕ) → Nodes
 texts None field text = nodes.None
 texts (Some look) field None = nodes.None
-texts (Some look) field (Some text) = row_nodes look field 0 (rows_of look field text)
+texts (Some look) field (Some text) = rows_of look field text
 
 -- the inside of a field: its own colour, that of the characters where they are inverted, or nothing
 abbrev pub background : Option Look → Field → Paint

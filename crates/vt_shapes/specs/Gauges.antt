@@ -1,5 +1,5 @@
 -- Meters and bars (docs/PROFILE.md, "Meters and bars"). Lengths are in tenths of a pixel.
-use Rattle.std.specs.Prelude.{ℕ, zero, suc, ◌+◌, ◌-◌, ◌*◌, ◌/◌, ◌%◌, min, max, Bool, not, nat_le, ◌==◌, if◌then◌else◌, List, [], ◌∷◌, Option, Some, None}
+use Rattle.std.specs.Prelude.{ℕ, zero, suc, ◌+◌, ◌-◌, ◌*◌, ◌/◌, ◌%◌, min, max, Bool, not, nat_le, ◌==◌, if◌then◌else◌, List, [], ◌∷◌, ◌++◌, Option, Some, None}
 use Rattle.vt_kinds.specs.declared.graphs.Meter.{Meter}
 use Rattle.vt_kinds.specs.declared.graphs.LinearBar.{LinearBar}
 use Rattle.vt_kinds.specs.declared.graphs.ArchedBar.{ArchedBar}
@@ -13,7 +13,7 @@ use Rattle.vt_svg.specs.declared.points.Point.{Point}
 use Rattle.vt_svg.specs.Elements.{Nodes, Along, Empty, followed, when}
 use Rattle.vt_svg.specs.Elements as nodes
 use Rattle.vt_shapes.specs.declared.shapes.arcs.Oval.{Oval}
-use Rattle.vt_shapes.specs.Arcs.{arc, point_on, sweep}
+use Rattle.vt_shapes.specs.Arcs.{arc, arc_back, point_on, sweep}
 use Rattle.vt_shapes.specs.Bits.{has_bit}
 use Rattle.vt_shapes.specs.Lines.{point}
 
@@ -137,12 +137,12 @@ bar_target store o = across o (stroke o.target_colour 20) (share (length_of o) o
 abbrev pub bar_border : LinearBar → Nodes
 bar_border o = Along elements.Polygon (stroke o.colour 10) (part_between o 0 (length_of o)) nodes.None
 
--- the value, the ticks, the target and the border
+-- the value, the border, the ticks and the target
 abbrev pub bar_shapes : ObjectMap → LinearBar → Nodes
 bar_shapes store o =
     followed (value_part store o)
-    (followed (when (has_bit o.options 2) (each_below (bar_tick o) o.ticks))
-    (followed (when (has_bit o.options 1) (bar_target store o)) (when (has_bit o.options 0) (bar_border o))))
+    (followed (when (has_bit o.options 0) (bar_border o))
+    (followed (when (has_bit o.options 2) (each_below (bar_tick o) o.ticks)) (when (has_bit o.options 1) (bar_target store o))))
 
 -- ---- arched bars
 
@@ -169,12 +169,16 @@ arch_value store o = share (arch_steps o) o.min o.max (shown store o.variable o.
 abbrev pub first_angle : ArchedBar → ℕ → ℕ
 first_angle o steps = if is_clockwise o then turned (is_clockwise o) o.start (arch_steps o) steps else o.start % 180
 
+-- along the outer edge of an arch from an angle, and back along the inner one
+abbrev pub between_edges : ArchedBar → ℕ → ℕ → List Point
+between_edges o start steps = arc (ring o 0) start steps ++ arc_back (ring o (10 * o.bar_width)) (start + steps) steps
+
 -- the arch up to the value, or a line at the value
 abbrev pub arch_part : ObjectMap → ArchedBar → Nodes
 arch_part store o =
     if has_bit o.options 3
     then across_arch o o.colour (arch_value store o)
-    else Along elements.Polyline (stroke o.colour (10 * o.bar_width)) (arc (ring o (5 * o.bar_width)) (first_angle o (arch_value store o)) (arch_value store o)) nodes.None
+    else Along elements.Polygon (attributes.Fill (paints.Colour o.colour) ∷ []) (between_edges o (first_angle o (arch_value store o)) (arch_value store o)) nodes.None
 
 abbrev pub arch_target : ObjectMap → ArchedBar → Nodes
 arch_target store o = across_arch o o.target_colour (share (arch_steps o) o.min o.max (shown store o.target_variable o.target))
@@ -185,7 +189,7 @@ arch_border o =
     Along elements.Polyline (stroke o.colour 10) (arc (ring o 0) o.start (arch_steps o))
     (Along elements.Polyline (stroke o.colour 10) (arc (ring o (10 * o.bar_width)) o.start (arch_steps o)) nodes.None)
 
--- the value, the target and the border
+-- the value, the border and the target
 abbrev pub arch_shapes : ObjectMap → ArchedBar → Nodes
 arch_shapes store o =
-    followed (arch_part store o) (followed (when (has_bit o.options 1) (arch_target store o)) (when (has_bit o.options 0) (arch_border o)))
+    followed (arch_part store o) (followed (when (has_bit o.options 0) (arch_border o)) (when (has_bit o.options 1) (arch_target store o)))

@@ -1,5 +1,5 @@
 -- Lines, rectangles and polygons (docs/PROFILE.md, "Shapes"). Lengths are in tenths of a pixel.
-use Rattle.std.specs.Prelude.{ℕ, ◌+◌, ◌*◌, ◌/◌, ◌%◌, ◌==◌, if◌then◌else◌, List, [], ◌∷◌, map}
+use Rattle.std.specs.Prelude.{ℕ, ◌+◌, ◌*◌, ◌/◌, ◌%◌, ◌==◌, if◌then◌else◌, List, [], ◌∷◌, ◌++◌, map}
 use Rattle.std.specs.FinMap as finite
 use Rattle.vt_kinds.specs.declared.entries.Point as corners
 use Rattle.vt_kinds.specs.declared.shapes.Line.{Line}
@@ -26,10 +26,14 @@ line_points pen o =
     then point (half pen) (half pen) ∷ point (far pen o.width) (far pen o.height) ∷ []
     else point (half pen) (far pen o.height) ∷ point (far pen o.width) (half pen) ∷ []
 
+-- a line alone, with ends that reach its corners
+abbrev pub line_attributes : Pen → List Attribute
+line_attributes pen = drawn_with paints.None pen ++ attributes.LineEnds pen.art ∷ []
+
 abbrev pub line_shapes : ObjectMap → Line → Nodes
 line_shapes store o =
     let pen = pen_of (finite.get store o.line_attributes) in
-    Along elements.Polyline (drawn_with paints.None pen) (line_points pen o) None
+    Along elements.Polyline (line_attributes pen) (line_points pen o) None
 
 -- ---- rectangles
 

@@ -66,6 +66,10 @@ line_art art width = flat_map (λ bit. bit_text (is_set art bit) width) (below 1
 abbrev pub dashed : List ℕ → ℕ → ℕ → List ℕ
 dashed before art width = if art == 0xFFFF then [] else before ++ (line_art art width ++ codes "\"")
 
+-- square ends for a solid line, flat ones for the others
+abbrev pub line_ends : ℕ → List ℕ
+line_ends art = if art == 0xFFFF then codes " stroke-linecap=\"square\"" else []
+
 abbrev pub flag_text : Flag → List ℕ
 flag_text flags.StretchedCharacters = codes " lengthAdjust=\"spacingAndGlyphs\""
 flag_text flags.PatternInPixels = codes " patternUnits=\"userSpaceOnUse\""
@@ -92,6 +96,7 @@ attribute_text (attributes.Fill paint) = painted (codes " fill=\"") paint
 attribute_text (attributes.Stroke paint) = painted (codes " stroke=\"") paint
 attribute_text (attributes.StrokeWidth n) = numbered (codes " stroke-width=\"") n
 attribute_text (attributes.LineArt art width) = dashed (codes " stroke-dasharray=\"") art width
+attribute_text (attributes.LineEnds art) = line_ends art
 attribute_text (attributes.FontSize n) = numbered (codes " font-size=\"") n
 attribute_text (attributes.TextLength n) = numbered (codes " textLength=\"") n
 attribute_text (attributes.ObjectId id) = numbered (codes " data-id=\"") id

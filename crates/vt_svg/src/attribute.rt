@@ -4,7 +4,7 @@ ghost use Rattle.std.specs.Prelude.{◌≡◌, ◌<◌, ◌++◌, OnOk, codes};
 ghost use Rattle.std.specs.List.{flat_map};
 ghost use Rattle.std.specs.Fmt.{decimal, signed_decimal};
 ghost use Rattle.vt_svg.specs.declared.attribute.Paint.TheVariants.{Pattern};
-ghost use Rattle.vt_svg.specs.Attributes.{attribute_text, bit_text, dashed, decoration, face, flag_text, is_set, line_art, numbered, paint_text, painted, paired, quoted, style_text};
+ghost use Rattle.vt_svg.specs.Attributes.{attribute_text, bit_text, dashed, decoration, face, flag_text, is_set, line_art, line_ends, numbered, paint_text, painted, paired, quoted, style_text};
 
 use crate::palette::push_colour;
 use itoa::Buffer;
@@ -88,6 +88,8 @@ pub enum Attribute {
     StrokeWidth(u32),
     /// The line art of lines, and their width: a bit is as long as the line is wide, drawn if it is set. The highest is first.
     LineArt(u16, u16),
+    /// The ends of lines, by their line art: square for a solid line, and flat for others.
+    LineEnds(u16),
     /// The height of characters.
     FontSize(u32),
     /// The length of a text.
@@ -131,6 +133,7 @@ pub(crate) fn push_attribute(out: &mut Vec<u8>, attribute: &Attribute) -> Result
         Attribute::Stroke(paint) => push_painted(out, b" stroke=\"", *paint),
         Attribute::StrokeWidth(width) => push_measure(out, b" stroke-width=\"", *width),
         Attribute::LineArt(art, width) => push_line_art(out, b" stroke-dasharray=\"", *art, *width),
+        Attribute::LineEnds(art) => push_line_ends(out, *art),
         Attribute::FontSize(size) => push_measure(out, b" font-size=\"", *size),
         Attribute::TextLength(length) => push_measure(out, b" textLength=\"", *length),
         Attribute::ObjectId(id) => push_numbered(out, b" data-id=\"", *id),
@@ -283,6 +286,16 @@ fn push_line_art(out: &mut Vec<u8>, before: &[u8], art: u16, width: u16) -> Resu
     out.extend_from_slice(before)?;
     push_bits(out, art, width)?;
     out.extend_from_slice(b"\"")
+}
+
+/// Appends square ends for a solid line.
+fn push_line_ends(out: &mut Vec<u8>, art: u16) -> Result<(), AllocError>
+    ensures { OnOk result (out.new.items ≡ out.old.items ++ line_ends art) }
+{
+    if art == SOLID {
+        return out.extend_from_slice(b" stroke-linecap=\"square\"");
+    }
+    Ok(())
 }
 
 fn push_bits(out: &mut Vec<u8>, art: u16, width: u16) -> Result<(), AllocError>

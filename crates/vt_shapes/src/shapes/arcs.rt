@@ -1,9 +1,9 @@
 //! Arcs of ellipses, in steps of 2 degrees.
 
-ghost use Rattle.std.specs.Prelude.{◌≡◌, ◌≤◌, ◌<◌, ◌+◌, ◌*◌, ◌/◌, ◌++◌, OnOk};
+ghost use Rattle.std.specs.Prelude.{◌≡◌, ◌≤◌, ◌<◌, ◌+◌, ◌*◌, ◌/◌, ◌%◌, ◌++◌, map, OnOk};
 ghost use Rattle.std.specs.List.{flat_map};
 ghost use Rattle.vt_svg.specs.Elements.{point_text};
-ghost use Rattle.vt_shapes.specs.Arcs.{arc, in_quarter, IsOval, part, point_on, sine, sweep};
+ghost use Rattle.vt_shapes.specs.Arcs.{angles, arc, arc_back, in_quarter, IsOval, part, point_on, sine, sweep};
 
 use std::alloc::AllocError;
 use vt_svg::{Point, push_point};
@@ -49,14 +49,52 @@ pub(crate) fn push_arc(
     requires { IsOval oval }
     ensures { OnOk result (text.new.items ≡ text.old.items ++ flat_map point_text (arc oval start steps)) }
 {
+    push_turned(text, oval, 1, start, steps)
+}
+
+/// Appends the points of an arc, from an angle clockwise: one for each step, and one more at the end.
+pub(crate) fn push_arc_back(
+    text: &mut Vec<u8>,
+    oval: Oval,
+    end: u8,
+    steps: u8,
+) -> Result<(), AllocError>
+    requires { IsOval oval }
+    ensures { OnOk result (text.new.items ≡ text.old.items ++ flat_map point_text (arc_back oval end steps)) }
+{
+    push_turned(text, oval, STEPS - 1, end, steps)
+}
+
+/// Appends points from an angle on, each the same turn from the one before: one for each step, and one more.
+fn push_turned(
+    text: &mut Vec<u8>,
+    oval: Oval,
+    turn: u8,
+    start: u8,
+    steps: u8,
+) -> Result<(), AllocError>
+    requires oval { IsOval oval }
+    requires turn { turn < 180 }
+    ensures { OnOk result (text.new.items ≡ text.old.items ++ flat_map point_text (map (point_on oval) (angles turn (start % 180) steps))) }
+{
     let mut step = start % STEPS;
     let mut left = steps;
     while left > 0 {
         push_point(text, point_on(oval, step))?;
-        step = (step + 1) % STEPS;
+        step = turned_by(turn, step);
         left -= 1;
     }
     push_point(text, point_on(oval, step))
+}
+
+/// An angle, turned by some steps.
+fn turned_by(turn: u8, step: u8) -> u8
+    requires turn { turn < 180 }
+    requires step { step < 180 }
+    ensures is { result ≡ (step + turn) % 180 }
+    ensures angle { result < 180 }
+{
+    ((u16::from(step) + u16::from(turn)) % u16::from(STEPS)) as u8
 }
 
 /// The point of an ellipse at an angle, counterclockwise from the right.

@@ -110,13 +110,29 @@ fn background(look: Option<Look>, field: Field) -> Paint
 }
 
 fn draw_rows(out: &mut Vec<u8>, look: Look, field: Field, shown: &[u8]) -> Result<(), AllocError>
-    ensures { OnOk result (out.new.items ≡ out.old.items ++ text_of (fields.row_nodes look field 0 (fields.rows_of look field shown.now))) }
+    ensures { OnOk result (out.new.items ≡ out.old.items ++ text_of (fields.rows_of look field shown.now)) }
 {
-    let columns = columns(look, field);
     if field.wraps {
-        return draw_pieces(out, look, field, most_rows(look, field), columns, shown);
+        let (rows, columns) = (most_rows(look, field), columns(look, field));
+        return draw_pieces(out, look, field, rows, columns, shown);
     }
-    draw_pieces(out, look, field, 1, columns + 1, shown)
+    draw_only_row(out, look, field, trimmed(shown))
+}
+
+/// Draws the only row of a text, as far as a pixel of a character may be in the field.
+fn draw_only_row(
+    out: &mut Vec<u8>,
+    look: Look,
+    field: Field,
+    characters: &[u8],
+) -> Result<(), AllocError>
+    ensures { OnOk result (out.new.items ≡ out.old.items ++ text_of (fields.only_row look field characters.now)) }
+{
+    if characters.is_empty() {
+        return Ok(());
+    }
+    let (row, _) = cut(characters, columns(look, field) + 1);
+    draw_row(out, look, field, 0, row)
 }
 
 /// The number of characters of a row that fit into a field, at least one.
@@ -185,8 +201,8 @@ fn draw_row(
         Element::Text,
         &[
             Attribute::Left(indent(field.justification, u32::from(field.area.width), long)),
-            Attribute::Top(height * row + height * 7 / 8),
-            Attribute::FontSize(height),
+            Attribute::Top(height * row + height * 19 / 24),
+            Attribute::FontSize((height * 5 + 3) / 6),
             Attribute::TextLength(long),
             Attribute::Flag(Flag::StretchedCharacters),
             Attribute::Fill(Paint::Colour(ink(look, field))),

@@ -6,7 +6,7 @@ ghost use Rattle.vt_svg.specs.declared.attribute.Paint.TheVariants.{None};
 ghost use Rattle.vt_svg.specs.declared.element.Element.TheVariants.{Polyline, Rect};
 ghost use Rattle.vt_svg.specs.Elements.{emptied, led_along, point_text, text_of};
 ghost use Rattle.vt_shapes.specs.Pens.{drawn_with, far, half};
-ghost use Rattle.vt_shapes.specs.Lines.{inside_attributes, line_points, line_shapes, middle, point, polygon_shapes, rectangle_shapes, sides};
+ghost use Rattle.vt_shapes.specs.Lines.{inside_attributes, line_attributes, line_points, line_shapes, middle, point, polygon_shapes, rectangle_shapes, sides};
 
 use crate::pen::{NO_PEN, Pen, fill_of, pen_of};
 use std::alloc::AllocError;
@@ -66,9 +66,17 @@ pub(crate) fn draw_line<S: Store>(
     along(
         text,
         Element::Polyline,
-        &drawn_with(Paint::None, pen),
+        &line_attributes(pen),
         &line_points(pen, line),
     )
+}
+
+/// The attributes of a line alone, whose ends reach its corners.
+fn line_attributes(pen: Pen) -> [Attribute; 5]
+    ensures { result ≡ line_attributes pen }
+{
+    let [fill, stroke, width, art] = drawn_with(Paint::None, pen);
+    [fill, stroke, width, art, Attribute::LineEnds(pen.art)]
 }
 
 /// The ends of a line: from the upper left corner to the lower right one, or from the lower left to the upper right.

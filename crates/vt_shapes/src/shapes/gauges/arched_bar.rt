@@ -1,20 +1,23 @@
 //! Arched bars.
 
-ghost use Rattle.std.specs.Prelude.{◌≡◌, ◌≤◌, ◌<◌, ◌++◌, OnOk};
+ghost use Rattle.std.specs.Prelude.{◌≡◌, ◌≤◌, [], ◌∷◌, ◌++◌, OnOk};
 ghost use Rattle.vt_svg.specs.Elements.{text_of, when, Along, None};
-ghost use Rattle.vt_svg.specs.declared.element.Element.TheVariants.{Polyline};
+ghost use Rattle.vt_svg.specs.declared.element.Element.TheVariants.{Polygon, Polyline};
+ghost use Rattle.vt_svg.specs.declared.attribute.Attribute.TheVariants.{Fill};
+ghost use Rattle.vt_svg.specs.declared.attribute.Paint.TheVariants.{Colour};
 ghost use Rattle.vt_shapes.specs.Arcs.{arc, IsOval};
-ghost use Rattle.vt_shapes.specs.Gauges.{across_arch, arch_border, arch_part, arch_shapes, arch_steps, arch_target, arch_value, first_angle, is_clockwise, ring, stroke, turned};
+ghost use Rattle.vt_shapes.specs.Gauges.{across_arch, arch_border, arch_part, arch_shapes, arch_steps, arch_target, arch_value, between_edges, first_angle, is_clockwise, ring, stroke, turned};
 ghost use Rattle.vt_shapes.specs.Bits.{has_bit};
 
 use crate::bits::has_bit;
-use crate::shapes::arcs::{Oval, STEPS, point_on, sweep};
+use crate::shapes::arcs::{Oval, STEPS, point_on, push_arc, push_arc_back, sweep};
 use crate::shapes::gauges::values::{
     draw_arc, draw_between, share, shown, stroke, turned,
 };
 use crate::shapes::lines::{half_of, tenths};
 use std::alloc::AllocError;
 use vt_objects::{ArchedBar, Store};
+use vt_svg::{Attribute, Element, Paint, close_points, open_points};
 
 /// The bit of the option that the border is drawn.
 const BORDER: u8 = 0;
@@ -35,7 +38,6 @@ const LINE_WIDTH: u32 = 20;
 const BORDER_WIDTH: u32 = 10;
 
 /// Draws an arched bar.
-#[tactic(auto, using(vt_svg::proofs::Followed::text_followed))]
 pub(crate) fn draw_arched_bar<S: Store>(
     text: &mut Vec<u8>,
     store: &S,
@@ -44,8 +46,8 @@ pub(crate) fn draw_arched_bar<S: Store>(
     ensures { OnOk result (text.new.items ≡ text.old.items ++ text_of (arch_shapes (S.contents store.now) bar.now)) }
 {
     draw_value(text, store, bar)?;
-    draw_target_if_set(text, store, bar)?;
-    draw_border_if_set(text, bar)
+    draw_border_if_set(text, bar)?;
+    draw_target_if_set(text, store, bar)
 }
 
 /// An ellipse at a distance from the edge of an arched bar.
@@ -130,14 +132,28 @@ fn draw_value<S: Store>(text: &mut Vec<u8>, store: &S, bar: &ArchedBar) -> Resul
     if has_bit(bar.options, AS_LINE) {
         draw_across(text, bar, bar.colour, steps)
     } else {
-        draw_arc(
-            text,
-            &stroke(bar.colour, tenths(bar.bar_width)),
-            ring(bar, half_of(bar.bar_width)),
-            first_angle(bar, steps),
-            steps as u8,
-        )
+        draw_between_edges(text, bar, first_angle(bar, steps), steps as u8)
     }
+}
+
+/// Draws the inside of an arch, from an angle counterclockwise: along the outer edge, and back along the inner one.
+fn draw_between_edges(
+    text: &mut Vec<u8>,
+    bar: &ArchedBar,
+    start: u8,
+    steps: u8,
+) -> Result<(), AllocError>
+    ensures { OnOk result (text.new.items ≡ text.old.items ++ text_of (Along Polygon (Fill (Colour bar.now.colour) ∷ []) (between_edges bar.now start steps) None)) }
+{
+    let last = (u16::from(start) + u16::from(steps)) % u16::from(STEPS);
+    open_points(
+        text,
+        Element::Polygon,
+        &[Attribute::Fill(Paint::Colour(bar.colour))],
+    )?;
+    push_arc(text, ring(bar, 0), start, steps)?;
+    push_arc_back(text, ring(bar, tenths(bar.bar_width)), last as u8, steps)?;
+    close_points(text)
 }
 
 /// Draws the line at the target, if the options have it.

@@ -48,9 +48,9 @@ pub(crate) fn draw_linear_bar<S: Store>(
     ensures { OnOk result (text.new.items ≡ text.old.items ++ text_of (bar_shapes (S.contents store.now) bar.now)) }
 {
     draw_value(text, store, bar)?;
+    draw_border_if_set(text, bar)?;
     draw_ticks_if_set(text, bar)?;
-    draw_target_if_set(text, store, bar)?;
-    draw_border_if_set(text, bar)
+    draw_target_if_set(text, store, bar)
 }
 
 /// The length of a bar up to its value.

@@ -9,8 +9,8 @@ pub returns : goal.returns
 returns g c =
     let o = c.args.bar.now in
     let store = g.S.Store.contents c.args.store.now in
-    on_ok_weaker c.draw_border_if_set.result
+    on_ok_weaker c.draw_target_if_set.result
     (λ made.
-    four_written (value_part store o) (when (has_bit o.options 2) (each_below (bar_tick o) o.ticks)) (when (has_bit o.options 1) (bar_target store o))
-    (when (has_bit o.options 0) (bar_border o)) _ _ _ _ _ c.in_ok-draw_value.ensures c.in_ok-draw_ticks_if_set.ensures c.in_ok-draw_target_if_set.ensures made)
-    c.draw_border_if_set.ensures
+    four_written (value_part store o) (when (has_bit o.options 0) (bar_border o)) (when (has_bit o.options 2) (each_below (bar_tick o) o.ticks))
+    (when (has_bit o.options 1) (bar_target store o)) _ _ _ _ _ c.in_ok-draw_value.ensures c.in_ok-draw_border_if_set.ensures c.in_ok-draw_ticks_if_set.ensures made)
+    c.draw_target_if_set.ensures
