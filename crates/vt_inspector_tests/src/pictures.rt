@@ -4,7 +4,7 @@ use crate::shelf::{MASKS, Shelf};
 use std::alloc::{AllocError, Global};
 use std::process::Abort;
 use std::test::Fail;
-use vt_inspect::inspect;
+use vt_inspect::{Inspection, inspect};
 use vt_inspector::{Look, Status, run};
 use vt_needs::{Area, Sizes, TERMINAL_SIZES};
 use vt_objects::ObjectId;
@@ -19,7 +19,16 @@ pub(crate) fn picture_of(
     mask: u16,
 ) -> Result<Vec<u8>, AllocError> {
     let inspection = inspect(alloc, pool)?;
-    let mut picture = draw(alloc, &inspection.objects, sizes, ObjectId::from_raw(mask))?;
+    picture_in(alloc, &inspection, sizes, ObjectId::from_raw(mask))
+}
+
+fn picture_in(
+    alloc: Global,
+    inspection: &Inspection,
+    sizes: Sizes,
+    mask: ObjectId,
+) -> Result<Vec<u8>, AllocError> {
+    let mut picture = draw(alloc, &inspection.objects, sizes, mask)?;
     picture.push(b'\n')?;
     Ok(picture)
 }
@@ -70,18 +79,21 @@ fn expect_run(rt: &(impl Abort + AllocGlobal), wanted: &Run<'_>) -> Result<(), F
     let mut out = Vec::new(alloc);
     let mut errors = Vec::new(alloc);
     let ended = run(alloc, words, Look::Plain, &mut files, &mut out, &mut errors)?;
-    assert_eq!(rt; errors.as_slice(), messages.as_bytes(), "{words:?}");
     assert_eq!(rt; ended, status, "{words:?}");
-    assert_eq!(rt;
-        out.as_slice(),
-        joined(alloc, shown)?.as_slice(),
-        "{words:?}"
-    );
-    assert_eq!(rt;
-        files.written.as_slice(),
-        joined(alloc, written)?.as_slice(),
-        "{words:?}"
-    );
+    expect_bytes(rt, words, errors.as_slice(), &[Part::Text(messages)])?;
+    expect_bytes(rt, words, out.as_slice(), shown)?;
+    expect_bytes(rt, words, files.written.as_slice(), written)
+}
+
+/// What a run wrote is what the parts come to.
+fn expect_bytes(
+    rt: &(impl Abort + AllocGlobal),
+    words: &[&str],
+    bytes: &[u8],
+    parts: &[Part<'_>],
+) -> Result<(), Fail> {
+    let wanted = joined(rt.alloc(), parts)?;
+    assert_eq!(rt; bytes, wanted.as_slice(), "{words:?}");
     Ok(())
 }
 
