@@ -1,2 +1,3 @@
 pub mod ClosedPictures
 pub mod Walked
+pub mod WrittenPictures

@@ -1,5 +1,5 @@
 -- Elements as text, and the pictures to which they refer.
-use Rattle.std.specs.Prelude.{ℕ, ◌*◌, max, Bool, nat_le, ◌==◌, ◌||◌, false, if◌then◌else◌, List, [], ◌∷◌, ◌++◌, length, Option, Some, None}
+use Rattle.std.specs.Prelude.{◌≡◌, ⊤, ℕ, ◌*◌, max, Bool, nat_le, ◌==◌, ◌||◌, false, if◌then◌else◌, List, [], ◌∷◌, ◌++◌, length, Option, Some, None}
 use Rattle.std.specs.FinMap as finite
 use Rattle.vt_kinds.specs.declared.entries.Child.{Child}
 use Rattle.vt_kinds.specs.Records.{Seen}
@@ -67,6 +67,11 @@ picture_of store id (Some object) = used_picture store id object
 abbrev pub is_in : ℕ → List ℕ → Bool
 is_in id [] = false
 is_in id (other ∷ ids) = id == other || is_in id ids
+
+-- no ID is there twice
+abbrev pub EachOnce : List ℕ → Type 0
+EachOnce [] = ⊤
+EachOnce (id ∷ ids) = (is_in id ids ≡ false) × EachOnce ids
 
 -- IDs with another behind them, unless it is one of them
 abbrev pub with_id : List ℕ → Option ℕ → List ℕ

@@ -1,12 +1,18 @@
 -- What pictures show, beside the drawings of their masks (docs/PROFILE.md, "The drawing").
-use Rattle.std.specs.Prelude.{◌≡◌, ℕ, List, ◌++◌, map, take, length}
+use Rattle.std.specs.Prelude.{◌≡◌, ℕ, true, List, ◌++◌, map, take, length, Some}
+use Rattle.std.specs.FinMap as finite
+use Rattle.std.specs.List.{AllByRecursion}
 use Rattle.vt_kinds.specs.declared.entries.Child.{Child}
+use Rattle.vt_kinds.specs.Records.{Seen}
 use Rattle.vt_stores.specs.Stores.{ObjectMap}
 use Rattle.vt_layout.specs.Walks.{elements, drawing}
 use Rattle.vt_needs.specs.declared.sizes.Sizes.{Sizes}
-use Rattle.vt_svg.specs.Elements.{Nodes, object_ids, text_of}
-use Rattle.vt_picture.specs.Documents.{IsPicture, most_marks, mask_marks, key_marks}
+use Rattle.vt_svg.specs.Elements.{Nodes, object_ids, references, text_of}
+use Rattle.vt_shapes.specs.Shapes.{shapes}
+use Rattle.vt_shapes.specs.UsedPictures.{used_picture}
+use Rattle.vt_picture.specs.Documents.{IsPicture, most_marks, mask_marks, key_marks, pictures}
 use Rattle.vt_picture.specs.Marks.{Marks, marks, count, cut, ids}
+use Rattle.vt_picture.specs.Pictures.{EachOnce, is_in, picture_of}
 
 -- The marks of entries have the IDs of their drawing, in its order.
 abbrev pub MarksAreDrawn : Type 0
@@ -27,3 +33,14 @@ ElementsAreTheDrawing = (sizes : Sizes) (store : ObjectMap) (mask : ℕ)
 abbrev pub PicturesShowTheDrawing : Type 0
 PicturesShowTheDrawing = (sizes : Sizes) (store : ObjectMap) (mask : ℕ) (text : List ℕ) → IsPicture sizes store mask text
     → (nodes : Nodes) × (text ≡ text_of nodes) × (object_ids nodes ≡ take most_marks (map (λ e. e.id) (drawing store mask)))
+
+-- Each Picture object to which an element of a picture refers is written, and none is written twice.
+pub record PicturesAreWrittenOnce : Type 0 where
+  pub once : (sizes : Sizes) (store : ObjectMap) (mask : ℕ) → EachOnce (pictures sizes store mask)
+  pub written : (sizes : Sizes) (store : ObjectMap) (mask id picture : ℕ) → is_in id (ids (mask_marks store mask) ++ ids (key_marks sizes store mask)) ≡ true
+      → picture_of store id (finite.get store id) ≡ Some picture → is_in picture (pictures sizes store mask) ≡ true
+
+-- The shapes of an object refer to no picture but the one that `used_picture` gives.
+abbrev pub ShapesReferToTheirPicture : Type 0
+ShapesReferToTheirPicture = (sizes : Sizes) (store : ObjectMap) (id : ℕ) (object : Seen)
+    → AllByRecursion (λ picture. used_picture store id object ≡ Some picture) (references (shapes sizes store id object))

@@ -4,7 +4,7 @@
 //! code meets by its contracts, and calling it changes nothing.
 #![tactic(auto)]
 
-ghost use Rattle.vt_picture_laws.specs.Laws.{CutMarksAreFirst, ElementsAreTheDrawing, MarksAreDrawn, PicturesShowTheDrawing};
+ghost use Rattle.vt_picture_laws.specs.Laws.{CutMarksAreFirst, ElementsAreTheDrawing, MarksAreDrawn, PicturesAreWrittenOnce, PicturesShowTheDrawing, ShapesReferToTheirPicture};
 
 /// The marks of entries have the IDs of their drawing, in its order.
 pub fn marks_are_drawn()
@@ -25,4 +25,14 @@ pub fn elements_are_the_drawing()
 /// those of the drawing of its mask, the first 2,000.
 pub fn pictures_show_the_drawing()
     ensures { PicturesShowTheDrawing }
+{}
+
+/// Each Picture object to which an element of a picture refers is written, and none is written twice.
+pub fn pictures_are_written_once()
+    ensures { PicturesAreWrittenOnce }
+{}
+
+/// The shapes of an object refer to no Picture object but the one that `used_picture` of vt_shapes gives.
+pub fn shapes_refer_to_their_picture()
+    ensures { ShapesReferToTheirPicture }
 {}

@@ -1,4 +1,5 @@
 pub mod Arcs
 pub mod Gauges
 pub mod NoIds
+pub mod References
 pub mod Rows

@@ -16,9 +16,9 @@ use Rattle.vt_svg.specs.declared.attribute.Attribute.TheVariants as attributes
 use Rattle.vt_svg.specs.declared.attribute.Paint.{Paint}
 use Rattle.vt_svg.specs.declared.attribute.Paint.TheVariants as paints
 use Rattle.vt_svg.specs.declared.element.Element.TheVariants as elements
-use Rattle.vt_svg.specs.Elements.{Nodes, Along, followed, object_ids, when}
+use Rattle.vt_svg.specs.Elements.{Nodes, Along, followed, object_id, object_ids, when}
 use Rattle.vt_svg.specs.Elements as nodes
-use Rattle.vt_svg.proofs.AppendedNodes.{ids_followed}
+use Rattle.vt_svg.proofs.AppendedNodes.{gathered_followed}
 use Rattle.vt_shapes.specs.declared.pen.Pen.{Pen}
 use Rattle.vt_shapes.specs.declared.shapes.fields.Field.{Field}
 use Rattle.vt_shapes.specs.declared.shapes.fields.Look.{Look}
@@ -38,7 +38,7 @@ either true m n first second = first
 either false m n first second = second
 
 both : (m n : Nodes) → object_ids m ≡ [] → object_ids n ≡ [] → object_ids (followed m n) ≡ []
-both m n first second = ids_followed m n ∙ ap₂ (λ a b. a ++ b) first second
+both m n first second = gathered_followed object_id m n ∙ ap₂ (λ a b. a ++ b) first second
 
 all_below : (draws : ℕ → Nodes) → ((i : ℕ) → object_ids (draws i) ≡ []) → (n : ℕ) → object_ids (gauges.each_below draws n) ≡ []
 all_below draws none zero = refl

@@ -1,7 +1,8 @@
 -- The lines and the insides of shapes (docs/PROFILE.md, "Lines and fillings").
-use Rattle.std.specs.Prelude.{ℕ, ◌-◌, ◌*◌, ◌==◌, if◌then◌else◌, max, List, [], ◌∷◌, Option, Some}
+use Rattle.std.specs.Prelude.{ℕ, ◌-◌, ◌*◌, ◌==◌, if◌then◌else◌, max, List, [], ◌∷◌, Option, Some, None}
 use Rattle.std.specs.FinMap as finite
 use Rattle.vt_kinds.specs.declared.attribute_objects.FillAttributes.{FillAttributes}
+use Rattle.vt_kinds.specs.declared.attribute_objects.LineAttributes.{LineAttributes}
 use Rattle.vt_kinds.specs.declared.object.Object.TheVariants as objects
 use Rattle.vt_kinds.specs.Records.{Seen}
 use Rattle.vt_stores.specs.Stores.{ObjectMap}
@@ -14,10 +15,17 @@ use Rattle.vt_shapes.specs.declared.pen.Pen.{Pen}
 abbrev pub no_pen : Pen
 no_pen = record { paint = paints.None; width = 0; art = 0xFFFF }
 
+abbrev pub line_attributes_in : Option Seen → Option LineAttributes
+line_attributes_in (Some (objects.LineAttributes o)) = Some o
+line_attributes_in _ = None
+
 -- the pen of line attributes; it draws nothing without them
+abbrev pub pen_from : Option LineAttributes → Pen
+pen_from None = no_pen
+pen_from (Some o) = record { paint = paints.Colour o.colour; width = o.width; art = o.line_art }
+
 abbrev pub pen_of : Option Seen → Pen
-pen_of (Some (objects.LineAttributes o)) = record { paint = paints.Colour o.colour; width = o.width; art = o.line_art }
-pen_of _ = no_pen
+pen_of object = pen_from (line_attributes_in object)
 
 -- a Picture as a pattern; nothing for another object
 abbrev pub pattern_of : ℕ → Option Seen → Paint
@@ -32,10 +40,17 @@ filling store o pen =
     else if o.fill_type == 3 then pattern_of o.pattern (finite.get store o.pattern)
     else paints.Colour o.colour
 
+abbrev pub fill_attributes_in : Option Seen → Option FillAttributes
+fill_attributes_in (Some (objects.FillAttributes o)) = Some o
+fill_attributes_in _ = None
+
 -- the inside of a shape with some fill attributes; empty without them
+abbrev pub fill_from : ObjectMap → Option FillAttributes → Pen → Paint
+fill_from store None pen = paints.None
+fill_from store (Some o) pen = filling store o pen
+
 abbrev pub fill_of : ObjectMap → Option Seen → Pen → Paint
-fill_of store (Some (objects.FillAttributes o)) pen = filling store o pen
-fill_of store _ pen = paints.None
+fill_of store object pen = fill_from store (fill_attributes_in object) pen
 
 -- a shape with its inside and its lines, whose widths are in tenths of a pixel
 abbrev pub drawn_with : Paint → Pen → List Attribute

@@ -5,21 +5,21 @@ use Rattle.std.specs.List.{flat_map}
 use Rattle.vt_svg.specs.declared.attribute.Attribute.{Attribute}
 use Rattle.vt_svg.specs.declared.element.Element.{Element}
 use Rattle.vt_svg.specs.declared.points.Point.{Point}
-use Rattle.vt_svg.specs.Elements.{Nodes, None, Characters, Along, Around, Empty, closed, emptied, followed, led_along, object_id, object_ids, opened, text_of}
+use Rattle.vt_svg.specs.Elements.{Nodes, None, Characters, Along, Around, Empty, closed, emptied, followed, gathered, led_along, object_id, object_ids, opened, text_of}
 use Rattle.vt_svg.proofs.Followed.{text_followed}
 
-pub ids_followed : (first later : Nodes) → object_ids (followed first later) ≡ object_ids first ++ object_ids later
-ids_followed None later = refl
-ids_followed (Characters characters rest) later = ids_followed rest later
-ids_followed (Along element attributes points rest) later =
-    ap (λ l. flat_map object_id attributes ++ l) (ids_followed rest later) ∙ sym (append_assoc (flat_map object_id attributes) (object_ids rest) (object_ids later))
-ids_followed (Empty element attributes rest) later =
-    ap (λ l. flat_map object_id attributes ++ l) (ids_followed rest later) ∙ sym (append_assoc (flat_map object_id attributes) (object_ids rest) (object_ids later))
-ids_followed (Around element attributes inside rest) later =
-    ap (λ l. flat_map object_id attributes ++ (object_ids inside ++ l)) (ids_followed rest later)
+pub gathered_followed : (held : Attribute → List ℕ) (first later : Nodes) → gathered held (followed first later) ≡ gathered held first ++ gathered held later
+gathered_followed held None later = refl
+gathered_followed held (Characters characters rest) later = gathered_followed held rest later
+gathered_followed held (Along element attributes points rest) later =
+    ap (λ l. flat_map held attributes ++ l) (gathered_followed held rest later) ∙ sym (append_assoc (flat_map held attributes) (gathered held rest) (gathered held later))
+gathered_followed held (Empty element attributes rest) later =
+    ap (λ l. flat_map held attributes ++ l) (gathered_followed held rest later) ∙ sym (append_assoc (flat_map held attributes) (gathered held rest) (gathered held later))
+gathered_followed held (Around element attributes inside rest) later =
+    ap (λ l. flat_map held attributes ++ (gathered held inside ++ l)) (gathered_followed held rest later)
     ∙ sym (
-    append_assoc (flat_map object_id attributes) (object_ids inside ++ object_ids rest) (object_ids later)
-    ∙ ap (λ l. flat_map object_id attributes ++ l) (append_assoc (object_ids inside) (object_ids rest) (object_ids later))
+    append_assoc (flat_map held attributes) (gathered held inside ++ gathered held rest) (gathered held later)
+    ∙ ap (λ l. flat_map held attributes ++ l) (append_assoc (gathered held inside) (gathered held rest) (gathered held later))
     )
 
 -- nodes with some IDs are behind a text
@@ -36,7 +36,7 @@ one_more ids more a b c first second = record {
   nodes = followed first.nodes second.nodes;
   is = second.is ∙ ap (λ l. l ++ text_of second.nodes) first.is ∙ append_assoc a (text_of first.nodes) (text_of second.nodes)
       ∙ ap (λ l. a ++ l) (sym (text_followed first.nodes second.nodes));
-  shown = ids_followed first.nodes second.nodes ∙ ap₂ (λ l m. l ++ m) first.shown second.shown;
+  shown = gathered_followed object_id first.nodes second.nodes ∙ ap₂ (λ l m. l ++ m) first.shown second.shown;
 }
 
 pub around : (element : Element) (attributes : List Attribute) (ids a b c : List ℕ) → AppendsNodes ids (a ++ opened element attributes) b → c ≡ b ++ closed element

@@ -3,7 +3,9 @@ use Rattle.std.specs.Prelude.{ℕ, Bool, if◌then◌else◌, List, [], ◌∷�
 use Rattle.std.specs.Fmt.{decimal}
 use Rattle.std.specs.List.{flat_map}
 use Rattle.vt_svg.specs.declared.attribute.Attribute.{Attribute}
-use Rattle.vt_svg.specs.declared.attribute.Attribute.TheVariants.{ObjectId}
+use Rattle.vt_svg.specs.declared.attribute.Attribute.TheVariants.{Fill, ObjectId, PictureShown, Stroke}
+use Rattle.vt_svg.specs.declared.attribute.Paint.{Paint}
+use Rattle.vt_svg.specs.declared.attribute.Paint.TheVariants.{Pattern}
 use Rattle.vt_svg.specs.declared.element.Element.{Element}
 use Rattle.vt_svg.specs.declared.element.Element.TheVariants as elements
 use Rattle.vt_svg.specs.declared.points.Point.{Point}
@@ -71,16 +73,34 @@ followed (Around element attributes inside rest) later = Around element attribut
 abbrev pub when : Bool → Nodes → Nodes
 when is_there nodes = if is_there then nodes else None
 
--- ---- the IDs of objects
+-- ---- IDs in attributes
+
+-- what attributes of nodes hold, in their order
+abbrev pub gathered : (Attribute → List ℕ) → Nodes → List ℕ
+gathered held None = []
+gathered held (Characters characters later) = gathered held later
+gathered held (Along element attributes points later) = flat_map held attributes ++ gathered held later
+gathered held (Empty element attributes later) = flat_map held attributes ++ gathered held later
+gathered held (Around element attributes inside later) = flat_map held attributes ++ (gathered held inside ++ gathered held later)
 
 abbrev pub object_id : Attribute → List ℕ
 object_id (ObjectId id) = id ∷ []
 object_id _ = []
 
--- the IDs in the attributes of nodes, in their order
+-- the IDs of objects
 abbrev pub object_ids : Nodes → List ℕ
-object_ids None = []
-object_ids (Characters characters later) = object_ids later
-object_ids (Along element attributes points later) = flat_map object_id attributes ++ object_ids later
-object_ids (Empty element attributes later) = flat_map object_id attributes ++ object_ids later
-object_ids (Around element attributes inside later) = flat_map object_id attributes ++ (object_ids inside ++ object_ids later)
+object_ids nodes = gathered object_id nodes
+
+abbrev pub pattern_id : Paint → List ℕ
+pattern_id (Pattern id) = id ∷ []
+pattern_id _ = []
+
+abbrev pub reference : Attribute → List ℕ
+reference (PictureShown id) = id ∷ []
+reference (Fill paint) = pattern_id paint
+reference (Stroke paint) = pattern_id paint
+reference _ = []
+
+-- the IDs of pictures that are shown or fill something
+abbrev pub references : Nodes → List ℕ
+references nodes = gathered reference nodes

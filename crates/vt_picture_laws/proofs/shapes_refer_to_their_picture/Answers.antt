@@ -1,0 +1,5 @@
+use Rattle.vt_shapes.proofs.References.{refers}
+use Rattle.vt_picture_laws.proofs.shapes_refer_to_their_picture.Goals as goal
+
+pub returns : goal.returns
+returns c = refers
