@@ -1,5 +1,5 @@
 -- The strokes of each byte, computed.
-use Rattle.std.proofs.Common.{◌≡◌, inl, inr, ◌<◌, ◌-◌, ◌/◌, ◌%◌, ◌^◌, ℕ, zero, suc, Bool, true, false, cond, List, [], ◌∷◌, length, refl, arith, ◌∙◌, sym, ap}
+use Rattle.std.proofs.Common.{◌≡◌, inl, inr, ◌<◌, ◌-◌, ◌/◌, ◌%◌, ◌^◌, ℕ, zero, suc, Bool, true, false, cond, List, [], ◌∷◌, length, refl, arith, ◌∙◌, ap}
 use Rattle.std.specs.Prelude.{◌==◌, ◌&&◌, filter}
 use Rattle.std.specs.List.{AllByRecursion}
 use Rattle.std.proofs.lemmas.Bool.{cases_lt, eqb-true, false≢true}
@@ -34,7 +34,7 @@ below_holds zero p is i less = absurd (omega (arith, less))
 below_holds (suc n) p is i less =
     let parts = both (p n) (every_below n p) is in
     elim (cases_lt i n) [
-      inl below ↦ below_holds n p parts.1 i below
+      | inl below ↦ below_holds n p parts.1 i below
       | inr above ↦ let last : i ≡ n = omega (arith, less, above) in ap p last ∙ parts.0
     ]
 

@@ -76,11 +76,7 @@ fn draw_symbol(
 }
 
 /// Appends a picture as a pattern that fills shapes, whose lengths are in tenths of a pixel.
-fn draw_tile(
-    text: &mut Vec<u8>,
-    id: ObjectId,
-    picture: &Picture<Vec<u8>>,
-) -> Result<(), AllocError>
+fn draw_tile(text: &mut Vec<u8>, id: ObjectId, picture: &Picture<Vec<u8>>) -> Result<(), AllocError>
     ensures { OnOk result (text.new.items ≡ text.old.items ++ tile id (seen_picture picture.now)) }
 {
     let width = Attribute::Width(tenths(picture.actual_width));

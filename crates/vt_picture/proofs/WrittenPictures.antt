@@ -1,5 +1,5 @@
 -- The pictures to which elements refer: each is among those that are written, and once.
-use Rattle.std.proofs.Common.{◌≡◌, ℕ, Bool, true, false, cond, eqb, List, [], ◌∷◌, ◌++◌, Option, Some, None, refl, sym, ap, subst, ◌∙◌}
+use Rattle.std.proofs.Common.{◌≡◌, ℕ, Bool, true, false, cond, List, [], ◌∷◌, ◌++◌, Option, Some, None, refl, sym, ap, subst, ◌∙◌}
 use Rattle.std.specs.Prelude.{◌==◌, ◌||◌}
 use Rattle.std.proofs.lemmas.Bool.{eq-eqb, eqb-true, false≢true, false_from_ne_true}
 use Rattle.std.proofs.lemmas.List.{append_assoc, append-nil}
@@ -117,7 +117,7 @@ module _ (store : ObjectMap) where
         → (b || is_in id (ids inside ++ ids later)) ≡ true → is_in p (with_pictures store list (steps_of (Mark entry inside later) ++ rest)) ≡ true
     at_mark entry inside later first second list rest true at is =
         let own : picture_of store entry.id (finite.get store entry.id) ≡ Some p =
-            subst (λ (i : ℕ). picture_of store i (finite.get store i) ≡ Some p) (eqb-true id entry.id at) refers in
+        subst (λ (i : ℕ). picture_of store i (finite.get store i) ≡ Some p) (eqb-true id entry.id at) refers in
         kept p ((steps_of inside ++ End ∷ steps_of later) ++ rest) (with_picture store list (Begin entry))
         (subst (λ (o : Option ℕ). is_in p (with_id list o) ≡ true) (sym own) (is_with p list))
     at_mark entry inside later first second list rest false at is =

@@ -1,5 +1,5 @@
 -- Elements in the order in which they begin and end.
-use Rattle.std.specs.Prelude.{◌≡◌, ℕ, ◌-◌, List, [], ◌∷◌, ◌++◌}
+use Rattle.std.specs.Prelude.{◌≡◌, ◌-◌, List, [], ◌∷◌, ◌++◌}
 use Rattle.vt_picture.specs.declared.walk.Step.{Step}
 use Rattle.vt_picture.specs.declared.walk.Step.TheVariants.{Begin, End}
 use Rattle.vt_picture.specs.declared.walk.Walk.{Walk}

@@ -130,11 +130,7 @@ pub(crate) fn add_pictures<S: Store>(
     Ok(())
 }
 
-fn add_picture<S: Store>(
-    ids: &mut Vec<ObjectId>,
-    store: &S,
-    step: &Step,
-) -> Result<(), AllocError>
+fn add_picture<S: Store>(ids: &mut Vec<ObjectId>, store: &S, step: &Step) -> Result<(), AllocError>
     ensures { OnOk result (ids.new.items ≡ with_picture (S.contents store.now) ids.old.items step.now) }
 {
     match step {

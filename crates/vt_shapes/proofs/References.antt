@@ -32,7 +32,7 @@ use Rattle.vt_shapes.specs.Ellipses as ellipses
 use Rattle.vt_shapes.specs.Fields.{background, columns, field_shapes, look_of, most_rows, only_row, pieces, row_nodes, texts, trimmed}
 use Rattle.vt_shapes.specs.Gauges as gauges
 use Rattle.vt_shapes.specs.Lines as lines
-use Rattle.vt_shapes.specs.Pens.{drawn_with, fill_attributes_in, fill_from, fill_of, filling, line_attributes_in, no_pen, pattern_of, pen_from, pen_of}
+use Rattle.vt_shapes.specs.Pens.{drawn_with, fill_attributes_in, fill_from, fill_of, line_attributes_in, no_pen, pattern_of, pen_from, pen_of}
 use Rattle.vt_shapes.specs.Shapes.{shapes}
 use Rattle.vt_shapes.specs.Texts as fields
 use Rattle.vt_shapes.specs.UsedPictures.{pattern_in, pattern_used, used_picture}

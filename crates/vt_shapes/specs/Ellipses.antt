@@ -1,5 +1,5 @@
 -- Ellipses (docs/PROFILE.md, "Shapes"). Lengths are in tenths of a pixel.
-use Rattle.std.specs.Prelude.{ℕ, ◌-◌, ◌*◌, ◌%◌, Bool, nat_lt, ◌==◌, ◌&&◌, ◌||◌, if◌then◌else◌, List, [], ◌∷◌, ◌++◌}
+use Rattle.std.specs.Prelude.{◌-◌, ◌*◌, ◌%◌, Bool, nat_lt, ◌==◌, ◌&&◌, ◌||◌, if◌then◌else◌, List, [], ◌∷◌, ◌++◌}
 use Rattle.std.specs.FinMap as finite
 use Rattle.vt_kinds.specs.declared.shapes.Ellipse.{Ellipse}
 use Rattle.vt_stores.specs.Stores.{ObjectMap}

@@ -1,5 +1,5 @@
 -- Meters and bars (docs/PROFILE.md, "Meters and bars"). Lengths are in tenths of a pixel.
-use Rattle.std.specs.Prelude.{ℕ, zero, suc, ◌+◌, ◌-◌, ◌*◌, ◌/◌, ◌%◌, min, max, Bool, not, nat_le, ◌==◌, if◌then◌else◌, List, [], ◌∷◌, ◌++◌, Option, Some, None}
+use Rattle.std.specs.Prelude.{ℕ, zero, suc, ◌+◌, ◌-◌, ◌*◌, ◌/◌, ◌%◌, min, max, Bool, not, nat_le, if◌then◌else◌, List, [], ◌∷◌, ◌++◌, Option, Some, None}
 use Rattle.vt_kinds.specs.declared.graphs.Meter.{Meter}
 use Rattle.vt_kinds.specs.declared.graphs.LinearBar.{LinearBar}
 use Rattle.vt_kinds.specs.declared.graphs.ArchedBar.{ArchedBar}

@@ -16,8 +16,8 @@ pub(super) const ONE_BIT: Case = Case {
     pool: &[
         0, 0, 0, 0, 1, 0xE8, 3, 0, 0, 0, // the Working Set 0
         0xE8, 3, 1, 7, 0xFF, 0xFF, 3, 0, // the Data Mask 1000, silver, with 3 children
-        0xF4, 1, 1, 0, 2, 0, 0xF4, 1, 3, 0, 4, 0, 20, 0, 5, 0, 5, 0,
-        0xF4, 1, 20, 8, 0, 8, 0, 1, 0, 0, 0, 0, 1, 0, 0, 0, 0, 0xF0, // the Picture 500, 8 by 1
+        0xF4, 1, 1, 0, 2, 0, 0xF4, 1, 3, 0, 4, 0, 20, 0, 5, 0, 5, 0, 0xF4, 1, 20, 8, 0, 8, 0, 1, 0,
+        0, 0, 0, 1, 0, 0, 0, 0, 0xF0, // the Picture 500, 8 by 1
         20, 0, 14, 0xFF, 0xFF, 4, 0, 4, 0, 0, 21, 0, 0, // the Rectangle 20
         21, 0, 25, 3, 9, 0xF4, 1, 0, // the Fill Attributes 21, with the pattern 500
     ],
@@ -41,8 +41,8 @@ pub(super) const FOUR_BITS: Case = Case {
     pool: &[
         0, 0, 0, 0, 1, 0xE8, 3, 0, 0, 0, // the Working Set 0
         0xE8, 3, 1, 7, 0xFF, 0xFF, 2, 0, // the Data Mask 1000, silver, with 2 children
-        0xF4, 1, 1, 0, 2, 0, 20, 0, 5, 0, 5, 0,
-        0xF4, 1, 20, 8, 0, 4, 0, 1, 0, 1, 1, 3, 2, 0, 0, 0, 0, 0x12, 0x3C, // the Picture 500
+        0xF4, 1, 1, 0, 2, 0, 20, 0, 5, 0, 5, 0, 0xF4, 1, 20, 8, 0, 4, 0, 1, 0, 1, 1, 3, 2, 0, 0, 0,
+        0, 0x12, 0x3C, // the Picture 500
         20, 0, 14, 0xFF, 0xFF, 4, 0, 4, 0, 0, 21, 0, 0, // the Rectangle 20
         21, 0, 25, 3, 9, 0xFF, 0xFF, 0, // the Fill Attributes 21, without a pattern
     ],
@@ -66,8 +66,8 @@ pub(super) const EIGHT_BITS: Case = Case {
     pool: &[
         0, 0, 0, 0, 1, 0xE8, 3, 0, 0, 0, // the Working Set 0
         0xE8, 3, 1, 7, 0xFF, 0xFF, 2, 0, // the Data Mask 1000, silver, with 2 children
-        0xF4, 1, 1, 0, 2, 0, 0xF5, 1, 5, 0, 5, 0,
-        0xF4, 1, 20, 3, 0, 3, 0, 2, 0, 2, 4, 0, 4, 0, 0, 0, 0, 4, 12, 1, 0, // the Picture 500
+        0xF4, 1, 1, 0, 2, 0, 0xF5, 1, 5, 0, 5, 0, 0xF4, 1, 20, 3, 0, 3, 0, 2, 0, 2, 4, 0, 4, 0, 0,
+        0, 0, 4, 12, 1, 0, // the Picture 500
         0xF5, 1, 20, 3, 0, 3, 0, 2, 0, 3, 0, 0, 1, 0, 0, 0, 0, 12, // the Picture 501
     ],
     picture: &[

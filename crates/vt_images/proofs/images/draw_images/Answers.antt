@@ -8,7 +8,7 @@ loop-id-preserved g c = λ last are.
     let store = g.S.Store.contents c.args.store.now in
     let l = c.loop-id in
     let shape : drop l.id-index c.args.ids.now ≡ c.id-item.result ∷ drop (l.id-index + 1) c.args.ids.now =
-        drop_more c.args.ids.now l.id-index c.id-item.result c.loop-id-test.true ∙ ap (λ (i : ℕ). i ∷ drop (l.id-index + 1) c.args.ids.now) (sym c.id-item.is) in
+    drop_more c.args.ids.now l.id-index c.id-item.result c.loop-id-test.true ∙ ap (λ (i : ℕ). i ∷ drop (l.id-index + 1) c.args.ids.now) (sym c.id-item.is) in
     l.invariant last (subst (λ (ids : List ℕ). AppendsImages store ids l.text.items last) (sym shape) (c.draw_image.new.text.items, c.in_ok-draw_image.ensures, are))
 
 pub returns : goal.returns

@@ -1,7 +1,6 @@
 use Rattle.std.proofs.Common.{rules, ◌≡◌, ℕ, suc, ◌-◌, Option, Some, None, List, [], ◌∷◌, ◌++◌, map, sym, ap, subst, ◌∙◌, arith}
-use Rattle.std.proofs.lemmas.Result.{on_ok_weaker}
 use Rattle.vt_kinds.specs.declared.entries.Child.{Child}
-use Rattle.vt_kinds.specs.Records.{Seen, seen}
+use Rattle.vt_kinds.specs.Records.{seen}
 use Rattle.vt_shown.specs.ShownElements.{resolves_to}
 use Rattle.vt_layout.specs.Drawings.{unmoved}
 use Rattle.vt_layout.proofs.EntriesOnPage.{none_within}
