@@ -3,7 +3,7 @@ ARGS ?= examples/seeder.log
 # The pool that is drawn.
 POOL ?= examples/sprayer.iop
 
-.PHONY: run sample picture help test examples wrong-bodies build bench bench-hostile bench-counts refuse-memory
+.PHONY: run sample picture pictures help test examples wrong-bodies build bench bench-hostile bench-counts refuse-memory
 
 # Runs the program by the toolchain's quick build, which proves nothing.
 run:
@@ -16,6 +16,10 @@ sample:
 # Draws the active mask of POOL as SVG on the standard output, by the quick build: make -s picture POOL=my.iop > my.svg
 picture:
 	@cd crates/vt_picture_examples && rt try < $(abspath $(POOL))
+
+# Makes the pictures of README.md and examples/kinds.md anew, by the proved program and Debian's rsvg-convert.
+pictures: build
+	@bash scripts/pictures.sh
 
 # Lists these commands.
 help:

@@ -1,10 +1,9 @@
 #!/usr/bin/env python3
 """Writes a pool that shows each kind of object that is drawn, with each bit of its options.
 
-    kinds_pool.py [--active MASK] [FOLDER]
+    kinds_pool.py [FOLDER]
 
-Writes kinds.iop and kinds.h to FOLDER, or else to examples/. MASK is the mask that is shown at first: 1000 to 1006, or the
-alarm 1010. examples/kinds.md says what is to be seen in each.
+Writes kinds.iop and kinds.h to FOLDER, or else to examples/. examples/kinds.md says what is to be seen in each of its masks.
 """
 import argparse
 import os
@@ -331,13 +330,12 @@ def soft_keys(name, object_id, ids):
 
 def main():
     words = argparse.ArgumentParser()
-    words.add_argument('--active', type=int, default=1000, choices=[*range(1000, 1007), 1010])
     words.add_argument('folder', nargs='?', default=os.path.join(os.path.dirname(os.path.abspath(__file__)), '..', 'examples'))
     words = words.parse_args()
     sign = add('designator', picture(arrow(12, 14), 1, 1, 14))
     label = add('designator', text(b'kinds', 40, 8, 1))
     children = [(sign, 4, 4), (label, 4, 30)]
-    add('kinds', (0, pack('<BBHBBB', WHITE, 1, words.active, len(children), 0, 1) + listed(children) + b'en'), 1)
+    add('kinds', (0, pack('<BBHBBB', WHITE, 1, 1000, len(children), 0, 1) + listed(children) + b'en'), 1)
     ids = keys()
     texts().add(1000, soft_keys('texts', 4000, ids))
     for n, mask in enumerate((inputs, shapes, meters, bars, pictures, areas)):
