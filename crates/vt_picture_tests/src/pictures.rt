@@ -1,5 +1,6 @@
 //! Tests of the pictures of masks.
 
+mod bounds;
 mod images;
 mod want_of_memory;
 
