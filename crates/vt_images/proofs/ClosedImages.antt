@@ -58,7 +58,7 @@ image_behind id (Some p) old new is =
     let shown = around elements.Symbol (symbol_attributes id p) [] old (with_pixels p (format_of p.format) begun' runs) (with_symbol id p runs old)
     (pixels_behind p (format_of p.format) runs begun') refl in
     let both = one_more [] [] old (with_symbol id p runs old) _ shown (tile_behind id p (with_symbol id p runs old)) in
-    subst (AppendsNodes [] old) (sym is.2) both
+    subst (AppendsNodes [] old) (sym is.3) both
 
 pub images_behind : (store : ObjectMap) (ids : List ℕ) (old new : List ℕ) → AppendsImages store ids old new → AppendsNodes [] old new
 images_behind store [] old new is = subst (AppendsNodes [] old) (sym is) (same old)

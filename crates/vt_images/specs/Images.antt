@@ -6,7 +6,7 @@ use Rattle.vt_kinds.specs.declared.pictures.Picture.{Picture}
 use Rattle.vt_kinds.specs.Records.{Seen}
 use Rattle.vt_raster.specs.declared.run.Run.{Run}
 use Rattle.vt_raster.specs.Formats.{format_of}
-use Rattle.vt_raster.specs.Rasters.{IsRaster}
+use Rattle.vt_raster.specs.Rasters.{AreFewRuns, IsRaster}
 use Rattle.vt_stores.specs.Stores.{ObjectMap}
 use Rattle.vt_svg.specs.declared.attribute.Attribute.{Attribute}
 use Rattle.vt_svg.specs.declared.attribute.Attribute.TheVariants as attributes
@@ -47,7 +47,7 @@ picture_in _ = None
 -- A Picture is behind a text, with its pixels and as a pattern. Without one the text stays.
 abbrev pub AppendsImage : ℕ → Option (Picture (List ℕ)) → List ℕ → List ℕ → Type 0
 AppendsImage id None old new = new ≡ old
-AppendsImage id (Some p) old new = (runs : List Run) × IsRaster p runs × (new ≡ with_symbol id p runs old ++ tile id p)
+AppendsImage id (Some p) old new = (runs : List Run) × IsRaster p runs × AreFewRuns p runs × (new ≡ with_symbol id p runs old ++ tile id p)
 
 -- the pictures of some IDs are behind a text, one after another
 abbrev pub AppendsImages : ObjectMap → List ℕ → List ℕ → List ℕ → Type 0

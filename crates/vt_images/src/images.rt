@@ -11,7 +11,7 @@ use vt_objects::{Object, ObjectId, Picture, Store};
 use vt_raster::{Run, runs};
 use vt_svg::{Attribute, Element, Flag, Paint, close, empty, open};
 
-/// Appends Picture objects as symbols and as patterns, in the order of their IDs in `ids`. Nothing is appended for an object that is no
+/// Appends Picture objects as symbols and as patterns, in the order of `ids`. Nothing is appended for an object that is no
 /// Picture, and no pixels are appended behind 12,000,000 bytes of text.
 ///
 /// # Errors

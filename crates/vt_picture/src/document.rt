@@ -3,6 +3,7 @@
 ghost use Rattle.std.specs.Prelude.{◌≡◌, ◌≤◌, ◌+◌, ◌++◌, ◌-◌, length, IfOk, OnOk, Some};
 ghost use Rattle.std.specs.FinMap as finite;
 ghost use Rattle.vt_kinds.specs.Records.{seen};
+ghost use Rattle.vt_chains.specs.Limits.{terminal};
 ghost use Rattle.vt_shown.specs.ShownElements.{soft_keys};
 ghost use Rattle.vt_svg.specs.declared.element.Element.TheVariants.{Rect, Svg};
 ghost use Rattle.vt_svg.specs.Elements.{emptied, opened};
@@ -34,7 +35,8 @@ const GAP: u64 = 8;
 const FARTHEST: u64 = 32_767;
 
 /// Draws a mask with its soft keys as SVG: its elements on its background, and the keys in columns to its right, at most 2,000
-/// elements in all, and at most some 13 MB. Without a mask the picture is empty (ISO 11783-6; docs/PROFILE.md, "Pictures").
+/// elements in all, 32 within each other, and some 12.6 MB. Without an object of that ID nothing is on the picture, and of an object that is
+/// no mask the elements within it are, on no background (ISO 11783-6; docs/PROFILE.md, "Pictures").
 ///
 /// # Errors
 /// `AllocError` when an allocation is refused.
@@ -77,7 +79,7 @@ fn walk_mask<S: Store>(alloc: Global, store: &S, mask: ObjectId) -> Result<Walk,
 
 /// Walks through the elements within a mask. Without a mask there are none.
 fn walk_inside<S: Store>(store: &S, mask: ObjectId, walk: &mut Walk) -> Result<(), AllocError>
-    ensures { OnOk result (Walks (marks 32 (S.contents store.now) (mask_entries (S.contents store.now) mask)) walk.old walk.new) }
+    ensures { OnOk result (Walks (marks terminal.inclusions (S.contents store.now) (mask_entries (S.contents store.now) mask)) walk.old walk.new) }
 {
     match store.get(mask) {
         Some(object) => walk_within(store, MOST_INCLUSIONS, object, walk),
@@ -92,7 +94,7 @@ fn walk_keys<S: Store>(
     places: &[Child],
     left: u16,
 ) -> Result<Walk, AllocError>
-    ensures { IfOk result (λ walk. walk.steps.items ≡ steps_of (cut left (marks 32 (S.contents store.now) places.now))) }
+    ensures { IfOk result (λ walk. walk.steps.items ≡ steps_of (cut left (marks terminal.inclusions (S.contents store.now) places.now))) }
 {
     let mut walk = Walk {
         steps: Vec::new(alloc),

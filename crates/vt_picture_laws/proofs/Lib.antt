@@ -1,4 +1,5 @@
 pub mod DrawnMarks
 pub mod FirstMarks
 pub mod KeyPlaces
+pub mod PlacedMarks
 pub mod WholePictures

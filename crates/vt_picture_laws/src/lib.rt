@@ -4,9 +4,9 @@
 //! code meets by its contracts, and calling it changes nothing.
 #![tactic(auto)]
 
-ghost use Rattle.vt_picture_laws.specs.Laws.{CutMarksAreFirst, ElementsAreTheDrawing, MarksAreDrawn, PicturesAreWrittenOnce, PicturesShowTheDrawing, ShapesReferToTheirPicture};
+ghost use Rattle.vt_picture_laws.specs.Laws.{CutMarksAreFirst, ElementsAreInPlace, ElementsAreTheDrawing, MarksAreDrawn, PicturesAreWrittenOnce, PicturesShowTheDrawing, ShapesReferToTheirPicture};
 
-/// The marks of entries have the IDs of their drawing, in its order.
+/// The marks of entries are the elements of their drawing, in its order and at its places.
 pub fn marks_are_drawn()
     ensures { MarksAreDrawn }
 {}
@@ -14,6 +14,11 @@ pub fn marks_are_drawn()
 /// The first marks have the first IDs, one for each mark.
 pub fn cut_marks_are_first()
     ensures { CutMarksAreFirst }
+{}
+
+/// The elements of a mask are at the places of its drawing, the first 2,000.
+pub fn elements_are_in_place()
+    ensures { ElementsAreInPlace }
 {}
 
 /// The elements of a mask and of its soft keys have the IDs of their drawing in its order, the first 2,000.
@@ -32,7 +37,8 @@ pub fn pictures_are_written_once()
     ensures { PicturesAreWrittenOnce }
 {}
 
-/// The shapes of an object refer to no Picture object but the one that `used_picture` of vt_shapes gives.
+/// The shapes of an object refer to no Picture object but the one that `used_picture` of vt_shapes gives, and those of a Picture object to
+/// itself, once.
 pub fn shapes_refer_to_their_picture()
     ensures { ShapesReferToTheirPicture }
 {}

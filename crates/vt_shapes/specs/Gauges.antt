@@ -111,6 +111,10 @@ across o attributes n most =
     then line attributes (point (along_axis o n) 0) (point (along_axis o n) (min most (10 * o.height)))
     else line attributes (point 0 (along_axis o n)) (point (min most (10 * o.width)) (along_axis o n))
 
+-- a length that no bar has, in tenths of a pixel
+abbrev pub all_across : ℕ
+all_across = 1000000
+
 -- the part of a bar between two lengths
 abbrev pub part_between : LinearBar → ℕ → ℕ → List Point
 part_between o m n =
@@ -125,14 +129,14 @@ value_length store o = share (length_of o) o.min o.max (shown store o.variable o
 abbrev pub value_part : ObjectMap → LinearBar → Nodes
 value_part store o =
     if has_bit o.options 3
-    then across o (stroke o.colour 20) (value_length store o) 1000000
+    then across o (stroke o.colour 20) (value_length store o) all_across
     else Along elements.Polygon (attributes.Fill (paints.Colour o.colour) ∷ []) (part_between o 0 (value_length store o)) nodes.None
 
 abbrev pub bar_tick : LinearBar → ℕ → Nodes
 bar_tick o i = across o (stroke 0 10) (tick_at (length_of o) o.ticks i) 40
 
 abbrev pub bar_target : ObjectMap → LinearBar → Nodes
-bar_target store o = across o (stroke o.target_colour 20) (share (length_of o) o.min o.max (shown store o.target_variable o.target)) 1000000
+bar_target store o = across o (stroke o.target_colour 20) (share (length_of o) o.min o.max (shown store o.target_variable o.target)) all_across
 
 abbrev pub bar_border : LinearBar → Nodes
 bar_border o = Along elements.Polygon (stroke o.colour 10) (part_between o 0 (length_of o)) nodes.None

@@ -2,7 +2,7 @@
 //!
 //! - `draw_shapes` appends the shapes of an object, in the coordinates of its own area. Those of a Picture, and patterns, are references to
 //!   pictures that are written elsewhere.
-//! - `used_picture` returns the Picture to which the shapes of an object refer.
+//! - `used_picture` returns the Picture to which the shapes of an object may refer.
 //!
 //! docs/PROFILE.md, "Pictures", says how each kind looks.
 #![tactic(auto)]

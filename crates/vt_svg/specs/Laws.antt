@@ -4,14 +4,22 @@ use Rattle.std.specs.Fmt.{decimal}
 use Rattle.std.specs.Str.Parse.{IsNumeral}
 use Rattle.vt_svg.specs.Characters.{is_control, is_markup, escaped}
 
--- a reference in decimal to a number that is no control character's: that of the character, unless it is one of them
+-- the character itself, which is printable ASCII and none of `"`, `&`, `<` and `>`
+pub record IsItself (c : ℕ) (text : List ℕ) : Type 0 where
+  pub is : text ≡ c ∷ []
+  pub ascii : c < 128
+  pub plain : is_markup c ≡ false
+  pub shown : is_control c ≡ false
+
+-- a reference in decimal to a character of Latin 1 that is no control character: to itself, unless it is one
 pub record IsReference (c : ℕ) (text : List ℕ) : Type 0 where
   pub n : ℕ
+  pub latin : n < 256
   pub is : text ≡ codes "&#" ++ (decimal n ++ codes ";")
   pub numeral : IsNumeral 10 (decimal n)
   pub shown : is_control n ≡ false
   pub own : is_control c ≡ false → n ≡ c
 
--- A character is itself, and then none of `"`, `&`, `<` and `>`, or else a reference.
+-- A character of Latin 1 is itself or a reference.
 abbrev pub CharactersAreNoMarkup : Type 0
-CharactersAreNoMarkup = (c : ℕ) → c < 256 → ((escaped c ≡ c ∷ []) × (is_markup c ≡ false)) ⊎ IsReference c (escaped c)
+CharactersAreNoMarkup = (c : ℕ) → c < 256 → IsItself c (escaped c) ⊎ IsReference c (escaped c)

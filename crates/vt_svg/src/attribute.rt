@@ -55,12 +55,12 @@ pub struct Style {
     pub crossed_out: bool,
 }
 
-/// An attribute with its value. Lengths are in pixels.
+/// An attribute with its value. Lengths are in the coordinates of the area around the element: pixels, unless the area has others.
 #[derive(Clone, Copy, Debug)]
 pub enum Attribute {
-    /// The left edge.
+    /// The left edge, which may be left of the area around.
     X(i32),
-    /// The upper edge.
+    /// The upper edge, which may be above the area around.
     Y(i32),
     /// The left edge of what lies within its area.
     Left(u32),
@@ -321,10 +321,10 @@ fn push_bit(out: &mut Vec<u8>, is_set: bool, width: u16) -> Result<(), AllocErro
     ensures { OnOk result (out.new.items ≡ out.old.items ++ bit_text is_set width) }
 {
     if is_set {
-        push_id(out, width)?;
+        push_natural(out, u32::from(width))?;
         return out.extend_from_slice(b" 0 ");
     }
     out.extend_from_slice(b"0 ")?;
-    push_id(out, width)?;
+    push_natural(out, u32::from(width))?;
     out.extend_from_slice(b" ")
 }
