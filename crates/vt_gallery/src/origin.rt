@@ -66,15 +66,14 @@ fn read_state<F: Open, E: Write>(
     match pool_left(alloc, set, &mut log) {
         Ok(bytes) => Ok(Some(bytes)),
         Err(StateFault::Memory) => Err(Error::from(ErrorKind::OutOfMemory)),
-        Err(StateFault::Replay(ReplayFault::Read)) => match log.into_failure() {
+        Err(fault) => match log.into_failure() {
             Some(error) => not_read(path, error, errors),
-            None => Ok(None),
+            None => {
+                let (path, cure) = cure_of(fault, path, start);
+                let _ = writeln!(errors, "segyolant: {path}: {fault}{cure}");
+                Ok(None)
+            }
         },
-        Err(fault) => {
-            let (path, cure) = cure_of(fault, path, start);
-            let _ = writeln!(errors, "segyolant: {path}: {fault}{cure}");
-            Ok(None)
-        }
     }
 }
 
@@ -91,7 +90,7 @@ fn cure_of<'a>(
         ),
         (StateFault::NothingShown, Some(_)) => (
             log,
-            "; the pool's set is closed, as after 3 seconds of silence: --owner must be its address in the log, which must end before",
+            "; the pool's working set is closed by then, as 3 seconds of silence close it; give its address by --owner, or a log that ends before",
         ),
         (StateFault::Pool, Some(start)) => (start.set.pool, "; segyolant check says why"),
         (StateFault::Replay(ReplayFault::TooLong), _) => {

@@ -245,7 +245,11 @@ impl<'a> Options<'a> {
 /// How many of the files from which objects come are the standard input.
 fn inputs_of(origin: Origin<'_>) -> usize {
     match origin {
-        Origin::Pool(path) | Origin::State { log: path, set: None } => inputs_among(&[path]),
+        Origin::Pool(path)
+        | Origin::State {
+            log: path,
+            set: None,
+        } => inputs_among(&[path]),
         Origin::State {
             log,
             set: Some(StartSet { pool, .. }),

@@ -177,7 +177,9 @@ fn draw<'a>(alloc: Global) -> Result<Command<'a>, AllocError> {
         .after_help(AFTER_DRAW)
         .arg(
             Arg::new(alloc, "POOL")
-                .help("The file of the pool; - is the standard input; it may be left out with --state")
+                .help(
+                    "The file of the pool; - is the standard input; it may be left out with --state",
+                )
                 .action(ArgAction::Set),
         )?
         .arg(names(alloc))?

@@ -1,14 +1,14 @@
 -- The objects of a store as the entries of its map, and as records that are written one by one.
-use Rattle.std.proofs.Common.{◌≡◌, ◌∙◌, ℕ, ◌+◌, ◌<◌, ◌≤◌, List, [], ◌∷◌, ◌++◌, length, map, drop, get_or, ap, sym, subst, append_assoc, arith, suc}
+use Rattle.std.proofs.Common.{◌≡◌, ◌∙◌, ℕ, ◌+◌, ◌<◌, ◌≤◌, List, ◌∷◌, ◌++◌, length, map, drop, get_or, ap, sym, subst, append_assoc, arith, suc}
 use Rattle.std.specs.FinMap as finite
 use Rattle.std.proofs.lemmas.List.{append-nil, drop_all, get_or-map, length-map}
 use Rattle.std.proofs.Math.Seq.{drop-cons}
 use Rattle.vt_kinds.specs.Ids.{null_id}
 use Rattle.vt_kinds.specs.declared.object.Object.{Object}
-use Rattle.vt_kinds.specs.Records.{record_of, seen}
+use Rattle.vt_kinds.specs.Records.{record_of}
 use Rattle.vt_needs.proofs.lemmas.SeenRecords.{seen_record}
 use Rattle.vt_pool.specs.Pools.{joined}
-use Rattle.vt_stores.specs.Stores.{AreStored, Objects, ids, map_of, seen_entry}
+use Rattle.vt_stores.specs.Stores.{AreStored, Objects, map_of, seen_entry}
 use Rattle.vt_stores.proofs.StoreMethods.{entries_from}
 
 -- No object of a store has the ID NULL.

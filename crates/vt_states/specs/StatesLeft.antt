@@ -11,14 +11,13 @@ use Rattle.vt_server.specs.state.AddressStates.{empty}
 use Rattle.vt_server.specs.Steps.{preloading}
 use Rattle.vt_server.specs.Terminals.{State}
 use Rattle.vt_states.specs.declared.state.StartSet.{StartSet}
-use Rattle.vt_states.specs.declared.state.TheConstants.{OWN_ADDRESS, OWN_NAME}
 
 -- ---- the terminal before the first line
 
--- A new terminal, before its first input.
+-- A new terminal at the address 26 (38 in decimal) with the NAME 20001D0000000001, before its first input.
 abbrev pub new_state : State
 new_state = record {
-  claims = record { own = OWN_ADDRESS; name = OWN_NAME; addresses = [] };
+  claims = record { own = 38; name = 2305874895050899457; addresses = [] };
   sets = [];
   places = λ address. empty;
   selected = None;
@@ -57,12 +56,26 @@ pub record IsPoolShown (s : State) (bytes : List ℕ) : Type 0 where
   pub of_address : (s.places address).content.pool ≡ Some set
   pub written : bytes ≡ joined (finite.entries set.objects)
 
--- A terminal replays a log, and its shown set has the objects of these records then.
-pub record LeavesPool (set : Option StartSet) (input bytes : List ℕ) : Type 0 where
+-- No set with a pool is shown.
+abbrev pub HasNothingShown : State → Type 0
+HasNothingShown s = (address : ℕ) → s.shown ≡ Some address → (s.places address).content.pool ≡ None
+
+-- The end of a replay of a log, by a terminal that has the set from the start if there is one.
+pub record IsEndOf (set : Option StartSet) (input : List ℕ) (end : State) : Type 0 where
   pub start : State
   pub given : IsStart set start
   pub text : List ℕ
   pub counts : Counts
-  pub end : State
   pub replay : IsReplay start input text counts end
+
+-- A terminal replays a log, and no set is shown then.
+pub record LeavesNothing (set : Option StartSet) (input : List ℕ) : Type 0 where
+  pub end : State
+  pub of_log : IsEndOf set input end
+  pub nothing : HasNothingShown end
+
+-- A terminal replays a log, and its shown set has the objects of these records then.
+pub record LeavesPool (set : Option StartSet) (input bytes : List ℕ) : Type 0 where
+  pub end : State
+  pub of_log : IsEndOf set input end
   pub shown : IsPoolShown end bytes

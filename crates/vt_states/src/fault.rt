@@ -1,7 +1,7 @@
 //! Why a log leaves no pool.
 
-ghost use Rattle.std.specs.Prelude.{◌≡◌};
-ghost use Rattle.vt_states.specs.declared.fault.StateFault.TheVariants.{Memory};
+ghost use Rattle.std.specs.Prelude.{◌≡◌, ◌≢◌};
+ghost use Rattle.vt_states.specs.declared.fault.StateFault.TheVariants.{Memory, NothingShown};
 
 use std::alloc::AllocError;
 use thiserror::Error;
@@ -36,6 +36,8 @@ impl From<AllocError> for StateFault {
 }
 
 impl From<ReplayFault> for StateFault {
+    ghost from_gives = { λ _ fault. fault ≢ NothingShown };
+
     fn from(fault: ReplayFault) -> StateFault {
         match fault {
             ReplayFault::Memory => StateFault::Memory,

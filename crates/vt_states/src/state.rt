@@ -1,8 +1,8 @@
 //! The replay of a log to a new terminal, and what is shown after it.
 
-ghost use Rattle.std.specs.Prelude.{◌≡◌, IfOk, IfSome, OnOk};
+ghost use Rattle.std.specs.Prelude.{◌≡◌, ◌≢◌, IfOk, IfErr, IfSome, IsErrOf, OnOk};
 ghost use Rattle.vt_server.specs.States.{state_of};
-ghost use Rattle.vt_states.specs.StatesLeft.{IsAcceptedPool, IsLoaded, IsPoolShown, IsStart, LeavesPool, new_state};
+ghost use Rattle.vt_states.specs.StatesLeft.{HasNothingShown, IsAcceptedPool, IsLoaded, IsPoolShown, IsStart, LeavesNothing, LeavesPool, new_state};
 
 use crate::bytes::bytes_of;
 use crate::fault::StateFault;
@@ -36,7 +36,8 @@ pub fn pool_left<R: Source>(
     set: Option<StartSet<'_>>,
     log: &mut R,
 ) -> Result<Vec<u8>, StateFault>
-    ensures { IfOk result (λ bytes. IfSome (R.remaining log.old) (λ input. LeavesPool set.entry input bytes.items)) }
+    ensures pool { IfOk result (λ bytes. IfSome (R.remaining log.old) (λ input. LeavesPool set.entry input bytes.items)) }
+    ensures nothing { IsErrOf result StateFault.NothingShown → IfSome (R.remaining log.old) (LeavesNothing set.entry) }
 {
     // One way out of this body, since the end of a terminal takes a copy of it on the stack for each.
     let mut terminal = Terminal::new(alloc, OWN_ADDRESS, Name::from_raw(OWN_NAME));
@@ -51,7 +52,8 @@ fn pool_left_on<R: Source>(
     terminal: &mut Terminal,
 ) -> Result<Vec<u8>, StateFault>
     requires { state_of terminal.old ≡ new_state }
-    ensures { IfOk result (λ bytes. IfSome (R.remaining log.old) (λ input. LeavesPool set.entry input bytes.items)) }
+    ensures pool { IfOk result (λ bytes. IfSome (R.remaining log.old) (λ input. LeavesPool set.entry input bytes.items)) }
+    ensures nothing { IsErrOf result StateFault.NothingShown → IfSome (R.remaining log.old) (LeavesNothing set.entry) }
 {
     start(alloc, set, terminal)?;
     let mut nowhere = Stream::new(io::sink());
@@ -66,7 +68,8 @@ fn start(
     terminal: &mut Terminal,
 ) -> Result<(), StateFault>
     requires { state_of terminal.old ≡ new_state }
-    ensures { OnOk result (IsStart set.entry (state_of terminal.new)) }
+    ensures start { OnOk result (IsStart set.entry (state_of terminal.new)) }
+    ensures other { IfErr result (λ why. why ≢ StateFault.NothingShown) }
 {
     match set {
         Some(set) => load(alloc, set, terminal),
@@ -77,7 +80,8 @@ fn start(
 /// Adds a set to a new terminal.
 fn load(alloc: Global, set: StartSet<'_>, terminal: &mut Terminal) -> Result<(), StateFault>
     requires { state_of terminal.old ≡ new_state }
-    ensures { OnOk result (IsLoaded set.entry (state_of terminal.new)) }
+    ensures set { OnOk result (IsLoaded set.entry (state_of terminal.new)) }
+    ensures other { IfErr result (λ why. why ≢ StateFault.NothingShown) }
 {
     let StartSet { pool, owner } = set;
     if owner > 253 || owner == OWN_ADDRESS {
@@ -90,7 +94,8 @@ fn load(alloc: Global, set: StartSet<'_>, terminal: &mut Terminal) -> Result<(),
 
 /// Reads a pool and verifies it.
 fn accepted(alloc: Global, bytes: &[u8]) -> Result<Accepted, StateFault>
-    ensures { IfOk result (IsAcceptedPool bytes.now) }
+    ensures pool { IfOk result (IsAcceptedPool bytes.now) }
+    ensures other { IfErr result (λ why. why ≢ StateFault.NothingShown) }
 {
     let pool = match read_pool(alloc, bytes) {
         Ok(pool) => pool,
@@ -106,7 +111,8 @@ fn accepted(alloc: Global, bytes: &[u8]) -> Result<Accepted, StateFault>
 
 /// The records of the objects of the working set that a terminal shows.
 fn pool_shown(alloc: Global, terminal: &Terminal) -> Result<Vec<u8>, StateFault>
-    ensures { IfOk result (λ bytes. IsPoolShown (state_of terminal.now) bytes.items) }
+    ensures pool { IfOk result (λ bytes. IsPoolShown (state_of terminal.now) bytes.items) }
+    ensures nothing { IsErrOf result StateFault.NothingShown → HasNothingShown (state_of terminal.now) }
 {
     let Some(address) = terminal.shown() else {
         return Err(StateFault::NothingShown);

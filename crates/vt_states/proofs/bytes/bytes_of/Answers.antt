@@ -1,5 +1,5 @@
 use Rattle.std.proofs.Common.{sym, subst, arith}
-use Rattle.vt_stores.specs.Stores.{AreStored, Objects}
+use Rattle.vt_stores.specs.Stores.{AreStored}
 use Rattle.vt_states.proofs.Stored.{all_written, is_named, of_map, one_more}
 use Rattle.vt_states.proofs.bytes.bytes_of.Goals as goal
 
@@ -15,7 +15,7 @@ loop-id-preserved c =
       kept.0,
       kept.1,
       one_more c.loop-id.bytes.items _ _ c.entries-id-items.result.now c.loop-id.id-index c.loop-id-item.result c.loop-id-test.true c.loop-id-item.is
-      c.in_ok-write_object.ensures.ok kept.2,
+          c.in_ok-write_object.ensures.ok kept.2,
     )
 
 pub returns : goal.returns

@@ -4,8 +4,8 @@ use Rattle.vt_pool.specs.Pools.{joined}
 use Rattle.vt_stores.specs.Stores.{ObjectMap}
 use Rattle.vt_states.proofs.state.pool_shown.Goals as goal
 
-pub returns : goal.returns
-returns c = record {
+pub returns-clause-pool : goal.returns-clause-pool
+returns-clause-pool c = record {
   address = c.in-Some.address;
   shown = sym c.shown.ensures ∙ c.in-Some.is;
   set = c.in-Some-set.live.now;
