@@ -9,7 +9,7 @@ files_of() {
         vt_examples) (cd examples && ls -- *.log fault-*.iop refusal-*.iop pool.iop sprayer.iop) ;;
         vt_replay) echo seeder.log ;;
         vt_sample) echo sprayer.iop ;;
-        vt_pool_examples) (cd examples && ls -- *.iop *.h) ;;
+        vt_pool_examples) (cd examples && ls -- *.iop *.h hide.log seeder.log) ;;
         segyolant) echo sprayer.iop sprayer.h ;;
     esac
 }

@@ -1,11 +1,12 @@
 //! A run of `draw`.
 
 use crate::masks::{active_mask, first_mask, masks_of, named_mask};
+use crate::origin::{path_of, read_origin};
 use crate::page::page_of;
 use crate::refusal::{Refusal, RefusalLine};
 use std::alloc::{AllocError, Global};
 use std::io::{self, Write};
-use vt_files::{Open, Save, make_folder, read_file, read_names, save_file};
+use vt_files::{Open, Save, make_folder, read_names, save_file};
 use vt_findings_text::Source;
 use vt_inspect::inspect;
 use vt_inspector_words::{DrawOptions, Drawing};
@@ -24,8 +25,8 @@ pub enum Outcome {
     NotDrawn,
 }
 
-/// Draws masks of a pool. `errors` gets a sentence for each file that cannot be read or written, for masks that are not there, and
-/// for a pool with errors. An error is returned if `out` cannot be written or memory is refused.
+/// Draws masks of a pool, or of the objects that a log leaves. `errors` gets a sentence for each file that cannot be read or written,
+/// for a log that leaves nothing, for masks that are not there, and for a pool with errors. An error is returned if `out` cannot be written or memory is refused.
 pub fn run_draw<F: Open + Save, W: Write, E: Write>(
     alloc: Global,
     options: &DrawOptions<'_>,
@@ -36,12 +37,12 @@ pub fn run_draw<F: Open + Save, W: Write, E: Write>(
     let Some(names) = read_names(alloc, options.names.as_slice(), files, errors)? else {
         return Ok(Outcome::NotDrawn);
     };
-    let Some(bytes) = read_file(alloc, options.pool, files, errors)? else {
+    let Some(bytes) = read_origin(alloc, options.origin, files, errors)? else {
         return Ok(Outcome::NotDrawn);
     };
     let inspection = inspect(alloc, bytes.as_slice())?;
     let source = Source {
-        path: options.pool,
+        path: path_of(options.origin),
         inspection: &inspection,
         names: &names,
     };

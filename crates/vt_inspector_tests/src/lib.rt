@@ -10,4 +10,6 @@ mod runs;
 #[cfg(test)]
 mod shelf;
 #[cfg(test)]
+mod states;
+#[cfg(test)]
 mod want_of_memory;

@@ -34,7 +34,7 @@ fn picture_in(
 }
 
 /// A picture: its pool, its sizes and its mask.
-type Picture<'a> = (&'a [u8], Sizes, u16);
+pub(crate) type Picture<'a> = (&'a [u8], Sizes, u16);
 
 /// The picture of the Data Mask 1000 of a pool with a fault.
 const WORK: Picture<'static> = (MASKS, TERMINAL_SIZES, 1000);
@@ -44,7 +44,7 @@ const ALARM: Picture<'static> = (MASKS, TERMINAL_SIZES, 2000);
 
 /// A part of what a run writes.
 #[derive(Clone, Copy)]
-enum Part<'a> {
+pub(crate) enum Part<'a> {
     Text(&'a str),
     Picture(Picture<'a>),
 }
@@ -64,7 +64,7 @@ fn joined(alloc: Global, parts: &[Part<'_>]) -> Result<Vec<u8>, AllocError> {
 }
 
 /// A run: its words, then its status, its output, the files that it writes, and its messages.
-type Run<'a> = (
+pub(crate) type Run<'a> = (
     &'a [&'a str],
     Status,
     &'a [Part<'a>],
@@ -97,7 +97,7 @@ fn expect_bytes(
     Ok(())
 }
 
-fn expect_runs(rt: &(impl Abort + AllocGlobal), runs: &[Run<'_>]) -> Result<(), Fail> {
+pub(crate) fn expect_runs(rt: &(impl Abort + AllocGlobal), runs: &[Run<'_>]) -> Result<(), Fail> {
     for wanted in runs {
         expect_run(rt, wanted)?;
     }

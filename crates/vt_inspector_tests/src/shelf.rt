@@ -79,6 +79,39 @@ const ASTRAY: &[u8] = &[
     0xE8, 3, 1, 4, 0xFF, 0xFF, 0, 0, // the Data Mask 1000, at 20
 ];
 
+/// The pool `POOL` with the colour 9 of its mask.
+pub(crate) const COLOURED: &[u8] = &[
+    0, 0, 0, 0, 1, 0xE8, 3, 0, 0, 0, // the Working Set 0
+    0xE8, 3, 1, 9, 0xFF, 0xFF, 1, 0, 100, 0, 10, 0, 5, 0, // the Data Mask 1000
+    100, 0, 3, 50, 0, 20, 0, 0, 0, 0, // the Container 100
+];
+
+/// A set at the address 80 that uploads the pool `POOL`, and gives its mask the colour 9. The third line is faulty.
+const UPLOADS: &[u8] = b"# a comment
+(1.000000) can0 18EEFF80#01000000001D0020
+(1.000000) can0 18EEFF80
+(1.100000) can0 1CFE0D80#01FFFFFFFFFFFFFF
+(1.200000) can0 14E72680#110000000001E803
+(1.300000) can0 14E72680#11000000E8030100
+(1.400000) can0 14E72680#11FFFF010064000A
+(1.500000) can0 14E72680#1100050064000332
+(1.600000) can0 14E72680#11001400000000
+(1.700000) can0 14E72680#12FFFFFFFFFFFFFF
+(1.800000) can0 14E72680#A7E80309FFFFFFFF
+";
+
+/// The set at the address 80 gives its mask the colour 9.
+const COLOURS: &[u8] = b"(1.000000) can0 14E72680#A7E80309FFFFFFFF\n";
+
+/// The set at the address 81 gives its mask the colour 9, three times within 4 seconds.
+const COLOURS_81: &[u8] = b"(1.000000) can0 14E72681#A7E80309FFFFFFFF
+(3.000000) can0 14E72681#A7E80309FFFFFFFF
+(5.000000) can0 14E72681#A7E80309FFFFFFFF
+";
+
+/// A line that is too long for a log.
+const LONG_LINE: &[u8] = &[b'#'; 4097];
+
 /// Names with characters that are markup.
 const MARKUP: &[u8] = b"1000,\"work\" & <b>\n2000,alarm\n";
 
@@ -137,6 +170,10 @@ impl Open for Shelf {
             "no mask" => Ok(WORKING_SET),
             "no set" => Ok(MASK),
             "markup" => Ok(MARKUP),
+            "uploads.log" => Ok(UPLOADS),
+            "colours.log" => Ok(COLOURS),
+            "logs/<81>.log" => Ok(COLOURS_81),
+            "long line" => Ok(LONG_LINE),
             "cut" => Ok(&WARNED[..35]),
             "cut macro" => Ok(CUT_MACRO),
             _ => Err(Error::from(ErrorKind::NotFound)),

@@ -2,7 +2,7 @@
 
 use crate::pictures::picture_of;
 use crate::runs::WARNINGS;
-use crate::shelf::Shelf;
+use crate::shelf::{COLOURED, Shelf};
 use std::alloc::{AllocError, Global};
 use std::io::ErrorKind;
 use std::process::Abort;
@@ -85,18 +85,22 @@ const RUNS: [Run<'static>; 4] = [
     (&["s", "diff", "pool", "w"], Status::Found, DIFFERENCES),
 ];
 
-/// The picture of the Data Mask 1000, also if it is first refused memory.
-fn picture(alloc: Global) -> Result<Vec<u8>, AllocError> {
-    match picture_of(alloc, POOL, TERMINAL_SIZES, 1000) {
+/// The picture of the Data Mask 1000 of a pool, also if it is first refused memory.
+fn picture(alloc: Global, pool: &[u8]) -> Result<Vec<u8>, AllocError> {
+    match picture_of(alloc, pool, TERMINAL_SIZES, 1000) {
         Ok(picture) => Ok(picture),
-        Err(_) => picture_of(alloc, POOL, TERMINAL_SIZES, 1000),
+        Err(_) => picture_of(alloc, pool, TERMINAL_SIZES, 1000),
     }
 }
 
-fn expect_picture(rt: &(impl Abort + AllocGlobal)) -> Result<(), Fail> {
-    let picture = picture(rt.alloc())?;
+fn expect_picture(
+    rt: &(impl Abort + AllocGlobal),
+    words: &[&str],
+    pool: &[u8],
+) -> Result<(), Fail> {
+    let picture = picture(rt.alloc(), pool)?;
     let text = std::str::from_utf8(picture.as_slice()).unwrap_or("");
-    expect_run(rt, &(&["s", "draw", "pool"], Status::Clean, text))
+    expect_run(rt, &(words, Status::Clean, text))
 }
 
 #[test]
@@ -104,5 +108,7 @@ fn want_of_memory(rt: HostRuntime) -> Result<(), Fail> {
     for wanted in RUNS.iter() {
         expect_run(&rt, wanted)?;
     }
-    expect_picture(&rt)
+    expect_picture(&rt, &["s", "draw", "pool"], POOL)?;
+    let words = ["s", "draw", "pool", "--state", "colours.log"];
+    expect_picture(&rt, &words, COLOURED)
 }

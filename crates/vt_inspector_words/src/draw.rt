@@ -2,6 +2,7 @@
 
 use crate::options::{UsageError, all_of, area};
 use clap::ArgMatches;
+use hex::FromHex;
 use std::alloc::Global;
 use vt_needs::{Area, Sizes, TERMINAL_SIZES};
 use vt_objects::ObjectId;
@@ -9,14 +10,37 @@ use vt_objects::ObjectId;
 /// The options of `draw`.
 #[derive(Drop)]
 pub struct DrawOptions<'a> {
-    /// The file of the pool.
-    pub pool: &'a str,
+    /// Where the objects come from.
+    pub origin: Origin<'a>,
     /// The files of names.
     pub names: Vec<&'a str>,
     /// The areas of masks and keys. The number of keys is that of this terminal.
     pub sizes: Sizes,
     /// What is drawn, and where.
     pub drawing: Drawing<'a>,
+}
+
+/// Where the objects come from.
+#[derive(Clone, Copy, Debug, PartialEq, Eq)]
+pub enum Origin<'a> {
+    /// The file of a pool.
+    Pool(&'a str),
+    /// The working set that a terminal shows at the end of a log.
+    State {
+        /// The file of the log.
+        log: &'a str,
+        /// The working set that is there from the start.
+        set: Option<StartSet<'a>>,
+    },
+}
+
+/// A working set that is there from the start of a log.
+#[derive(Clone, Copy, Debug, PartialEq, Eq)]
+pub struct StartSet<'a> {
+    /// The file of its pool.
+    pub pool: &'a str,
+    /// Its address, at most 253, and not that of the terminal.
+    pub owner: u8,
 }
 
 /// What is drawn, and where.
@@ -38,6 +62,12 @@ pub enum Drawing<'a> {
     },
 }
 
+/// The address of the pool's working set, unless another is given.
+const OWNER: u8 = 0x80;
+
+/// The address of the terminal that replays a log.
+const OWN_ADDRESS: u8 = 0x26;
+
 pub(crate) fn draw_options<'a>(
     alloc: Global,
     matches: &ArgMatches<'a>,
@@ -52,11 +82,52 @@ pub(crate) fn draw_options<'a>(
         Err(value) => return Err(UsageError::KeySize(value)),
     };
     Ok(DrawOptions {
-        pool: matches.get_str("POOL").unwrap_or(""),
+        origin: origin_of(
+            matches.get_str("POOL"),
+            matches.get_str("state"),
+            matches.get_str("owner"),
+        )?,
         names: all_of(alloc, matches, "names")?,
         sizes: Sizes { mask, key, keys },
         drawing: drawing_of(matches.get_str("mask"), matches.get_str("out"))?,
     })
+}
+
+/// What the pool, the log and the value of `--owner` ask for.
+fn origin_of<'a>(
+    pool: Option<&'a str>,
+    log: Option<&'a str>,
+    owner: Option<&'a str>,
+) -> Result<Origin<'a>, UsageError<'a>> {
+    match (pool, log, owner) {
+        (Some(pool), Some(log), owner) => {
+            let owner = owner_of(owner)?;
+            let set = Some(StartSet { pool, owner });
+            Ok(Origin::State { log, set })
+        }
+        (_, _, Some(_)) => Err(UsageError::OwnerAlone),
+        (None, Some(log), None) => Ok(Origin::State { log, set: None }),
+        (Some(pool), None, None) => Ok(Origin::Pool(pool)),
+        (None, None, None) => Err(UsageError::NoPool),
+    }
+}
+
+/// The address that the value of `--owner` gives, or else the usual one.
+fn owner_of<'a>(value: Option<&'a str>) -> Result<u8, UsageError<'a>> {
+    match value {
+        None => Ok(OWNER),
+        Some(value) => address(value).ok_or(UsageError::Owner(value)),
+    }
+}
+
+/// The address that two hex digits write, if a working set may have it.
+fn address(text: &str) -> Option<u8> {
+    let [address] = <[u8; 1]>::from_hex(text).ok()?;
+    if address <= 0xFD && address != OWN_ADDRESS {
+        Some(address)
+    } else {
+        None
+    }
 }
 
 /// The area that an option gives, or else the usual one; an error is the value of the option that is no area.

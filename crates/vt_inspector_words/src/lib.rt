@@ -8,7 +8,7 @@ mod draw;
 mod options;
 mod words;
 
-pub use draw::{DrawOptions, Drawing};
+pub use draw::{DrawOptions, Drawing, Origin, StartSet};
 pub use options::{
     CheckOptions, DiffOptions, Format, NeedsOptions, Options, UsageError, WhyOptions,
 };

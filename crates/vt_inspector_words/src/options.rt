@@ -3,7 +3,7 @@
 ghost use Rattle.std.specs.Prelude.{IsTrue, ◌↔◌};
 ghost use Rattle.vt_inspector_words.specs.Refusals.{AsksForHelp};
 
-use crate::draw::{DrawOptions, area_of, draw_options};
+use crate::draw::{DrawOptions, Origin, StartSet, area_of, draw_options};
 use crate::words::command;
 use clap::error::ErrorKind;
 use clap::{ArgMatches, Error};
@@ -102,6 +102,12 @@ pub enum UsageError<'a> {
     Mask(&'a str),
     /// All masks are to be drawn, but not into a folder.
     AllMasks,
+    /// There is no pool, and no log in its place.
+    NoPool,
+    /// The value of `--owner` is no address that a working set may have.
+    Owner(&'a str),
+    /// `--owner` is given without a log, or without a pool.
+    OwnerAlone,
     /// The word for the event is no object's ID and event's number.
     Event(&'a str),
     /// There is no subcommand.
@@ -123,6 +129,9 @@ impl UsageError<'_> {
             | UsageError::KeySize(_)
             | UsageError::Mask(_)
             | UsageError::AllMasks
+            | UsageError::NoPool
+            | UsageError::Owner(_)
+            | UsageError::OwnerAlone
             | UsageError::Event(_)
             | UsageError::NoSubcommand
             | UsageError::InputTwice
@@ -154,6 +163,18 @@ impl fmt::Display for UsageError<'_> {
             UsageError::AllMasks => writeln!(
                 f,
                 "error: --mask all draws a file for each mask, so a folder is wanted, as --mask all --out masks"
+            ),
+            UsageError::NoPool => writeln!(
+                f,
+                "error: a pool is wanted, as segyolant draw my.iop, or a log, as segyolant draw --state my.log"
+            ),
+            UsageError::Owner(value) => writeln!(
+                f,
+                "error: --owner {value}: two hex digits up to FD are wanted, as 81, but not 26, the terminal's own address"
+            ),
+            UsageError::OwnerAlone => writeln!(
+                f,
+                "error: --owner is the address at which a log finds the pool, so both are wanted, as my.iop --state my.log --owner 81"
             ),
             UsageError::Event(value) => {
                 writeln!(
@@ -215,9 +236,24 @@ impl<'a> Options<'a> {
             Options::Why(options) => (inputs_among(&[options.pool]), &options.names),
             Options::Needs(options) => (inputs_among(&[options.pool]), &options.names),
             Options::Diff(options) => (inputs_among(&[options.old, options.new]), &options.names),
-            Options::Draw(options) => (inputs_among(&[options.pool]), &options.names),
+            Options::Draw(options) => (inputs_of(options.origin), &options.names),
         };
         files.saturating_add(inputs_among(names.as_slice()))
+    }
+}
+
+/// How many of the files from which objects come are the standard input.
+fn inputs_of(origin: Origin<'_>) -> usize {
+    match origin {
+        Origin::Pool(path)
+        | Origin::State {
+            log: path,
+            set: None,
+        } => inputs_among(&[path]),
+        Origin::State {
+            log,
+            set: Some(StartSet { pool, .. }),
+        } => inputs_among(&[log, pool]),
     }
 }
 

@@ -15,6 +15,7 @@ Status: 0 nothing found, 1 something found, 2 not judged or not drawn (words, fi
   segyolant diff old.iop new.iop                        what is removed, changed and added
   segyolant draw my.iop > my.svg                        the active mask with its soft keys, as SVG
   segyolant draw my.iop --out masks --names my.h        all masks, and a page of them with every fault
+  segyolant draw my.iop --state my.log > my.svg         the mask that is shown at the end of a log
 
 docs/POOLS.md has the codes.";
 
@@ -37,11 +38,13 @@ sum of those below it, up to 1000000000000.
 /// The text of help after the options of `draw`.
 const AFTER_DRAW: &str = "\
 A pool with errors is drawn as far as it can be read. A folder gets a picture ID.svg of each mask, and index.html with all of them and
-the lines of check. Status: 0 drawn, 1 drawn but the pool has errors, 2 not drawn.
+the lines of check. A log is replayed by the terminal of vt_replay. Status: 0 drawn, 1 drawn but the pool has errors, 2 not drawn.
 
   segyolant draw my.iop > my.svg                        the active mask
   segyolant draw my.iop --mask 2000 --out alarm.svg     another
   segyolant draw my.iop --out masks --names my.h        all, with masks/index.html
+  segyolant draw my.iop --state my.log > my.svg         what is shown at the end of a log, with the pool at address 80
+  segyolant draw --state my.log > my.svg                the same with the pools that the log uploads alone
   segyolant draw my.iop --size 240x240 --key-size 60x60 > small.svg";
 
 /// The command line.
@@ -174,11 +177,30 @@ fn draw<'a>(alloc: Global) -> Result<Command<'a>, AllocError> {
         .after_help(AFTER_DRAW)
         .arg(
             Arg::new(alloc, "POOL")
-                .help("The file of the pool; - is the standard input")
-                .action(ArgAction::Set)
-                .required(true),
+                .help(
+                    "The file of the pool; - is the standard input; it may be left out with --state",
+                )
+                .action(ArgAction::Set),
         )?
         .arg(names(alloc))?
+        .arg(
+            Arg::new(alloc, "state")
+                .long("state")
+                .value_name("LOG")
+                .help(
+                    "Draw what a terminal shows at the end of a log, as candump -L writes it; - is the standard input",
+                )
+                .action(ArgAction::Set),
+        )?
+        .arg(
+            Arg::new(alloc, "owner")
+                .long("owner")
+                .value_name("AA")
+                .help(
+                    "The address of the pool's working set in the log, two hex digits up to FD [default: 80]",
+                )
+                .action(ArgAction::Set),
+        )?
         .arg(
             Arg::new(alloc, "mask")
                 .long("mask")

@@ -6,7 +6,7 @@ use std::io::{self, BufWriter, Write};
 use vt_inspector::{Files, Look, run};
 
 /// The words of each run, the program's name first.
-const RUNS: [&[&str]; 50] = [
+const RUNS: [&[&str]; 55] = [
     &["segyolant", "check", "sprayer.iop", "--names", "sprayer.h"],
     &[
         "segyolant",
@@ -155,6 +155,24 @@ const RUNS: [&[&str]; 50] = [
     &["segyolant", "draw", "pool.iop", "--out", "sprayer.iop"],
     &["segyolant", "draw", "pool.iop", "--mask", "all"],
     &["segyolant", "draw", "pool.iop", "--key-size", "64"],
+    &["segyolant", "draw", "--state", "seeder.log"],
+    &["segyolant", "draw", "pool.iop", "--state", "hide.log"],
+    &["segyolant", "draw", "--state", "hide.log"],
+    &[
+        "segyolant",
+        "draw",
+        "refusal-03-missing.iop",
+        "--state",
+        "hide.log",
+    ],
+    &[
+        "segyolant",
+        "draw",
+        "--state",
+        "seeder.log",
+        "--owner",
+        "81",
+    ],
     &["segyolant"],
     &["segyolant", "check", "--format", "xml", "pool.iop"],
     &["segyolant", "--help"],

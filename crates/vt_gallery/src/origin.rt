@@ -1,0 +1,110 @@
+//! Where the objects that are drawn come from.
+
+use std::alloc::Global;
+use std::io::{self, Error, ErrorKind, Write};
+use vt_files::{Open, read_file};
+use vt_inspector_words::{Origin, StartSet};
+use vt_logs::{ReplayFault, Stream};
+use vt_states::{StateFault, pool_left};
+
+/// The file whose objects are drawn: the pool, or the log that leaves one.
+pub(crate) fn path_of<'a>(origin: Origin<'a>) -> &'a str {
+    match origin {
+        Origin::Pool(path) | Origin::State { log: path, .. } => path,
+    }
+}
+
+/// The bytes of the pool that is drawn, or `None` if there is none, which `errors` says.
+pub(crate) fn read_origin<F: Open, E: Write>(
+    alloc: Global,
+    origin: Origin<'_>,
+    files: &mut F,
+    errors: &mut E,
+) -> io::Result<Option<Vec<u8>>> {
+    match origin {
+        Origin::Pool(path) => read_file(alloc, path, files, errors),
+        Origin::State { log, set: None } => read_state(alloc, log, None, files, errors),
+        Origin::State {
+            log,
+            set: Some(set),
+        } => match read_file(alloc, set.pool, files, errors)? {
+            Some(pool) => {
+                let start = Start {
+                    set,
+                    bytes: pool.as_slice(),
+                };
+                read_state(alloc, log, Some(start), files, errors)
+            }
+            None => Ok(None),
+        },
+    }
+}
+
+/// A working set that is there from the start, with the bytes of its pool.
+#[derive(Clone, Copy)]
+struct Start<'a> {
+    set: StartSet<'a>,
+    bytes: &'a [u8],
+}
+
+/// The bytes of the pool that a log leaves, or `None` if it leaves none, which `errors` says.
+fn read_state<F: Open, E: Write>(
+    alloc: Global,
+    path: &str,
+    start: Option<Start<'_>>,
+    files: &mut F,
+    errors: &mut E,
+) -> io::Result<Option<Vec<u8>>> {
+    let mut log = match files.open(path) {
+        Ok(log) => Stream::new(log),
+        Err(error) => return not_read(path, error, errors),
+    };
+    let set = start.map(|start| vt_states::StartSet {
+        pool: start.bytes,
+        owner: start.set.owner,
+    });
+    match pool_left(alloc, set, &mut log) {
+        Ok(bytes) => Ok(Some(bytes)),
+        Err(StateFault::Memory) => Err(Error::from(ErrorKind::OutOfMemory)),
+        Err(fault) => match log.into_failure() {
+            Some(error) => not_read(path, error, errors),
+            None => {
+                let (path, cure) = cure_of(fault, path, start);
+                let _ = writeln!(errors, "segyolant: {path}: {fault}{cure}");
+                Ok(None)
+            }
+        },
+    }
+}
+
+/// The file that a fault is about, and what may be done about it.
+fn cure_of<'a>(
+    fault: StateFault,
+    log: &'a str,
+    start: Option<Start<'a>>,
+) -> (&'a str, &'static str) {
+    match (fault, start) {
+        (StateFault::NothingShown, None) => (
+            log,
+            "; the log must register a working set and upload a pool, or POOL must be given",
+        ),
+        (StateFault::NothingShown, Some(_)) => (
+            log,
+            "; the pool's working set is closed by then, as 3 seconds of silence close it; give its address by --owner, or a log that ends before",
+        ),
+        (StateFault::Pool, Some(start)) => (start.set.pool, "; segyolant check says why"),
+        (StateFault::Replay(ReplayFault::TooLong), _) => {
+            (log, "; a log is wanted, as candump -L writes it")
+        }
+        _ => (log, ""),
+    }
+}
+
+/// Says that a file cannot be read. Want of memory stays an error.
+fn not_read<E: Write>(path: &str, error: Error, errors: &mut E) -> io::Result<Option<Vec<u8>>> {
+    if error.kind() == ErrorKind::OutOfMemory {
+        return Err(error);
+    }
+    let _ = writeln!(errors, "segyolant: {path}: {error}");
+    Ok(None)
+}
