@@ -1,6 +1,7 @@
 //! The masks of a pool, and those that are drawn.
 
 ghost use Rattle.std.specs.Prelude.{◌≡◌, ◌++◌, None, Some, IfOk, OnOk};
+ghost use Rattle.std.specs.List.{Contains};
 ghost use Rattle.std.specs.Option.{option_map};
 ghost use Rattle.vt_gallery.specs.Masks as spec;
 
@@ -40,7 +41,8 @@ pub(crate) fn first_mask(masks: &[ObjectId]) -> Result<ObjectId, Refusal> {
 
 /// The mask of an ID, among the masks of a pool.
 pub(crate) fn named_mask(masks: &[ObjectId], id: ObjectId) -> Result<ObjectId, Refusal>
-    ensures { IfOk result (λ mask. mask ≡ id) }
+    ensures is { IfOk result (λ mask. mask ≡ id) }
+    ensures among { IfOk result (λ mask. Contains masks.now mask) }
 {
     first_mask(masks)?;
     if masks.contains(&id) {
@@ -52,7 +54,8 @@ pub(crate) fn named_mask(masks: &[ObjectId], id: ObjectId) -> Result<ObjectId, R
 
 /// The active mask of the working set, among the masks of a pool. Of several working sets it is the last.
 pub(crate) fn active_mask(masks: &[ObjectId], objects: &SortedStore) -> Result<ObjectId, Refusal>
-    ensures { IfOk result (λ mask. option_map (λ found. found.1) (spec.last_set None objects.now) ≡ Some mask) }
+    ensures active { IfOk result (λ mask. option_map (λ found. found.1) (spec.last_set None objects.now) ≡ Some mask) }
+    ensures among { IfOk result (λ mask. Contains masks.now mask) }
 {
     first_mask(masks)?;
     let Some((set, mask)) = last_set(objects) else {
