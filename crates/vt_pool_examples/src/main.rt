@@ -6,7 +6,7 @@ use std::io::{self, BufWriter, Write};
 use vt_inspector::{Files, Look, run};
 
 /// The words of each run, the program's name first.
-const RUNS: [&[&str]; 55] = [
+const RUNS: [&[&str]; 64] = [
     &["segyolant", "check", "sprayer.iop", "--names", "sprayer.h"],
     &[
         "segyolant",
@@ -173,6 +173,15 @@ const RUNS: [&[&str]; 55] = [
         "--owner",
         "81",
     ],
+    &["segyolant", "check", "kinds.iop", "--names", "kinds.h"],
+    &["segyolant", "draw", "kinds.iop", "--mask", "1000"],
+    &["segyolant", "draw", "kinds.iop", "--mask", "1001"],
+    &["segyolant", "draw", "kinds.iop", "--mask", "1002"],
+    &["segyolant", "draw", "kinds.iop", "--mask", "1003"],
+    &["segyolant", "draw", "kinds.iop", "--mask", "1004"],
+    &["segyolant", "draw", "kinds.iop", "--mask", "1005"],
+    &["segyolant", "draw", "kinds.iop", "--mask", "1006"],
+    &["segyolant", "draw", "kinds.iop", "--mask", "1010"],
     &["segyolant"],
     &["segyolant", "check", "--format", "xml", "pool.iop"],
     &["segyolant", "--help"],
