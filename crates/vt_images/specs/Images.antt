@@ -21,7 +21,7 @@ symbol_attributes id p =
     attributes.PictureId id ∷ attributes.Coordinates (2 * p.actual_width) (2 * p.actual_height) ∷ attributes.Flag flags.StretchedPicture
     ∷ attributes.Flag flags.Crisp ∷ attributes.Fill paints.None ∷ attributes.StrokeWidth 2 ∷ []
 
--- a text with a picture of the pixels of runs behind it, to be shown elsewhere
+-- a text with a picture of the pixels of runs after it, to be shown elsewhere
 abbrev pub with_symbol : ℕ → Picture (List ℕ) → List Run → List ℕ → List ℕ
 with_symbol id p runs text =
     with_pixels p (format_of p.format) (text ++ opened elements.Symbol (symbol_attributes id p)) runs ++ closed elements.Symbol
@@ -38,18 +38,18 @@ tile id p =
     ++ (emptied elements.Use (attributes.PictureShown id ∷ attributes.Width (10 * p.actual_width) ∷ attributes.Height (10 * p.actual_height) ∷ [])
     ++ closed elements.Pattern)
 
--- ---- as text behind another
+-- ---- as text after another
 
 abbrev pub picture_in : Option Seen → Option (Picture (List ℕ))
 picture_in (Some (objects.Picture p)) = Some p
 picture_in _ = None
 
--- A Picture is behind a text, with its pixels and as a pattern. Without one the text stays.
+-- A Picture is after a text, with its pixels and as a pattern. Without one the text stays.
 abbrev pub AppendsImage : ℕ → Option (Picture (List ℕ)) → List ℕ → List ℕ → Type 0
 AppendsImage id None old new = new ≡ old
 AppendsImage id (Some p) old new = (runs : List Run) × IsRaster p runs × AreFewRuns p runs × (new ≡ with_symbol id p runs old ++ tile id p)
 
--- the pictures of some IDs are behind a text, one after another
+-- the pictures of some IDs are after a text, one after another
 abbrev pub AppendsImages : ObjectMap → List ℕ → List ℕ → List ℕ → Type 0
 AppendsImages store [] old new = new ≡ old
 AppendsImages store (id ∷ ids) old new =

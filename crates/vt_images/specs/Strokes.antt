@@ -33,7 +33,7 @@ is_transparent p colour = p.options % 2 == 1 && p.transparency == colour
 abbrev pub place : ℕ → ℕ → Point
 place column row = record { x = 2 * column; y = 2 * row + 1 }
 
--- from the first column of a run to the one behind its last
+-- from the first column of a run to the one after its last
 abbrev pub line_of : Format → Run → List Point
 line_of format r = place (pixels_in_byte format * r.start) r.row ∷ place (pixels_in_byte format * (r.start + r.count)) r.row ∷ []
 
@@ -47,19 +47,19 @@ stroke_text p line s = if s.art == 0 || is_transparent p s.colour then [] else d
 abbrev pub run_text : Picture (List ℕ) → Format → Run → List ℕ
 run_text p format r = flat_map (stroke_text p (line_of format r)) (strokes_of format r.byte)
 
--- the most bytes of a text behind which the pixels of another run are appended
+-- the most bytes of a text after which the pixels of another run are appended
 abbrev pub most_bytes : ℕ
 most_bytes = 12000000
 
 abbrev pub with_run : Picture (List ℕ) → Format → List ℕ → Run → List ℕ
 with_run p format text r = if nat_lt most_bytes (length text) then text else text ++ run_text p format r
 
--- a text with runs behind it, one after another
+-- a text with runs after it, one after another
 abbrev pub with_runs : Picture (List ℕ) → Format → List ℕ → List Run → List ℕ
 with_runs p format text [] = text
 with_runs p format text (r ∷ runs) = with_runs p format (with_run p format text r) runs
 
--- a text with the runs of a picture behind it; none without a format
+-- a text with the runs of a picture after it; none without a format
 abbrev pub with_pixels : Picture (List ℕ) → Option Format → List ℕ → List Run → List ℕ
 with_pixels p None text runs = text
 with_pixels p (Some format) text runs = with_runs p format text runs

@@ -12,7 +12,7 @@ use vt_raster::{Run, runs};
 use vt_svg::{Attribute, Element, Flag, Paint, close, empty, open};
 
 /// Appends Picture objects as symbols and as patterns, in the order of `ids`. Nothing is appended for an object that is no
-/// Picture, and no pixels are appended behind 12,000,000 bytes of text.
+/// Picture, and no pixels are appended after 12,000,000 bytes of text.
 ///
 /// # Errors
 /// `AllocError` when an allocation is refused; some of the text may then be appended.

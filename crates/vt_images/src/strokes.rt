@@ -30,10 +30,10 @@ const FIRST_OF_TWO: u16 = 0xAAAA;
 /// The line art of a stroke that has every second pixel, from the second on.
 const SECOND_OF_TWO: u16 = 0x5555;
 
-/// The most bytes of a text behind which the pixels of another run are appended.
+/// The most bytes of a text after which the pixels of another run are appended.
 const MOST_BYTES: usize = 12_000_000;
 
-/// Appends the pixels of runs. Nothing without a format, and nothing more behind 12,000,000 bytes.
+/// Appends the pixels of runs. Nothing without a format, and nothing more after 12,000,000 bytes.
 pub(crate) fn draw_pixels(
     text: &mut Vec<u8>,
     picture: &Picture<Vec<u8>>,
@@ -164,7 +164,7 @@ fn in_colour(colour: u8, art: u16) -> Stroke
     Stroke { colour, art }
 }
 
-/// The line of a run, from its first column to the one behind its last.
+/// The line of a run, from its first column to the one after its last.
 fn line_of(format: Format, run: &Run) -> [Point; 2]
     ensures { result ≡ strokes.line_of format run.now }
 {

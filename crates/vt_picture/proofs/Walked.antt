@@ -7,15 +7,15 @@ use Rattle.vt_kinds.specs.Records.{Seen}
 use Rattle.vt_stores.specs.Stores.{ObjectMap}
 use Rattle.vt_shown.specs.ShownElements.{resolves_to, is_element}
 use Rattle.vt_layout.specs.Drawings.{entries_in}
-use Rattle.vt_picture.specs.declared.walk.Step.{Step}
-use Rattle.vt_picture.specs.declared.walk.Step.TheVariants.{Begin, End}
+use Rattle.vt_picture.specs.declared.walk.Tag.{Tag}
+use Rattle.vt_picture.specs.declared.walk.Tag.TheVariants.{Open, Close}
 use Rattle.vt_picture.specs.declared.walk.Walk.{Walk}
 use Rattle.vt_picture.specs.Marks.{Marks, Nothing, Mark, marked, each_marked, marks, count, cut}
-use Rattle.vt_picture.specs.Steps.{steps_of, Walks}
+use Rattle.vt_picture.specs.Tags.{tags_of, Walks}
 
 -- what is left of a walk, and what all of it comes to
 pub record IsWalking (rest all : Marks) (old now : Walk) : Type 0 where
-  pub steps : now.steps.items ++ steps_of (cut now.left rest) ≡ old.steps.items ++ steps_of (cut old.left all)
+  pub tags : now.tags.items ++ tags_of (cut now.left rest) ≡ old.tags.items ++ tags_of (cut old.left all)
   pub left : now.left - count (cut now.left rest) ≡ old.left - count (cut old.left all)
 
 -- ---- cut marks
@@ -50,36 +50,36 @@ no_entries zero store = refl
 no_entries (suc depth) store = refl
 
 module _ (store : ObjectMap) where
-  -- ---- marks without steps
+  -- ---- marks without tags
 
   pub walked_nothing : (m : Marks) (c : Walk) → m ≡ Nothing → Walks m c c
   unfolding cut
   walked_nothing m c is = record {
-    steps = sym (append-nil c.steps.items) ∙ ap (λ m. c.steps.items ++ steps_of (cut c.left m)) (sym is);
+    tags = sym (append-nil c.tags.items) ∙ ap (λ m. c.tags.items ++ tags_of (cut c.left m)) (sym is);
     left = let none : count (cut c.left m) ≡ 0 = ap (λ m. count (cut c.left m)) is in omega arith;
   }
 
   pub full : (m : Marks) (c : Walk) → c.left ≡ 0 → Walks m c c
   full m c none =
       let nothing : cut c.left m ≡ Nothing = ap (λ n. cut n m) none ∙ cut_none m in record {
-        steps = sym (append-nil c.steps.items) ∙ ap (λ m. c.steps.items ++ steps_of m) (sym nothing);
+        tags = sym (append-nil c.tags.items) ∙ ap (λ m. c.tags.items ++ tags_of m) (sym nothing);
         left = let zero_count : count (cut c.left m) ≡ 0 = ap count nothing in omega arith;
       }
 
   -- ---- an element around others
 
-  around_case : (n : ℕ) (entry : Child) (inside : Marks) (before begun with_inside after : List Step) (left : ℕ)
-      → 0 < n → begun ≡ before ++ Begin entry ∷ []
-      → with_inside ≡ begun ++ steps_of (cut (n - 1) inside) → left ≡ (n - 1) - count (cut (n - 1) inside)
-      → after ≡ with_inside ++ End ∷ []
-      → (after ≡ before ++ steps_of (cut n (Mark entry inside Nothing))) × (left ≡ n - count (cut n (Mark entry inside Nothing)))
+  around_case : (n : ℕ) (entry : Child) (inside : Marks) (before element_opening with_inside after : List Tag) (left : ℕ)
+      → 0 < n → element_opening ≡ before ++ Open entry ∷ []
+      → with_inside ≡ element_opening ++ tags_of (cut (n - 1) inside) → left ≡ (n - 1) - count (cut (n - 1) inside)
+      → after ≡ with_inside ++ Close ∷ []
+      → (after ≡ before ++ tags_of (cut n (Mark entry inside Nothing))) × (left ≡ n - count (cut n (Mark entry inside Nothing)))
   unfolding cut
-  around_case zero entry inside before begun with_inside after left some first second third fourth = absurd (let never : 0 < 0 = some in omega (arith, never))
-  around_case (suc n) entry inside before begun with_inside after left some first second third fourth =
+  around_case zero entry inside before element_opening with_inside after left some first second third fourth = absurd (let never : 0 < 0 = some in omega (arith, never))
+  around_case (suc n) entry inside before element_opening with_inside after left some first second third fourth =
       let less : suc n - 1 ≡ n = omega arith in
-      let head : List Step = Begin entry ∷ [] in
-      let last : List Step = End ∷ [] in
-      let body : ℕ → List Step = λ k. steps_of (cut k inside) in (
+      let head : List Tag = Open entry ∷ [] in
+      let last : List Tag = Close ∷ [] in
+      let body : ℕ → List Tag = λ k. tags_of (cut k inside) in (
         fourth
             ∙ ap (λ l. l ++ last) (second ∙ ap₂ (λ a b. a ++ b) first (ap body less))
             ∙ ap (λ l. l ++ last) (append_assoc before head (body n))
@@ -91,33 +91,33 @@ module _ (store : ObjectMap) where
 
   -- a mark, and then others
   then_later : (n : ℕ) (entry : Child) (inside later : Marks)
-      → (steps_of (cut n (Mark entry inside later))
-      ≡ steps_of (cut n (Mark entry inside Nothing)) ++ steps_of (cut (n - count (cut n (Mark entry inside Nothing))) later))
+      → (tags_of (cut n (Mark entry inside later))
+      ≡ tags_of (cut n (Mark entry inside Nothing)) ++ tags_of (cut (n - count (cut n (Mark entry inside Nothing))) later))
       × (count (cut n (Mark entry inside later))
       ≡ count (cut n (Mark entry inside Nothing)) + count (cut (n - count (cut n (Mark entry inside Nothing))) later))
   unfolding cut
   then_later zero entry inside later = (
-    ap steps_of (sym (cut_none later)),
+    ap tags_of (sym (cut_none later)),
     (let none : count (cut 0 later) ≡ 0 = ap count (cut_none later) in omega (arith, none)),
   )
   then_later (suc n) entry inside later =
       let i = cut n inside in
       let same : suc n - suc (count i + 0) ≡ n - count i = omega arith in
-      let rest : ℕ → List Step = λ k. steps_of (cut k later) in (
-        ap (λ k. Begin entry ∷ (steps_of i ++ End ∷ rest k)) (sym same)
-            ∙ ap (λ l. Begin entry ∷ l) (sym (append_assoc (steps_of i) (End ∷ []) (rest (suc n - suc (count i + 0))))),
+      let rest : ℕ → List Tag = λ k. tags_of (cut k later) in (
+        ap (λ k. Open entry ∷ (tags_of i ++ Close ∷ rest k)) (sym same)
+            ∙ ap (λ l. Open entry ∷ l) (sym (append_assoc (tags_of i) (Close ∷ []) (rest (suc n - suc (count i + 0))))),
         (let counts : count (cut (n - count i) later) ≡ count (cut (suc n - suc (count i + 0)) later) = ap (λ k. count (cut k later)) (sym same) in omega (arith, counts)),
       )
 
   -- a part, and then the rest
   record IsFollowed (first rest both : Marks) : Type 0 where
-    pub steps_is : (n : ℕ) → steps_of (cut n both) ≡ steps_of (cut n first) ++ steps_of (cut (n - count (cut n first)) rest)
+    pub tags_is : (n : ℕ) → tags_of (cut n both) ≡ tags_of (cut n first) ++ tags_of (cut (n - count (cut n first)) rest)
     pub count_is : (n : ℕ) → count (cut n both) ≡ count (cut n first) + count (cut (n - count (cut n first)) rest)
 
   nothing_first : (rest : Marks) → IsFollowed Nothing rest rest
   unfolding cut
   nothing_first rest = record {
-    steps_is = λ n. let same : n - 0 ≡ n = omega arith in ap (λ k. steps_of (cut k rest)) (sym same);
+    tags_is = λ n. let same : n - 0 ≡ n = omega arith in ap (λ k. tags_of (cut k rest)) (sym same);
     count_is = λ n.
         let same : n - 0 ≡ n = omega arith in
         let counts : count (cut (n - 0) rest) ≡ count (cut n rest) = ap (λ k. count (cut k rest)) same in
@@ -134,14 +134,14 @@ module _ (store : ObjectMap) where
 
       at : (b : Bool) → IsFollowed (cond b (mark Nothing) Nothing) rest (cond b (mark rest) rest)
       at true = record {
-        steps_is = λ n. (then_later n (record { id = id; x = entry.x; y = entry.y }) (within (entries_in store (finite.get store id))) rest).0;
+        tags_is = λ n. (then_later n (record { id = id; x = entry.x; y = entry.y }) (within (entries_in store (finite.get store id))) rest).0;
         count_is = λ n. (then_later n (record { id = id; x = entry.x; y = entry.y }) (within (entries_in store (finite.get store id))) rest).1;
       }
       at false = nothing_first rest
 
   pub walk_begins : (rest all : Marks) (c : Walk) → all ≡ rest → IsWalking rest all c c
   walk_begins rest all c same = record {
-    steps = ap (λ m. c.steps.items ++ steps_of (cut c.left m)) (sym same);
+    tags = ap (λ m. c.tags.items ++ tags_of (cut c.left m)) (sym same);
     left = ap (λ m. c.left - count (cut c.left m)) (sym same);
   }
 
@@ -158,16 +158,16 @@ module _ (store : ObjectMap) where
       let followed = marked_first within entry (resolves_to store entry.id) rest in
       let left : next.left ≡ now.left - count (cut now.left first) = walked.left in
       record {
-        steps =
-            ap₂ (λ (a : List Step) (k : ℕ). a ++ steps_of (cut k rest)) walked.steps left
-            ∙ append_assoc now.steps.items (steps_of (cut now.left first)) (steps_of (cut (now.left - count (cut now.left first)) rest))
-            ∙ ap (λ l. now.steps.items ++ l) (sym (followed.steps_is now.left))
-            ∙ ap (λ m. now.steps.items ++ steps_of (cut now.left m)) (sym split)
-            ∙ so_far.steps;
+        tags =
+            ap₂ (λ (a : List Tag) (k : ℕ). a ++ tags_of (cut k rest)) walked.tags left
+            ∙ append_assoc now.tags.items (tags_of (cut now.left first)) (tags_of (cut (now.left - count (cut now.left first)) rest))
+            ∙ ap (λ l. now.tags.items ++ l) (sym (followed.tags_is now.left))
+            ∙ ap (λ m. now.tags.items ++ tags_of (cut now.left m)) (sym split)
+            ∙ so_far.tags;
         left =
             ap (λ k. k - count (cut k rest)) left
             ∙ (let counts = followed.count_is now.left in
-            let step : (now.left - count (cut now.left first)) - count (cut (now.left - count (cut now.left first)) rest) ≡ now.left - count (cut now.left both) = omega (arith, counts) in step)
+            let tag : (now.left - count (cut now.left first)) - count (cut (now.left - count (cut now.left first)) rest) ≡ now.left - count (cut now.left both) = omega (arith, counts) in tag)
             ∙ ap (λ m. now.left - count (cut now.left m)) (sym split)
             ∙ so_far.left;
       }
@@ -178,7 +178,7 @@ module _ (store : ObjectMap) where
   walk_ends within entries i all old now past so_far =
       let none : each_marked store within (drop i entries) ≡ Nothing = at_drop_all (each_marked store within) entries i past in
       record {
-        steps = sym (append-nil now.steps.items) ∙ ap (λ m. now.steps.items ++ steps_of (cut now.left m)) (sym none) ∙ so_far.steps;
+        tags = sym (append-nil now.tags.items) ∙ ap (λ m. now.tags.items ++ tags_of (cut now.left m)) (sym none) ∙ so_far.tags;
         left = (let nothing : count (cut now.left (each_marked store within (drop i entries))) ≡ 0 = ap (λ m. count (cut now.left m)) none in
             let same : now.left ≡ now.left - count (cut now.left (each_marked store within (drop i entries))) = omega (arith, nothing) in same)
             ∙ so_far.left;
@@ -202,10 +202,10 @@ module _ (store : ObjectMap) where
       ∙ ap (λ o. cond (is_element o) (mark o) Nothing) there
       ∙ ap (λ b. cond b (mark object) Nothing) is
 
-  pub around : (entry : Child) (inside : Marks) (before after : Walk) (begun with_inside : List Step) → (before.left ≡ 0 → ⊥)
-      → begun ≡ before.steps.items ++ Begin entry ∷ []
-      → with_inside ≡ begun ++ steps_of (cut (before.left - 1) inside) → after.left ≡ (before.left - 1) - count (cut (before.left - 1) inside)
-      → after.steps.items ≡ with_inside ++ End ∷ [] → Walks (Mark entry inside Nothing) before after
-  around entry inside before after begun with_inside some first second third fourth =
-      let both = around_case before.left entry inside before.steps.items begun with_inside after.steps.items after.left (omega (arith, some)) first second third fourth in
-      record { steps = both.0; left = both.1 }
+  pub around : (entry : Child) (inside : Marks) (before after : Walk) (element_opening with_inside : List Tag) → (before.left ≡ 0 → ⊥)
+      → element_opening ≡ before.tags.items ++ Open entry ∷ []
+      → with_inside ≡ element_opening ++ tags_of (cut (before.left - 1) inside) → after.left ≡ (before.left - 1) - count (cut (before.left - 1) inside)
+      → after.tags.items ≡ with_inside ++ Close ∷ [] → Walks (Mark entry inside Nothing) before after
+  around entry inside before after element_opening with_inside some first second third fourth =
+      let both = around_case before.left entry inside before.tags.items element_opening with_inside after.tags.items after.left (omega (arith, some)) first second third fourth in
+      record { tags = both.0; left = both.1 }

@@ -7,12 +7,12 @@ use Rattle.std.specs.FinMap as finite
 use Rattle.vt_kinds.specs.declared.entries.Child.{Child}
 use Rattle.vt_stores.specs.Stores.{ObjectMap}
 use Rattle.vt_needs.specs.declared.sizes.Sizes.{Sizes}
-use Rattle.vt_picture.specs.declared.walk.Step.{Step}
-use Rattle.vt_picture.specs.declared.walk.Step.TheVariants.{Begin, End}
-use Rattle.vt_picture.specs.Documents.{key_marks, key_steps, mask_marks, mask_steps, pictures}
+use Rattle.vt_picture.specs.declared.walk.Tag.{Tag}
+use Rattle.vt_picture.specs.declared.walk.Tag.TheVariants.{Open, Close}
+use Rattle.vt_picture.specs.Documents.{key_marks, key_tags, mask_marks, mask_tags, pictures}
 use Rattle.vt_picture.specs.Marks.{Marks, Nothing, Mark, ids}
 use Rattle.vt_picture.specs.Pictures.{EachOnce, is_in, picture_of, with_id, with_picture, with_pictures}
-use Rattle.vt_picture.specs.Steps.{steps_of}
+use Rattle.vt_picture.specs.Tags.{tags_of}
 
 -- ---- lists of IDs
 
@@ -84,45 +84,45 @@ once_with list (Some q) each = by (is_in q list) refl
     by true is = each
     by false is = once_more q list is each
 
--- ---- the pictures of steps
+-- ---- the pictures of tags
 
 module _ (store : ObjectMap) where
-  kept : (p : ℕ) (steps : List Step) (list : List ℕ) → is_in p list ≡ true → is_in p (with_pictures store list steps) ≡ true
+  kept : (p : ℕ) (tags : List Tag) (list : List ℕ) → is_in p list ≡ true → is_in p (with_pictures store list tags) ≡ true
   kept p [] list is = is
-  kept p (Begin entry ∷ steps) list is =
-      kept p steps (with_picture store list (Begin entry)) (kept_with p list (picture_of store entry.id (finite.get store entry.id)) is)
-  kept p (End ∷ steps) list is = kept p steps list is
+  kept p (Open entry ∷ tags) list is =
+      kept p tags (with_picture store list (Open entry)) (kept_with p list (picture_of store entry.id (finite.get store entry.id)) is)
+  kept p (Close ∷ tags) list is = kept p tags list is
 
-  once : (steps : List Step) (list : List ℕ) → EachOnce list → EachOnce (with_pictures store list steps)
+  once : (tags : List Tag) (list : List ℕ) → EachOnce list → EachOnce (with_pictures store list tags)
   once [] list each = each
-  once (Begin entry ∷ steps) list each =
-      once steps (with_picture store list (Begin entry)) (once_with list (picture_of store entry.id (finite.get store entry.id)) each)
-  once (End ∷ steps) list each = once steps list each
+  once (Open entry ∷ tags) list each =
+      once tags (with_picture store list (Open entry)) (once_with list (picture_of store entry.id (finite.get store entry.id)) each)
+  once (Close ∷ tags) list each = once tags list each
 
-  in_turn : (first second : List Step) (list : List ℕ) → with_pictures store list (first ++ second) ≡ with_pictures store (with_pictures store list first) second
+  in_turn : (first second : List Tag) (list : List ℕ) → with_pictures store list (first ++ second) ≡ with_pictures store (with_pictures store list first) second
   in_turn [] second list = refl
-  in_turn (step ∷ first) second list = in_turn first second (with_picture store list step)
+  in_turn (tag ∷ first) second list = in_turn first second (with_picture store list tag)
 
   module _ (id p : ℕ) (refers : picture_of store id (finite.get store id) ≡ Some p) where
     abbrev IsFound : Marks → Type 0
-    IsFound m = (list : List ℕ) (rest : List Step) → is_in id (ids m) ≡ true → is_in p (with_pictures store list (steps_of m ++ rest)) ≡ true
+    IsFound m = (list : List ℕ) (rest : List Tag) → is_in id (ids m) ≡ true → is_in p (with_pictures store list (tags_of m ++ rest)) ≡ true
 
-    within : (inside later : Marks) → IsFound inside → IsFound later → (list : List ℕ) (rest : List Step) (b : Bool) → is_in id (ids inside) ≡ b
-        → (b || is_in id (ids later)) ≡ true → is_in p (with_pictures store list (steps_of inside ++ End ∷ (steps_of later ++ rest))) ≡ true
-    within inside later first second list rest true at is = first list (End ∷ (steps_of later ++ rest)) at
+    within : (inside later : Marks) → IsFound inside → IsFound later → (list : List ℕ) (rest : List Tag) (b : Bool) → is_in id (ids inside) ≡ b
+        → (b || is_in id (ids later)) ≡ true → is_in p (with_pictures store list (tags_of inside ++ Close ∷ (tags_of later ++ rest))) ≡ true
+    within inside later first second list rest true at is = first list (Close ∷ (tags_of later ++ rest)) at
     within inside later first second list rest false at is =
-        ap (is_in p) (in_turn (steps_of inside) (End ∷ (steps_of later ++ rest)) list) ∙ second (with_pictures store list (steps_of inside)) rest is
+        ap (is_in p) (in_turn (tags_of inside) (Close ∷ (tags_of later ++ rest)) list) ∙ second (with_pictures store list (tags_of inside)) rest is
 
-    at_mark : (entry : Child) (inside later : Marks) → IsFound inside → IsFound later → (list : List ℕ) (rest : List Step) (b : Bool) → (id == entry.id) ≡ b
-        → (b || is_in id (ids inside ++ ids later)) ≡ true → is_in p (with_pictures store list (steps_of (Mark entry inside later) ++ rest)) ≡ true
+    at_mark : (entry : Child) (inside later : Marks) → IsFound inside → IsFound later → (list : List ℕ) (rest : List Tag) (b : Bool) → (id == entry.id) ≡ b
+        → (b || is_in id (ids inside ++ ids later)) ≡ true → is_in p (with_pictures store list (tags_of (Mark entry inside later) ++ rest)) ≡ true
     at_mark entry inside later first second list rest true at is =
         let own : picture_of store entry.id (finite.get store entry.id) ≡ Some p =
         subst (λ (i : ℕ). picture_of store i (finite.get store i) ≡ Some p) (eqb-true id entry.id at) refers in
-        kept p ((steps_of inside ++ End ∷ steps_of later) ++ rest) (with_picture store list (Begin entry))
+        kept p ((tags_of inside ++ Close ∷ tags_of later) ++ rest) (with_picture store list (Open entry))
         (subst (λ (o : Option ℕ). is_in p (with_id list o) ≡ true) (sym own) (is_with p list))
     at_mark entry inside later first second list rest false at is =
-        let after = with_picture store list (Begin entry) in
-        ap (λ (steps : List Step). is_in p (with_pictures store after steps)) (append_assoc (steps_of inside) (End ∷ steps_of later) rest)
+        let after = with_picture store list (Open entry) in
+        ap (λ (tags : List Tag). is_in p (with_pictures store after tags)) (append_assoc (tags_of inside) (Close ∷ tags_of later) rest)
         ∙ within inside later first second after rest (is_in id (ids inside)) refl (in_parts id (ids inside) (ids later) is)
 
     found : (m : Marks) → IsFound m
@@ -130,7 +130,7 @@ module _ (store : ObjectMap) where
     found (Mark entry inside later) list rest is = at_mark entry inside later (found inside) (found later) list rest (id == entry.id) refl is
 
 pub pictures_once : (sizes : Sizes) (store : ObjectMap) (mask : ℕ) → EachOnce (pictures sizes store mask)
-pictures_once sizes store mask = once store (key_steps sizes store mask) (with_pictures store [] (mask_steps store mask)) (once store (mask_steps store mask) [] tt)
+pictures_once sizes store mask = once store (key_tags sizes store mask) (with_pictures store [] (mask_tags store mask)) (once store (mask_tags store mask) [] tt)
 
 pub picture_written : (sizes : Sizes) (store : ObjectMap) (mask id p : ℕ) → is_in id (ids (mask_marks store mask) ++ ids (key_marks sizes store mask)) ≡ true
     → picture_of store id (finite.get store id) ≡ Some p → is_in p (pictures sizes store mask) ≡ true
@@ -143,9 +143,9 @@ picture_written sizes store mask id p is refers =
     of_keys : Marks
     of_keys = key_marks sizes store mask
 
-    alone : (m : Marks) (list : List ℕ) → is_in id (ids m) ≡ true → is_in p (with_pictures store list (steps_of m)) ≡ true
-    alone m list is = ap (λ (steps : List Step). is_in p (with_pictures store list steps)) (sym (append-nil (steps_of m))) ∙ found store id p refers m list [] is
+    alone : (m : Marks) (list : List ℕ) → is_in id (ids m) ≡ true → is_in p (with_pictures store list (tags_of m)) ≡ true
+    alone m list is = ap (λ (tags : List Tag). is_in p (with_pictures store list tags)) (sym (append-nil (tags_of m))) ∙ found store id p refers m list [] is
 
-    after_mask : (b : Bool) → is_in id (ids of_mask) ≡ b → (b || is_in id (ids of_keys)) ≡ true → is_in p (with_pictures store (with_pictures store [] (steps_of of_mask)) (steps_of of_keys)) ≡ true
-    after_mask true first is = kept store p (steps_of of_keys) (with_pictures store [] (steps_of of_mask)) (alone of_mask [] first)
-    after_mask false first is = alone of_keys (with_pictures store [] (steps_of of_mask)) is
+    after_mask : (b : Bool) → is_in id (ids of_mask) ≡ b → (b || is_in id (ids of_keys)) ≡ true → is_in p (with_pictures store (with_pictures store [] (tags_of of_mask)) (tags_of of_keys)) ≡ true
+    after_mask true first is = kept store p (tags_of of_keys) (with_pictures store [] (tags_of of_mask)) (alone of_mask [] first)
+    after_mask false first is = alone of_keys (with_pictures store [] (tags_of of_mask)) is

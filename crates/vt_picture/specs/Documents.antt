@@ -17,10 +17,10 @@ use Rattle.vt_svg.specs.declared.attribute.Paint.TheVariants as paints
 use Rattle.vt_svg.specs.declared.element.Element.TheVariants as elements
 use Rattle.vt_svg.specs.Elements.{closed, emptied, opened}
 use Rattle.vt_images.specs.Images.{AppendsImages}
-use Rattle.vt_picture.specs.declared.walk.Step.{Step}
+use Rattle.vt_picture.specs.declared.walk.Tag.{Tag}
 use Rattle.vt_picture.specs.Marks.{Marks, marks, cut, count}
-use Rattle.vt_picture.specs.Pictures.{with_pictures, with_steps}
-use Rattle.vt_picture.specs.Steps.{steps_of}
+use Rattle.vt_picture.specs.Pictures.{with_pictures, with_tags}
+use Rattle.vt_picture.specs.Tags.{tags_of}
 
 -- the most elements of a picture
 abbrev pub most_marks : ℕ
@@ -76,9 +76,9 @@ beginning sizes keys paint =
     opened elements.Svg (picture_attributes sizes keys)
     ++ emptied elements.Rect (attributes.Width sizes.mask.width ∷ attributes.Height sizes.mask.height ∷ attributes.Fill paint ∷ [])
 
--- a text with elements within an area behind it
-abbrev pub with_area : Sizes → ObjectMap → List Attribute → List Step → List ℕ → List ℕ
-with_area sizes store area steps text = with_steps sizes store (text ++ opened elements.Svg area) steps ++ closed elements.Svg
+-- a text with elements within an area after it
+abbrev pub with_area : Sizes → ObjectMap → List Attribute → List Tag → List ℕ → List ℕ
+with_area sizes store area tags text = with_tags sizes store (text ++ opened elements.Svg area) tags ++ closed elements.Svg
 
 abbrev pub mask_area : Sizes → List Attribute
 mask_area sizes = attributes.Width sizes.mask.width ∷ attributes.Height sizes.mask.height ∷ []
@@ -89,27 +89,27 @@ keys_area sizes = attributes.Left (sizes.mask.width + gap) ∷ []
 abbrev pub mask_marks : ObjectMap → ℕ → Marks
 mask_marks store mask = cut most_marks (marks terminal.inclusions store (mask_entries store mask))
 
--- the keys, as many elements as fit behind those of the mask
+-- the keys, as many elements as fit after those of the mask
 abbrev pub key_marks : Sizes → ObjectMap → ℕ → Marks
 key_marks sizes store mask =
     cut (most_marks - count (mask_marks store mask)) (marks terminal.inclusions store (key_places sizes 0 (soft_keys store mask)))
 
-abbrev pub mask_steps : ObjectMap → ℕ → List Step
-mask_steps store mask = steps_of (mask_marks store mask)
+abbrev pub mask_tags : ObjectMap → ℕ → List Tag
+mask_tags store mask = tags_of (mask_marks store mask)
 
-abbrev pub key_steps : Sizes → ObjectMap → ℕ → List Step
-key_steps sizes store mask = steps_of (key_marks sizes store mask)
+abbrev pub key_tags : Sizes → ObjectMap → ℕ → List Tag
+key_tags sizes store mask = tags_of (key_marks sizes store mask)
 
 -- the mask on its background, and its keys beside it
 abbrev pub mask_and_keys : Sizes → ObjectMap → ℕ → List ℕ
 mask_and_keys sizes store mask =
-    with_area sizes store (keys_area sizes) (key_steps sizes store mask)
-    (with_area sizes store (mask_area sizes) (mask_steps store mask)
+    with_area sizes store (keys_area sizes) (key_tags sizes store mask)
+    (with_area sizes store (mask_area sizes) (mask_tags store mask)
     (beginning sizes (length (soft_keys store mask)) (background (finite.get store mask))))
 
 -- the pictures that are shown, each once
 abbrev pub pictures : Sizes → ObjectMap → ℕ → List ℕ
-pictures sizes store mask = with_pictures store (with_pictures store [] (mask_steps store mask)) (key_steps sizes store mask)
+pictures sizes store mask = with_pictures store (with_pictures store [] (mask_tags store mask)) (key_tags sizes store mask)
 
 -- the mask and its keys, and the pictures to which their elements refer
 pub record IsPicture (sizes : Sizes) (store : ObjectMap) (mask : ℕ) (text : List ℕ) : Type 0 where

@@ -3,4 +3,4 @@ pub mod Documents
 pub mod Frames
 pub mod Marks
 pub mod Pictures
-pub mod Steps
+pub mod Tags

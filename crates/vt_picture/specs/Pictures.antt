@@ -12,8 +12,8 @@ use Rattle.vt_svg.specs.declared.element.Element.TheVariants as elements
 use Rattle.vt_svg.specs.Elements.{opened, closed, text_of}
 use Rattle.vt_picture.specs.declared.frame.Frame.{Frame}
 use Rattle.vt_picture.specs.declared.frame.Frame.TheVariants as frames
-use Rattle.vt_picture.specs.declared.walk.Step.{Step}
-use Rattle.vt_picture.specs.declared.walk.Step.TheVariants.{Begin, End}
+use Rattle.vt_picture.specs.declared.walk.Tag.{Tag}
+use Rattle.vt_picture.specs.declared.walk.Tag.TheVariants.{Open, Close}
 use Rattle.vt_picture.specs.Frames.{frame_of}
 use Rattle.vt_shapes.specs.Shapes.{shapes}
 use Rattle.vt_shapes.specs.UsedPictures.{used_picture}
@@ -29,10 +29,10 @@ sized (frames.Fine area) =
     ∷ attributes.Flag flags.Overflow ∷ []
 
 -- the ID, the position and the size of an element
-abbrev pub placed : Child → Frame → List Attribute
-placed entry frame = attributes.ObjectId entry.id ∷ attributes.X entry.x ∷ attributes.Y entry.y ∷ sized frame
+abbrev pub element_attributes : Child → Frame → List Attribute
+element_attributes entry frame = attributes.ObjectId entry.id ∷ attributes.X entry.x ∷ attributes.Y entry.y ∷ sized frame
 
--- the most bytes of a text behind which the shapes of another element are appended
+-- the most bytes of a text after which the shapes of another element are appended
 abbrev pub most_bytes : ℕ
 most_bytes = 8000000
 
@@ -40,22 +40,22 @@ abbrev pub shapes_if : Bool → Sizes → ObjectMap → ℕ → Seen → List �
 shapes_if has_room sizes store id object = if has_room then text_of (shapes sizes store id object) else []
 
 -- the beginning of an element: its tag, and its own shapes if there is room for them
-abbrev pub begun : Bool → Sizes → ObjectMap → Child → Option Seen → List ℕ
-begun has_room sizes store entry None = opened elements.Svg (attributes.ObjectId entry.id ∷ [])
-begun has_room sizes store entry (Some object) =
-    opened elements.Svg (placed entry (frame_of sizes object)) ++ shapes_if has_room sizes store entry.id object
+abbrev pub element_opening : Bool → Sizes → ObjectMap → Child → Option Seen → List ℕ
+element_opening has_room sizes store entry None = opened elements.Svg (attributes.ObjectId entry.id ∷ [])
+element_opening has_room sizes store entry (Some object) =
+    opened elements.Svg (element_attributes entry (frame_of sizes object)) ++ shapes_if has_room sizes store entry.id object
 
-abbrev pub step_text : Bool → Sizes → ObjectMap → Step → List ℕ
-step_text has_room sizes store (Begin entry) = begun has_room sizes store entry (finite.get store entry.id)
-step_text has_room sizes store End = closed elements.Svg
+abbrev pub tag_text : Bool → Sizes → ObjectMap → Tag → List ℕ
+tag_text has_room sizes store (Open entry) = element_opening has_room sizes store entry (finite.get store entry.id)
+tag_text has_room sizes store Close = closed elements.Svg
 
--- a text with a step behind it
-abbrev pub with_step : Sizes → ObjectMap → List ℕ → Step → List ℕ
-with_step sizes store text step = text ++ step_text (nat_le (length text) most_bytes) sizes store step
+-- a text with a tag after it
+abbrev pub with_tag : Sizes → ObjectMap → List ℕ → Tag → List ℕ
+with_tag sizes store text tag = text ++ tag_text (nat_le (length text) most_bytes) sizes store tag
 
-abbrev pub with_steps : Sizes → ObjectMap → List ℕ → List Step → List ℕ
-with_steps sizes store text [] = text
-with_steps sizes store text (step ∷ steps) = with_steps sizes store (with_step sizes store text step) steps
+abbrev pub with_tags : Sizes → ObjectMap → List ℕ → List Tag → List ℕ
+with_tags sizes store text [] = text
+with_tags sizes store text (tag ∷ tags) = with_tags sizes store (with_tag sizes store text tag) tags
 
 -- ---- pictures
 
@@ -73,16 +73,16 @@ abbrev pub EachOnce : List ℕ → Type 0
 EachOnce [] = ⊤
 EachOnce (id ∷ ids) = (is_in id ids ≡ false) × EachOnce ids
 
--- IDs with another behind them, unless it is one of them
+-- IDs with another after them, unless it is one of them
 abbrev pub with_id : List ℕ → Option ℕ → List ℕ
 with_id ids None = ids
 with_id ids (Some id) = if is_in id ids then ids else ids ++ id ∷ []
 
-abbrev pub with_picture : ObjectMap → List ℕ → Step → List ℕ
-with_picture store ids (Begin entry) = with_id ids (picture_of store entry.id (finite.get store entry.id))
-with_picture store ids End = ids
+abbrev pub with_picture : ObjectMap → List ℕ → Tag → List ℕ
+with_picture store ids (Open entry) = with_id ids (picture_of store entry.id (finite.get store entry.id))
+with_picture store ids Close = ids
 
--- the pictures to which steps refer, behind others
-abbrev pub with_pictures : ObjectMap → List ℕ → List Step → List ℕ
+-- the pictures to which tags refer, after others
+abbrev pub with_pictures : ObjectMap → List ℕ → List Tag → List ℕ
 with_pictures store ids [] = ids
-with_pictures store ids (step ∷ steps) = with_pictures store (with_picture store ids step) steps
+with_pictures store ids (tag ∷ tags) = with_pictures store (with_picture store ids tag) tags

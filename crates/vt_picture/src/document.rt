@@ -10,10 +10,10 @@ ghost use Rattle.vt_svg.specs.Elements.{emptied, opened};
 ghost use Rattle.vt_layout.specs.Drawings.{mask_entries};
 ghost use Rattle.vt_picture.specs.Documents as documents;
 ghost use Rattle.vt_picture.specs.Marks.{count, cut, marks};
-ghost use Rattle.vt_picture.specs.Steps.{steps_of, Walks};
+ghost use Rattle.vt_picture.specs.Tags.{tags_of, Walks};
 
-use crate::elements::{add_pictures, draw_steps};
-use crate::walk::{Step, Walk, walk_entries, walk_within};
+use crate::elements::{add_pictures, draw_tags};
+use crate::walk::{Tag, Walk, walk_entries, walk_within};
 use std::alloc::{AllocError, Global};
 use vt_chains::TERMINAL_LIMITS;
 use vt_images::draw_images;
@@ -54,11 +54,11 @@ pub fn draw<S: Store>(
     let in_keys = walk_keys(alloc, store, places.as_slice(), in_mask.left)?;
     let mut text = Vec::new(alloc);
     begin_picture(&mut text, sizes, keys.len(), background(store, mask))?;
-    draw_mask(&mut text, store, sizes, in_mask.steps.as_slice())?;
-    draw_keys(&mut text, store, sizes, in_keys.steps.as_slice())?;
+    draw_mask(&mut text, store, sizes, in_mask.tags.as_slice())?;
+    draw_keys(&mut text, store, sizes, in_keys.tags.as_slice())?;
     let mut pictures = Vec::new(alloc);
-    add_pictures(&mut pictures, store, in_mask.steps.as_slice())?;
-    add_pictures(&mut pictures, store, in_keys.steps.as_slice())?;
+    add_pictures(&mut pictures, store, in_mask.tags.as_slice())?;
+    add_pictures(&mut pictures, store, in_keys.tags.as_slice())?;
     draw_images(alloc, &mut text, store, pictures.as_slice())?;
     close(&mut text, Element::Svg)?;
     Ok(text)
@@ -66,11 +66,11 @@ pub fn draw<S: Store>(
 
 /// Walks through the elements within a mask.
 fn walk_mask<S: Store>(alloc: Global, store: &S, mask: ObjectId) -> Result<Walk, AllocError>
-    ensures steps { IfOk result (λ walk. walk.steps.items ≡ documents.mask_steps (S.contents store.now) mask) }
+    ensures tags { IfOk result (λ walk. walk.tags.items ≡ documents.mask_tags (S.contents store.now) mask) }
     ensures left { IfOk result (λ walk. walk.left ≡ documents.most_marks - count (documents.mask_marks (S.contents store.now) mask)) }
 {
     let mut walk = Walk {
-        steps: Vec::new(alloc),
+        tags: Vec::new(alloc),
         left: MOST_ELEMENTS,
     };
     walk_inside(store, mask, &mut walk)?;
@@ -94,10 +94,10 @@ fn walk_keys<S: Store>(
     places: &[Child],
     left: u16,
 ) -> Result<Walk, AllocError>
-    ensures { IfOk result (λ walk. walk.steps.items ≡ steps_of (cut left (marks terminal.inclusions (S.contents store.now) places.now))) }
+    ensures { IfOk result (λ walk. walk.tags.items ≡ tags_of (cut left (marks terminal.inclusions (S.contents store.now) places.now))) }
 {
     let mut walk = Walk {
-        steps: Vec::new(alloc),
+        tags: Vec::new(alloc),
         left,
     };
     walk_entries(store, MOST_INCLUSIONS, places, &mut walk)?;
@@ -217,9 +217,9 @@ fn draw_mask<S: Store>(
     text: &mut Vec<u8>,
     store: &S,
     sizes: Sizes,
-    steps: &[Step],
+    tags: &[Tag],
 ) -> Result<(), AllocError>
-    ensures { OnOk result (text.new.items ≡ documents.with_area sizes (S.contents store.now) (documents.mask_area sizes) steps.now text.old.items) }
+    ensures { OnOk result (text.new.items ≡ documents.with_area sizes (S.contents store.now) (documents.mask_area sizes) tags.now text.old.items) }
 {
     open(
         text,
@@ -229,7 +229,7 @@ fn draw_mask<S: Store>(
             Attribute::Height(u32::from(sizes.mask.height)),
         ],
     )?;
-    draw_steps(text, store, sizes, steps)?;
+    draw_tags(text, store, sizes, tags)?;
     close(text, Element::Svg)
 }
 
@@ -238,12 +238,12 @@ fn draw_keys<S: Store>(
     text: &mut Vec<u8>,
     store: &S,
     sizes: Sizes,
-    steps: &[Step],
+    tags: &[Tag],
 ) -> Result<(), AllocError>
-    ensures { OnOk result (text.new.items ≡ documents.with_area sizes (S.contents store.now) (documents.keys_area sizes) steps.now text.old.items) }
+    ensures { OnOk result (text.new.items ≡ documents.with_area sizes (S.contents store.now) (documents.keys_area sizes) tags.now text.old.items) }
 {
     let left = Attribute::Left(u32::from(sizes.mask.width) + GAP as u32);
     open(text, Element::Svg, &[left])?;
-    draw_steps(text, store, sizes, steps)?;
+    draw_tags(text, store, sizes, tags)?;
     close(text, Element::Svg)
 }

@@ -5,64 +5,64 @@ ghost use Rattle.std.specs.FinMap as finite;
 ghost use Rattle.vt_kinds.specs.Records.{seen};
 ghost use Rattle.vt_svg.specs.declared.element.Element.TheVariants.{Svg};
 ghost use Rattle.vt_svg.specs.Elements.{opened};
-ghost use Rattle.vt_picture.specs.Pictures.{begun, picture_of, placed, shapes_if, step_text, with_id, with_picture, with_pictures, with_step, with_steps, is_in};
+ghost use Rattle.vt_picture.specs.Pictures.{element_opening, picture_of, element_attributes, shapes_if, tag_text, with_id, with_picture, with_pictures, with_tag, with_tags, is_in};
 
 use crate::frame::{Frame, frame_of};
-use crate::walk::Step;
+use crate::walk::Tag;
 use std::alloc::AllocError;
 use vt_needs::Sizes;
 use vt_objects::{Child, Object, ObjectId, Store};
 use vt_shapes::{draw_shapes, used_picture};
 use vt_svg::{Attribute, Element, Flag, close, open};
 
-/// The most bytes of a text behind which the shapes of another element are appended.
+/// The most bytes of a text after which the shapes of another element are appended.
 const MOST_BYTES: usize = 8_000_000;
 
-/// Appends elements, each with its own shapes as long as there is room for them: behind 8,000,000 bytes an element has its tag alone.
-pub(crate) fn draw_steps<S: Store>(
+/// Appends elements, each with its own shapes as long as there is room for them: after 8,000,000 bytes an element has its tag alone.
+pub(crate) fn draw_tags<S: Store>(
     text: &mut Vec<u8>,
     store: &S,
     sizes: Sizes,
-    steps: &[Step],
+    tags: &[Tag],
 ) -> Result<(), AllocError>
-    ensures { OnOk result (text.new.items ≡ with_steps sizes (S.contents store.now) text.old.items steps.now) }
+    ensures { OnOk result (text.new.items ≡ with_tags sizes (S.contents store.now) text.old.items tags.now) }
 {
-    for step in steps {
-        draw_step(text, store, sizes, step)?;
+    for tag in tags {
+        draw_tag(text, store, sizes, tag)?;
     }
     Ok(())
 }
 
 /// Appends the beginning or the end of an element.
-fn draw_step<S: Store>(
+fn draw_tag<S: Store>(
     text: &mut Vec<u8>,
     store: &S,
     sizes: Sizes,
-    step: &Step,
+    tag: &Tag,
 ) -> Result<(), AllocError>
-    ensures { OnOk result (text.new.items ≡ with_step sizes (S.contents store.now) text.old.items step.now) }
+    ensures { OnOk result (text.new.items ≡ with_tag sizes (S.contents store.now) text.old.items tag.now) }
 {
     let has_room = text.len() <= MOST_BYTES;
-    match step {
-        Step::Begin(entry) => begin(text, store, sizes, entry, has_room),
-        Step::End => close(text, Element::Svg),
+    match tag {
+        Tag::Open(entry) => open_element(text, store, sizes, entry, has_room),
+        Tag::Close => close(text, Element::Svg),
     }
 }
 
 /// Appends the beginning of an element: its tag, and its own shapes if there is room for them.
-fn begin<S: Store>(
+fn open_element<S: Store>(
     text: &mut Vec<u8>,
     store: &S,
     sizes: Sizes,
     entry: &Child,
     has_room: bool,
 ) -> Result<(), AllocError>
-    ensures { OnOk result (text.new.items ≡ text.old.items ++ begun has_room sizes (S.contents store.now) entry.now (finite.get (S.contents store.now) entry.now.id)) }
+    ensures { OnOk result (text.new.items ≡ text.old.items ++ element_opening has_room sizes (S.contents store.now) entry.now (finite.get (S.contents store.now) entry.now.id)) }
 {
     let Some(object) = store.get(entry.id) else {
         return open(text, Element::Svg, &[Attribute::ObjectId(entry.id.raw())]);
     };
-    open_placed(text, entry, frame_of(sizes, object))?;
+    open_tag(text, entry, frame_of(sizes, object))?;
     draw_shapes_if(text, store, sizes, entry.id, object, has_room)
 }
 
@@ -83,8 +83,8 @@ fn draw_shapes_if<S: Store>(
 }
 
 /// Appends the tag of an element.
-fn open_placed(text: &mut Vec<u8>, entry: &Child, frame: Frame) -> Result<(), AllocError>
-    ensures { OnOk result (text.new.items ≡ text.old.items ++ opened Svg (placed entry.now frame)) }
+fn open_tag(text: &mut Vec<u8>, entry: &Child, frame: Frame) -> Result<(), AllocError>
+    ensures { OnOk result (text.new.items ≡ text.old.items ++ opened Svg (element_attributes entry.now frame)) }
 {
     let id = Attribute::ObjectId(entry.id.raw());
     let x = Attribute::X(i32::from(entry.x));
@@ -120,22 +120,22 @@ fn open_placed(text: &mut Vec<u8>, entry: &Child, frame: Frame) -> Result<(), Al
 pub(crate) fn add_pictures<S: Store>(
     ids: &mut Vec<ObjectId>,
     store: &S,
-    steps: &[Step],
+    tags: &[Tag],
 ) -> Result<(), AllocError>
-    ensures { OnOk result (ids.new.items ≡ with_pictures (S.contents store.now) ids.old.items steps.now) }
+    ensures { OnOk result (ids.new.items ≡ with_pictures (S.contents store.now) ids.old.items tags.now) }
 {
-    for step in steps {
-        add_picture(ids, store, step)?;
+    for tag in tags {
+        add_picture(ids, store, tag)?;
     }
     Ok(())
 }
 
-fn add_picture<S: Store>(ids: &mut Vec<ObjectId>, store: &S, step: &Step) -> Result<(), AllocError>
-    ensures { OnOk result (ids.new.items ≡ with_picture (S.contents store.now) ids.old.items step.now) }
+fn add_picture<S: Store>(ids: &mut Vec<ObjectId>, store: &S, tag: &Tag) -> Result<(), AllocError>
+    ensures { OnOk result (ids.new.items ≡ with_picture (S.contents store.now) ids.old.items tag.now) }
 {
-    match step {
-        Step::Begin(entry) => add_id(ids, picture_of(store, entry.id)),
-        Step::End => Ok(()),
+    match tag {
+        Tag::Open(entry) => add_id(ids, picture_of(store, entry.id)),
+        Tag::Close => Ok(()),
     }
 }
 

@@ -9,25 +9,25 @@ ghost use Rattle.vt_kinds.specs.Records.{seen};
 ghost use Rattle.vt_shown.specs.ShownElements.{resolves_to, item_of, number_shown};
 ghost use Rattle.vt_layout.specs.Drawings.{entries_in};
 ghost use Rattle.vt_picture.specs.Marks.{led_to, marks, marked, Nothing};
-ghost use Rattle.vt_picture.specs.Steps.{Walks};
+ghost use Rattle.vt_picture.specs.Tags.{Walks};
 
 use std::alloc::AllocError;
 use vt_objects::{Child, Container, InputList, Object, ObjectId, Store};
 use vt_shown::{is_element, number_shown, resolve};
 
-/// A step of a walk.
+/// A tag of an element, as a walk comes to it.
 #[derive(Clone, Copy, Debug, PartialEq, Eq)]
-pub(crate) enum Step {
-    /// An element begins: its own ID, and its position in the element around it.
-    Begin(Child),
-    /// The element that began last, of those that have not ended, ends.
-    End,
+pub(crate) enum Tag {
+    /// The tag that opens an element: its own ID, and its position in the element around it.
+    Open(Child),
+    /// The tag that closes the element that was opened last, of those that are open.
+    Close,
 }
 
-/// The steps so far, and the number of elements that still fit.
+/// The tags so far, and the number of elements that still fit.
 #[derive(Drop)]
 pub(crate) struct Walk {
-    pub(crate) steps: Vec<Step>,
+    pub(crate) tags: Vec<Tag>,
     pub(crate) left: u16,
 }
 
@@ -70,9 +70,9 @@ fn walk_entry<S: Store>(
         return Ok(());
     }
     walk.left -= 1;
-    walk.steps.push(Step::Begin(led_to(entry, found.0)))?;
+    walk.tags.push(Tag::Open(led_to(entry, found.0)))?;
     walk_within(store, depth, found.1, walk)?;
-    walk.steps.push(Step::End)?;
+    walk.tags.push(Tag::Close)?;
     Ok(())
 }
 

@@ -43,7 +43,7 @@ abbrev pub ElementsAreTheDrawing : Type 0
 ElementsAreTheDrawing = (sizes : Sizes) (store : ObjectMap) (mask : ℕ)
     → ids (mask_marks store mask) ++ ids (key_marks sizes store mask) ≡ take most_marks (map (λ e. e.id) (drawing store mask))
 
--- A picture is the text of elements within each other, each closed behind all that is in it, and shows the drawing of its mask: the IDs of
+-- A picture is the text of elements within each other, each closed after all that is in it, and shows the drawing of its mask: the IDs of
 -- objects in its text are, in their order, those of the drawing, the first 2,000.
 abbrev pub PicturesShowTheDrawing : Type 0
 PicturesShowTheDrawing = (sizes : Sizes) (store : ObjectMap) (mask : ℕ) (text : List ℕ) → IsPicture sizes store mask text

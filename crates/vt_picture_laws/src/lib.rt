@@ -26,7 +26,7 @@ pub fn elements_are_the_drawing()
     ensures { ElementsAreTheDrawing }
 {}
 
-/// A picture is the text of elements within each other, each closed behind all that is in it. The IDs of objects in it are, in their order,
+/// A picture is the text of elements within each other, each closed after all that is in it. The IDs of objects in it are, in their order,
 /// those of the drawing of its mask, the first 2,000.
 pub fn pictures_show_the_drawing()
     ensures { PicturesShowTheDrawing }

@@ -61,25 +61,25 @@ field_none (Some look) field (Some text) =
     either field.wraps (row_nodes look field 0 (pieces (most_rows look field) (columns look field) text)) (only_row look field (trimmed text))
     (rows look field 0 (pieces (most_rows look field) (columns look field) text)) (only_none look field (trimmed text))
 
-tick_none : (look : Option Look) (width : ℕ) (n : Option ℕ) → object_ids (fields.ticked look width n) ≡ []
+tick_none : (look : Option Look) (width : ℕ) (n : Option ℕ) → object_ids (fields.check_mark_if look width n) ≡ []
 tick_none look width None = refl
-tick_none look width (Some n) = either (n == 0) nodes.None (fields.tick look width) refl refl
+tick_none look width (Some n) = either (n == 0) nodes.None (fields.check_mark look width) refl refl
 
 -- ---- shapes
 
-ellipse_none : (paint : Paint) (pen : Pen) (o : Ellipse) → object_ids (ellipses.outline paint pen o) ≡ []
+ellipse_none : (paint : Paint) (pen : Pen) (o : Ellipse) → object_ids (ellipses.ellipse_outline paint pen o) ≡ []
 ellipse_none paint pen o =
     let whole = ellipses.whole paint pen o in
-    let arc = ellipses.part elements.Polyline paints.None pen o in
-    let segment = ellipses.part elements.Polygon paint pen o in
+    let arc = ellipses.arc_shape elements.Polyline paints.None pen o in
+    let segment = ellipses.arc_shape elements.Polygon paint pen o in
     let section = ellipses.section paint pen o in
     let closed = either (o.ellipse_type == 2) segment section refl refl in
     either (ellipses.is_whole o) whole (cond (o.ellipse_type == 1) arc (cond (o.ellipse_type == 2) segment section)) refl
     (either (o.ellipse_type == 1) arc (cond (o.ellipse_type == 2) segment section) refl closed)
 
-across_none : (o : LinearBar) (colour width n most : ℕ) → object_ids (gauges.across o (gauges.stroke colour width) n most) ≡ []
+across_none : (o : LinearBar) (colour width n most : ℕ) → object_ids (gauges.across o (gauges.plain_line colour width) n most) ≡ []
 across_none o colour width n most =
-    let attributes = gauges.stroke colour width in
+    let attributes = gauges.plain_line colour width in
     let upright = gauges.line attributes (lines.point (gauges.along_axis o n) 0) (lines.point (gauges.along_axis o n) (min most (10 * o.height))) in
     let level = gauges.line attributes (lines.point 0 (gauges.along_axis o n)) (lines.point (min most (10 * o.width)) (gauges.along_axis o n)) in
     either (gauges.is_horizontal o) upright level refl refl
@@ -87,7 +87,7 @@ across_none o colour width n most =
 if_set : (b : Bool) (n : Nodes) → object_ids n ≡ [] → object_ids (when b n) ≡ []
 if_set b n none = either b n nodes.None none refl
 
-polygon_none : (store : ObjectMap) (pen : Pen) (o : Polygon) → object_ids (lines.outline store o pen) ≡ []
+polygon_none : (store : ObjectMap) (pen : Pen) (o : Polygon) → object_ids (lines.polygon_outline store o pen) ≡ []
 polygon_none store pen o =
     let points = map lines.middle o.points in
     let lined = Along elements.Polyline (drawn_with paints.None pen) points nodes.None in
@@ -98,7 +98,7 @@ value_none : (store : ObjectMap) (o : LinearBar) → object_ids (gauges.value_pa
 value_none store o =
     let n = gauges.value_length store o in
     let filled = Along elements.Polygon (attributes.Fill (paints.Colour o.colour) ∷ []) (gauges.part_between o 0 n) nodes.None in
-    either (has_bit o.options 3) (gauges.across o (gauges.stroke o.colour 20) n 1000000) filled (across_none o o.colour 20 n 1000000) refl
+    either (has_bit o.options 3) (gauges.across o (gauges.plain_line o.colour 20) n 1000000) filled (across_none o o.colour 20 n 1000000) refl
 
 arch_none : (store : ObjectMap) (o : ArchedBar) → object_ids (gauges.arch_part store o) ≡ []
 arch_none store o =
@@ -111,7 +111,7 @@ pub no_ids : (sizes : Sizes) (store : ObjectMap) (id : ℕ) (object : Seen) → 
 no_ids sizes store id (objects.Key o) = refl
 no_ids sizes store id (objects.Button o) = refl
 no_ids sizes store id (objects.InputBoolean o) =
-    both (field_shapes None (fields.input_boolean_field o) None) (fields.ticked (look_of (finite.get store o.font)) o.width (number_shown store o.variable o.value))
+    both (field_shapes None (fields.input_boolean_field o) None) (fields.check_mark_if (look_of (finite.get store o.font)) o.width (number_shown store o.variable o.value))
     (field_none None (fields.input_boolean_field o) None) (tick_none (look_of (finite.get store o.font)) o.width (number_shown store o.variable o.value))
 no_ids sizes store id (objects.InputString o) = field_none (look_of (finite.get store o.font)) (fields.input_string_field o) (text_shown store o.variable o.text)
 no_ids sizes store id (objects.InputNumber o) = field_none (look_of (finite.get store o.font)) (fields.input_number_field o) (fields.input_number_text store o)

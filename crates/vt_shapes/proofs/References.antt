@@ -84,9 +84,9 @@ field_none : (look : Option Look) (field : Field) (text : Option (List ℕ)) →
 field_none look field text border =
     ap₂ (λ (a b : List ℕ). (a ++ (b ++ [])) ++ references (texts look field text)) (background_none look field) border ∙ texts_none look field text
 
-tick_none : (look : Option Look) (width : ℕ) (n : Option ℕ) → references (fields.ticked look width n) ≡ []
+tick_none : (look : Option Look) (width : ℕ) (n : Option ℕ) → references (fields.check_mark_if look width n) ≡ []
 tick_none look width None = refl
-tick_none look width (Some n) = either (n == 0) nodes.None (fields.tick look width) refl refl
+tick_none look width (Some n) = either (n == 0) nodes.None (fields.check_mark look width) refl refl
 
 -- ---- pens and fillings
 
@@ -147,23 +147,23 @@ refer_either : (used : Paint) (b : Bool) (m n : Nodes) → Refer used m → Refe
 refer_either used true m n first second = first
 refer_either used false m n first second = second
 
--- an outline with a filling and a pen, of which only the filling has a pattern
+-- an ellipse_outline with a filling and a pen, of which only the filling has a pattern
 refer_drawn : (used fill : Paint) (pen : Pen) (n : Nodes) → references n ≡ (pattern_id fill ++ (pattern_id pen.paint ++ [])) ++ [] → pattern_id pen.paint ≡ [] → Holds used fill
     → Refer used n
 refer_drawn used fill pen n is none holds = subst (AllByRecursion (λ r. pattern_in used ≡ Some r)) (sym (is ∙ drawn_refers fill pen none)) holds
 
-ellipse_refers : (used fill : Paint) (pen : Pen) (o : Ellipse) → pattern_id pen.paint ≡ [] → Holds used fill → Refer used (ellipses.outline fill pen o)
+ellipse_refers : (used fill : Paint) (pen : Pen) (o : Ellipse) → pattern_id pen.paint ≡ [] → Holds used fill → Refer used (ellipses.ellipse_outline fill pen o)
 ellipse_refers used fill pen o none holds =
     let whole = ellipses.whole fill pen o in
-    let arc = ellipses.part elements.Polyline paints.None pen o in
-    let segment = ellipses.part elements.Polygon fill pen o in
+    let arc = ellipses.arc_shape elements.Polyline paints.None pen o in
+    let segment = ellipses.arc_shape elements.Polygon fill pen o in
     let section = ellipses.section fill pen o in
     refer_either used (ellipses.is_whole o) whole (cond (o.ellipse_type == 1) arc (cond (o.ellipse_type == 2) segment section)) (refer_drawn used fill pen whole refl none holds)
     (refer_either used (o.ellipse_type == 1) arc (cond (o.ellipse_type == 2) segment section) (refer_drawn used paints.None pen arc refl none tt)
     (refer_either used (o.ellipse_type == 2) segment section (refer_drawn used fill pen segment refl none holds) (refer_drawn used fill pen section refl none holds)))
 
 polygon_refers : (used : Paint) (store : ObjectMap) (pen : Pen) (o : Polygon) → pattern_id pen.paint ≡ [] → Holds used (fill_of store (finite.get store o.fill) pen)
-    → Refer used (lines.outline store o pen)
+    → Refer used (lines.polygon_outline store o pen)
 polygon_refers used store pen o none holds =
     let points = map lines.middle o.points in
     let fill = fill_of store (finite.get store o.fill) pen in
@@ -173,9 +173,9 @@ polygon_refers used store pen o none holds =
 
 -- ---- meters and bars
 
-across_none : (o : LinearBar) (colour width n most : ℕ) → references (gauges.across o (gauges.stroke colour width) n most) ≡ []
+across_none : (o : LinearBar) (colour width n most : ℕ) → references (gauges.across o (gauges.plain_line colour width) n most) ≡ []
 across_none o colour width n most =
-    let attributes = gauges.stroke colour width in
+    let attributes = gauges.plain_line colour width in
     let upright = gauges.line attributes (lines.point (gauges.along_axis o n) 0) (lines.point (gauges.along_axis o n) (min most (10 * o.height))) in
     let level = gauges.line attributes (lines.point 0 (gauges.along_axis o n)) (lines.point (min most (10 * o.width)) (gauges.along_axis o n)) in
     either (gauges.is_horizontal o) upright level refl refl
@@ -184,7 +184,7 @@ value_none : (store : ObjectMap) (o : LinearBar) → references (gauges.value_pa
 value_none store o =
     let n = gauges.value_length store o in
     let bar = Along elements.Polygon (attributes.Fill (paints.Colour o.colour) ∷ []) (gauges.part_between o 0 n) nodes.None in
-    either (has_bit o.options 3) (gauges.across o (gauges.stroke o.colour 20) n 1000000) bar (across_none o o.colour 20 n 1000000) refl
+    either (has_bit o.options 3) (gauges.across o (gauges.plain_line o.colour 20) n 1000000) bar (across_none o o.colour 20 n 1000000) refl
 
 arch_none : (store : ObjectMap) (o : ArchedBar) → references (gauges.arch_part store o) ≡ []
 arch_none store o =
@@ -206,7 +206,7 @@ pub refers : (sizes : Sizes) (store : ObjectMap) (id : ℕ) (object : Seen)
     → AllByRecursion (λ r. used_picture store id object ≡ Some r) (references (shapes sizes store id object))
 refers sizes store id (objects.InputBoolean o) =
     none sizes store id (objects.InputBoolean o)
-    (both (field_shapes None (fields.input_boolean_field o) None) (fields.ticked (look_of (finite.get store o.font)) o.width (number_shown store o.variable o.value))
+    (both (field_shapes None (fields.input_boolean_field o) None) (fields.check_mark_if (look_of (finite.get store o.font)) o.width (number_shown store o.variable o.value))
     (field_none None (fields.input_boolean_field o) None refl) (tick_none (look_of (finite.get store o.font)) o.width (number_shown store o.variable o.value)))
 refers sizes store id (objects.InputString o) =
     none sizes store id (objects.InputString o) (field_none (look_of (finite.get store o.font)) (fields.input_string_field o) (text_shown store o.variable o.text) refl)

@@ -6,23 +6,23 @@ use Rattle.vt_svg.specs.Elements.{text_of}
 use Rattle.vt_svg.proofs.Followed.{text_followed}
 use Rattle.vt_shapes.specs.declared.shapes.fields.Field.{Field}
 use Rattle.vt_shapes.specs.declared.shapes.fields.Look.{Look}
-use Rattle.vt_shapes.specs.Fields.{alone, behind, pieces, row_node, row_nodes, trimmed}
+use Rattle.vt_shapes.specs.Fields.{alone, in_front_of, pieces, row_node, row_nodes, trimmed}
 
 -- ---- spaces at the end
 
 trim_space : (xs : List ℕ) (c : ℕ) → c ≡ 0x20 → trimmed (xs ++ c ∷ []) ≡ trimmed xs
 unfolding trimmed
 trim_space [] c is = ap (λ b. cond b [] (c ∷ [])) (ap (λ k. eqb k 0x20) is)
-trim_space (x ∷ xs) c is = ap (behind x) (trim_space xs c is)
+trim_space (x ∷ xs) c is = ap (in_front_of x) (trim_space xs c is)
 
-behind_more : (x c : ℕ) (xs : List ℕ) → behind x (xs ++ c ∷ []) ≡ x ∷ (xs ++ c ∷ [])
-behind_more x c [] = refl
-behind_more x c (y ∷ xs) = refl
+in_front_of_more : (x c : ℕ) (xs : List ℕ) → in_front_of x (xs ++ c ∷ []) ≡ x ∷ (xs ++ c ∷ [])
+in_front_of_more x c [] = refl
+in_front_of_more x c (y ∷ xs) = refl
 
 trim_other : (xs : List ℕ) (c : ℕ) → c ≢ 0x20 → trimmed (xs ++ c ∷ []) ≡ xs ++ c ∷ []
 unfolding trimmed
 trim_other [] c other = ap (λ b. cond b [] (c ∷ [])) (ne_eqb c 0x20 other)
-trim_other (x ∷ xs) c other = ap (behind x) (trim_other xs c other) ∙ behind_more x c xs
+trim_other (x ∷ xs) c other = ap (in_front_of x) (trim_other xs c other) ∙ in_front_of_more x c xs
 
 last_of : (text : List ℕ) (end : ℕ) → 0 < end → end ≤ length text → take end text ≡ take (end - 1) text ++ get_or text (end - 1) 0 ∷ []
 last_of text end some fits =

@@ -14,16 +14,16 @@ unfoldable pub sine : ℕ → ℕ
 sine step = slice_index_or sines step 0
 
 -- a length times a sine
-abbrev pub part : ℕ → ℕ → ℕ
-part length sine = length * sine / 10000
+abbrev pub projected : ℕ → ℕ → ℕ
+projected length sine = length * sine / 10000
 
 -- the point at a step of a quarter, counterclockwise from the right
 abbrev pub in_quarter : Oval → ℕ → ℕ → Point
 in_quarter o quarter step =
-    if quarter == 0 then record { x = o.x + part o.radius_x (sine (45 - step)); y = o.y - part o.radius_y (sine step) }
-    else if quarter == 1 then record { x = o.x - part o.radius_x (sine step); y = o.y - part o.radius_y (sine (45 - step)) }
-    else if quarter == 2 then record { x = o.x - part o.radius_x (sine (45 - step)); y = o.y + part o.radius_y (sine step) }
-    else record { x = o.x + part o.radius_x (sine step); y = o.y + part o.radius_y (sine (45 - step)) }
+    if quarter == 0 then record { x = o.x + projected o.radius_x (sine (45 - step)); y = o.y - projected o.radius_y (sine step) }
+    else if quarter == 1 then record { x = o.x - projected o.radius_x (sine step); y = o.y - projected o.radius_y (sine (45 - step)) }
+    else if quarter == 2 then record { x = o.x - projected o.radius_x (sine (45 - step)); y = o.y + projected o.radius_y (sine step) }
+    else record { x = o.x + projected o.radius_x (sine step); y = o.y + projected o.radius_y (sine (45 - step)) }
 
 unfoldable pub point_on : Oval → ℕ → Point
 point_on o step = in_quarter o (step / 45) (step % 45)

@@ -32,8 +32,8 @@ whole paint pen o =
     (attributes.CentreX (5 * o.width) ∷ attributes.CentreY (5 * o.height) ∷ attributes.RadiusX (5 * o.width - half pen) ∷ attributes.RadiusY (5 * o.height - half pen)
     ∷ drawn_with paint pen) None
 
-abbrev pub part : Element → Paint → Pen → Ellipse → Nodes
-part element paint pen o = Along element (drawn_with paint pen) (arc_of pen o) None
+abbrev pub arc_shape : Element → Paint → Pen → Ellipse → Nodes
+arc_shape element paint pen o = Along element (drawn_with paint pen) (arc_of pen o) None
 
 abbrev pub section : Paint → Pen → Ellipse → Nodes
 section paint pen o = Along elements.Polygon (drawn_with paint pen) (arc_of pen o ++ centre o ∷ []) None
@@ -43,13 +43,13 @@ abbrev pub is_whole : Ellipse → Bool
 is_whole o = o.ellipse_type == 0 || (nat_lt 1 o.ellipse_type && o.start % 180 == o.end % 180)
 
 -- a whole ellipse, an arc, a segment closed by a line, or a section closed through the centre
-abbrev pub outline : Paint → Pen → Ellipse → Nodes
-outline paint pen o =
+abbrev pub ellipse_outline : Paint → Pen → Ellipse → Nodes
+ellipse_outline paint pen o =
     if is_whole o then whole paint pen o
-    else if o.ellipse_type == 1 then part elements.Polyline paints.None pen o
-    else if o.ellipse_type == 2 then part elements.Polygon paint pen o
+    else if o.ellipse_type == 1 then arc_shape elements.Polyline paints.None pen o
+    else if o.ellipse_type == 2 then arc_shape elements.Polygon paint pen o
     else section paint pen o
 
 abbrev pub ellipse_shapes : ObjectMap → Ellipse → Nodes
 ellipse_shapes store o =
-    outline (fill_of store (finite.get store o.fill) (pen_of (finite.get store o.line_attributes))) (pen_of (finite.get store o.line_attributes)) o
+    ellipse_outline (fill_of store (finite.get store o.fill) (pen_of (finite.get store o.line_attributes))) (pen_of (finite.get store o.line_attributes)) o

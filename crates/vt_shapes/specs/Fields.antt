@@ -42,14 +42,14 @@ pieces zero n text = []
 pieces (suc rows) n [] = []
 pieces (suc rows) n (c ∷ text) = take n (c ∷ text) ∷ pieces rows n (drop n (c ∷ text))
 
--- without the spaces at the end
-abbrev pub behind : ℕ → List ℕ → List ℕ
-behind c [] = if c == 0x20 then [] else c ∷ []
-behind c (d ∷ text) = c ∷ d ∷ text
+-- a character in front of a text without spaces at its end
+abbrev pub in_front_of : ℕ → List ℕ → List ℕ
+in_front_of c [] = if c == 0x20 then [] else c ∷ []
+in_front_of c (d ∷ text) = c ∷ d ∷ text
 
 unfoldable pub trimmed : List ℕ → List ℕ
 trimmed [] = []
-trimmed (c ∷ text) = behind c (trimmed text)
+trimmed (c ∷ text) = in_front_of c (trimmed text)
 
 -- ---- the drawn rows
 
@@ -79,7 +79,7 @@ abbrev pub row_nodes : Look → Field → ℕ → List (List ℕ) → Nodes
 row_nodes look field i [] = nodes.None
 row_nodes look field i (row ∷ rows) = row_node look field i (trimmed row) (row_nodes look field (suc i) rows)
 
--- the only row of a text, cut behind the character of which a pixel may be in the field
+-- the only row of a text, cut after the character of which a pixel may be in the field
 abbrev pub only_row : Look → Field → List ℕ → Nodes
 only_row look field [] = nodes.None
 only_row look field (c ∷ text) = alone look field 0 (take (columns look field + 1) (c ∷ text))

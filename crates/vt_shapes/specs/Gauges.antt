@@ -33,8 +33,8 @@ abbrev pub shown : ObjectMap → ℕ → ℕ → ℕ
 shown store variable value = or_zero (number_shown store variable value)
 
 -- a line of a colour and a width
-abbrev pub stroke : ℕ → ℕ → List Attribute
-stroke colour width = attributes.Fill paints.None ∷ attributes.Stroke (paints.Colour colour) ∷ attributes.StrokeWidth width ∷ []
+abbrev pub plain_line : ℕ → ℕ → List Attribute
+plain_line colour width = attributes.Fill paints.None ∷ attributes.Stroke (paints.Colour colour) ∷ attributes.StrokeWidth width ∷ []
 
 abbrev pub line : List Attribute → Point → Point → Nodes
 line attributes first last = Along elements.Polyline attributes (first ∷ last ∷ []) nodes.None
@@ -64,21 +64,21 @@ steps_of o = sweep o.start o.end
 abbrev pub meter_tick : Meter → ℕ → Nodes
 meter_tick o i =
     let angle = turned (has_bit o.options 3) o.start (steps_of o) (tick_at (steps_of o) o.ticks i) in
-    line (stroke o.arc_colour 20) (point_on (dial o 8) angle) (point_on (dial o 9) angle)
+    line (plain_line o.arc_colour 20) (point_on (dial o 8) angle) (point_on (dial o 9) angle)
 
 abbrev pub needle : ObjectMap → Meter → Nodes
 needle store o =
-    line (stroke o.needle_colour 30) (point (5 * o.width) (5 * o.width))
+    line (plain_line o.needle_colour 30) (point (5 * o.width) (5 * o.width))
     (point_on (dial o 8) (turned (has_bit o.options 3) o.start (steps_of o) (share (steps_of o) o.min o.max (shown store o.variable o.value))))
 
 abbrev pub meter_border : Meter → Nodes
 meter_border o =
     Empty elements.Ellipse
     (attributes.CentreX (5 * o.width) ∷ attributes.CentreY (5 * o.width) ∷ attributes.RadiusX (5 * o.width) ∷ attributes.RadiusY (5 * o.width)
-    ∷ stroke o.border_colour 20) nodes.None
+    ∷ plain_line o.border_colour 20) nodes.None
 
 abbrev pub meter_arc : Meter → Nodes
-meter_arc o = Along elements.Polyline (stroke o.arc_colour 20) (arc (dial o 9) o.start (steps_of o)) nodes.None
+meter_arc o = Along elements.Polyline (plain_line o.arc_colour 20) (arc (dial o 9) o.start (steps_of o)) nodes.None
 
 -- the arc, the border, the ticks and the needle
 abbrev pub meter_shapes : ObjectMap → Meter → Nodes
@@ -129,17 +129,17 @@ value_length store o = share (length_of o) o.min o.max (shown store o.variable o
 abbrev pub value_part : ObjectMap → LinearBar → Nodes
 value_part store o =
     if has_bit o.options 3
-    then across o (stroke o.colour 20) (value_length store o) all_across
+    then across o (plain_line o.colour 20) (value_length store o) all_across
     else Along elements.Polygon (attributes.Fill (paints.Colour o.colour) ∷ []) (part_between o 0 (value_length store o)) nodes.None
 
 abbrev pub bar_tick : LinearBar → ℕ → Nodes
-bar_tick o i = across o (stroke 0 10) (tick_at (length_of o) o.ticks i) 40
+bar_tick o i = across o (plain_line 0 10) (tick_at (length_of o) o.ticks i) 40
 
 abbrev pub bar_target : ObjectMap → LinearBar → Nodes
-bar_target store o = across o (stroke o.target_colour 20) (share (length_of o) o.min o.max (shown store o.target_variable o.target)) all_across
+bar_target store o = across o (plain_line o.target_colour 20) (share (length_of o) o.min o.max (shown store o.target_variable o.target)) all_across
 
 abbrev pub bar_border : LinearBar → Nodes
-bar_border o = Along elements.Polygon (stroke o.colour 10) (part_between o 0 (length_of o)) nodes.None
+bar_border o = Along elements.Polygon (plain_line o.colour 10) (part_between o 0 (length_of o)) nodes.None
 
 -- the value, the border, the ticks and the target
 abbrev pub bar_shapes : ObjectMap → LinearBar → Nodes
@@ -164,7 +164,7 @@ is_clockwise o = has_bit o.options 4
 abbrev pub across_arch : ArchedBar → ℕ → ℕ → Nodes
 across_arch o colour n =
     let angle = turned (is_clockwise o) o.start (arch_steps o) n in
-    line (stroke colour 20) (point_on (ring o (10 * o.bar_width)) angle) (point_on (ring o 0) angle)
+    line (plain_line colour 20) (point_on (ring o (10 * o.bar_width)) angle) (point_on (ring o 0) angle)
 
 abbrev pub arch_value : ObjectMap → ArchedBar → ℕ
 arch_value store o = share (arch_steps o) o.min o.max (shown store o.variable o.value)
@@ -190,8 +190,8 @@ arch_target store o = across_arch o o.target_colour (share (arch_steps o) o.min 
 -- the outer and the inner edge
 abbrev pub arch_border : ArchedBar → Nodes
 arch_border o =
-    Along elements.Polyline (stroke o.colour 10) (arc (ring o 0) o.start (arch_steps o))
-    (Along elements.Polyline (stroke o.colour 10) (arc (ring o (10 * o.bar_width)) o.start (arch_steps o)) nodes.None)
+    Along elements.Polyline (plain_line o.colour 10) (arc (ring o 0) o.start (arch_steps o))
+    (Along elements.Polyline (plain_line o.colour 10) (arc (ring o (10 * o.bar_width)) o.start (arch_steps o)) nodes.None)
 
 -- the value, the border and the target
 abbrev pub arch_shapes : ObjectMap → ArchedBar → Nodes

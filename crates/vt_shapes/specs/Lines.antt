@@ -66,11 +66,11 @@ rectangle_shapes store o =
 abbrev pub middle : corners.Point → Point
 middle p = point (10 * p.x + 5) (10 * p.y + 5)
 
-abbrev pub outline : ObjectMap → Polygon → Pen → Nodes
-outline store o pen =
+abbrev pub polygon_outline : ObjectMap → Polygon → Pen → Nodes
+polygon_outline store o pen =
     if o.polygon_type == 3
     then Along elements.Polyline (drawn_with paints.None pen) (map middle o.points) None
     else Along elements.Polygon (drawn_with (fill_of store (finite.get store o.fill) pen) pen) (map middle o.points) None
 
 abbrev pub polygon_shapes : ObjectMap → Polygon → Nodes
-polygon_shapes store o = outline store o (pen_of (finite.get store o.line_attributes))
+polygon_shapes store o = polygon_outline store o (pen_of (finite.get store o.line_attributes))

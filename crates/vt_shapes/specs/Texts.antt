@@ -127,19 +127,19 @@ abbrev pub colour_of : Option Look → ℕ
 colour_of None = 0
 colour_of (Some look) = look.colour
 
--- a tick in a square
-abbrev pub tick : Option Look → ℕ → Nodes
-tick look width =
+-- a check mark in a square
+abbrev pub check_mark : Option Look → ℕ → Nodes
+check_mark look width =
     Along elements.Polyline
     (attributes.Fill paints.None ∷ attributes.Stroke (paints.Colour (colour_of look)) ∷ attributes.StrokeWidth (width / 10 + 1) ∷ [])
     (point (width / 5) (width / 2) ∷ point (width * 9 / 20) (width * 3 / 4) ∷ point (width * 17 / 20) (width / 4) ∷ []) nodes.None
 
 -- nothing for false, and where the variable is missing
-abbrev pub ticked : Option Look → ℕ → Option ℕ → Nodes
-ticked look width None = nodes.None
-ticked look width (Some n) = if n == 0 then nodes.None else tick look width
+abbrev pub check_mark_if : Option Look → ℕ → Option ℕ → Nodes
+check_mark_if look width None = nodes.None
+check_mark_if look width (Some n) = if n == 0 then nodes.None else check_mark look width
 
 abbrev pub input_boolean_shapes : ObjectMap → InputBoolean → Nodes
 input_boolean_shapes store o =
     nodes.followed (field_shapes None (input_boolean_field o) None)
-    (ticked (look_of (finite.get store o.font)) o.width (number_shown store o.variable o.value))
+    (check_mark_if (look_of (finite.get store o.font)) o.width (number_shown store o.variable o.value))

@@ -1,4 +1,4 @@
--- Nodes behind a text, with the IDs of objects in them.
+-- Nodes after a text, with the IDs of objects in them.
 use Rattle.std.proofs.Common.{◌≡◌, ℕ, List, [], ◌++◌, refl, sym, ap, ap₂, ◌∙◌}
 use Rattle.std.proofs.lemmas.List.{append_assoc, append-nil}
 use Rattle.std.specs.List.{flat_map}
@@ -22,7 +22,7 @@ gathered_followed held (Around element attributes inside rest) later =
     ∙ ap (λ l. flat_map held attributes ++ l) (append_assoc (gathered held inside) (gathered held rest) (gathered held later))
     )
 
--- nodes with some IDs are behind a text
+-- nodes with some IDs are after a text
 pub record AppendsNodes (ids old new : List ℕ) : Type 0 where
   pub nodes : Nodes
   pub is : new ≡ old ++ text_of nodes

@@ -1,4 +1,4 @@
--- The text of nodes, and of others behind them.
+-- The text of nodes, and of others after them.
 use Rattle.std.proofs.Common.{◌≡◌, ◌++◌, refl, sym, ap, ◌∙◌}
 use Rattle.std.proofs.lemmas.List.{append_assoc}
 use Rattle.std.specs.List.{flat_map}

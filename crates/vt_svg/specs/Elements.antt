@@ -35,7 +35,7 @@ closed element = codes "</" ++ (name element ++ codes ">")
 abbrev pub emptied : Element → List Attribute → List ℕ
 emptied element attributes = begun element attributes ++ codes "/>"
 
--- x and y with a space behind each
+-- x and y with a space after each
 abbrev pub point_text : Point → List ℕ
 point_text p = decimal p.x ++ (codes " " ++ (decimal p.y ++ codes " "))
 
@@ -45,7 +45,7 @@ led_along element attributes points = begun element attributes ++ (codes " point
 
 -- ---- elements in their order
 
--- Characters, lines along points, an element with nothing in it, or one with others in it; the nodes behind it follow.
+-- Characters, lines along points, an element with nothing in it, or one with others in it; the nodes after it follow.
 pub data Nodes : Type 0 where
   None : Nodes
   Characters : List ℕ → Nodes → Nodes
@@ -53,7 +53,7 @@ pub data Nodes : Type 0 where
   Empty : Element → List Attribute → Nodes → Nodes
   Around : Element → List Attribute → Nodes → Nodes → Nodes
 
--- the text of nodes: each element is closed behind all that is in it
+-- the text of nodes: each element is closed after all that is in it
 abbrev pub text_of : Nodes → List ℕ
 text_of None = []
 text_of (Characters characters later) = flat_map escaped characters ++ text_of later
@@ -61,7 +61,7 @@ text_of (Along element attributes points later) = led_along element attributes p
 text_of (Empty element attributes later) = emptied element attributes ++ text_of later
 text_of (Around element attributes inside later) = opened element attributes ++ (text_of inside ++ (closed element ++ text_of later))
 
--- nodes, and others behind them
+-- nodes, and others after them
 abbrev pub followed : Nodes → Nodes → Nodes
 followed None later = later
 followed (Characters characters rest) later = Characters characters (followed rest later)

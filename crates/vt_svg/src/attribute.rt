@@ -275,7 +275,7 @@ fn push_natural(out: &mut Vec<u8>, number: u32) -> Result<(), AllocError>
 /// The line art of a line without spaces.
 const SOLID: u16 = 0xFFFF;
 
-/// Appends a text, line art and a quote: the lengths of dashes and of the spaces behind them, one of both for each bit.
+/// Appends a text, line art and a quote: the lengths of dashes and of the spaces after them, one of both for each bit.
 /// Appends nothing for a solid line.
 fn push_line_art(out: &mut Vec<u8>, before: &[u8], art: u16, width: u16) -> Result<(), AllocError>
     ensures { OnOk result (out.new.items ≡ out.old.items ++ dashed before.now art width) }

@@ -3,7 +3,7 @@
 ghost use Rattle.std.specs.Prelude.{◌≡◌, ◌≤◌, ◌<◌, ◌+◌, ◌*◌, ◌/◌, ◌%◌, ◌++◌, map, OnOk};
 ghost use Rattle.std.specs.List.{flat_map};
 ghost use Rattle.vt_svg.specs.Elements.{point_text};
-ghost use Rattle.vt_shapes.specs.Arcs.{angles, arc, arc_back, in_quarter, IsOval, part, point_on, sine, sweep};
+ghost use Rattle.vt_shapes.specs.Arcs.{angles, arc, arc_back, in_quarter, IsOval, projected, point_on, sine, sweep};
 
 use std::alloc::AllocError;
 use vt_svg::{Point, push_point};
@@ -108,20 +108,20 @@ pub(crate) fn point_on(oval: Oval, step: u8) -> Point
     let (right, down) = (oval.x, oval.y);
     match step / QUARTER {
         0 => Point {
-            x: right + part(oval.radius_x, fall),
-            y: down.saturating_sub(part(oval.radius_y, rise)),
+            x: right + projected(oval.radius_x, fall),
+            y: down.saturating_sub(projected(oval.radius_y, rise)),
         },
         1 => Point {
-            x: right.saturating_sub(part(oval.radius_x, rise)),
-            y: down.saturating_sub(part(oval.radius_y, fall)),
+            x: right.saturating_sub(projected(oval.radius_x, rise)),
+            y: down.saturating_sub(projected(oval.radius_y, fall)),
         },
         2 => Point {
-            x: right.saturating_sub(part(oval.radius_x, fall)),
-            y: down + part(oval.radius_y, rise),
+            x: right.saturating_sub(projected(oval.radius_x, fall)),
+            y: down + projected(oval.radius_y, rise),
         },
         _ => Point {
-            x: right + part(oval.radius_x, rise),
-            y: down + part(oval.radius_y, fall),
+            x: right + projected(oval.radius_x, rise),
+            y: down + projected(oval.radius_y, fall),
         },
     }
 }
@@ -136,10 +136,10 @@ fn sine(step: u8) -> u16
 }
 
 /// A length times a sine.
-fn part(length: u32, sine: u16) -> u32
+fn projected(length: u32, sine: u16) -> u32
     requires length { length ≤ 400000 }
     requires sine { sine ≤ 10000 }
-    ensures is { result ≡ part length sine }
+    ensures is { result ≡ projected length sine }
     ensures most { result ≤ length }
 {
     length * u32::from(sine) / 10_000

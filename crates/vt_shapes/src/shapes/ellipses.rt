@@ -89,7 +89,7 @@ fn draw_arc(
     pen: Pen,
     ellipse: &Ellipse,
 ) -> Result<(), AllocError>
-    ensures { OnOk result (text.new.items ≡ text.old.items ++ text_of (ellipses.part element paint pen ellipse.now)) }
+    ensures { OnOk result (text.new.items ≡ text.old.items ++ text_of (ellipses.arc_shape element paint pen ellipse.now)) }
 {
     open_points(text, element, &drawn_with(paint, pen))?;
     push_whole_arc(text, pen, ellipse)?;

@@ -32,7 +32,7 @@ pub(crate) struct Field {
     pub(crate) area: Area,
     /// The colour of the area.
     pub(crate) colour: u8,
-    /// Whether what is behind the field shows through.
+    /// Whether what is after the field shows through.
     pub(crate) is_transparent: bool,
     /// Whether a long text goes on in a new row.
     pub(crate) wraps: bool,

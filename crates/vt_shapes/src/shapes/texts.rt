@@ -192,18 +192,18 @@ fn draw_if_true(
     width: u16,
     value: Option<u32>,
 ) -> Result<(), AllocError>
-    ensures { OnOk result (out.new.items ≡ out.old.items ++ text_of (fields.ticked look width value)) }
+    ensures { OnOk result (out.new.items ≡ out.old.items ++ text_of (fields.check_mark_if look width value)) }
 {
     match value {
         None | Some(0) => Ok(()),
-        Some(_) => draw_tick(out, look, u32::from(width)),
+        Some(_) => draw_check_mark(out, look, u32::from(width)),
     }
 }
 
-/// Draws a tick in a square.
-fn draw_tick(out: &mut Vec<u8>, look: Option<Look>, width: u32) -> Result<(), AllocError>
+/// Draws a check mark in a square.
+fn draw_check_mark(out: &mut Vec<u8>, look: Option<Look>, width: u32) -> Result<(), AllocError>
     requires { width ≤ 65535 }
-    ensures { OnOk result (out.new.items ≡ out.old.items ++ text_of (fields.tick look width)) }
+    ensures { OnOk result (out.new.items ≡ out.old.items ++ text_of (fields.check_mark look width)) }
 {
     along(
         out,

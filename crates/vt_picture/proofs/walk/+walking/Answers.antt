@@ -4,10 +4,10 @@ use Rattle.vt_kinds.specs.Records.{seen}
 use Rattle.vt_shown.specs.ShownElements.{resolves_to}
 use Rattle.vt_layout.specs.Drawings.{unmoved}
 use Rattle.vt_layout.proofs.EntriesOnPage.{none_within}
-use Rattle.vt_picture.specs.declared.walk.Step.TheVariants.{Begin}
+use Rattle.vt_picture.specs.declared.walk.Tag.TheVariants.{Open}
 use Rattle.vt_picture.specs.declared.walk.Walk.{Walk}
 use Rattle.vt_picture.specs.Marks.{Marks, Nothing, led_to, marked, marks}
-use Rattle.vt_picture.specs.Steps.{Walks}
+use Rattle.vt_picture.specs.Tags.{Walks}
 use Rattle.vt_picture.proofs.Walked.{no_depth, deeper, no_entries, walked_nothing, full, walk_begins, next_walked, walk_ends, element_mark, no_element, around}
 use Rattle.vt_picture.proofs.walk.+walking.Goals as goal
 
@@ -61,11 +61,11 @@ walk_entry-returns g t c =
     let mark : Child = led_to c.args.entry.now c.in-Some.found.0 in
     let is = element_mark store (marks c.args.depth store) c.args.entry.now (resolves_to store c.args.entry.now.id) c.in-Some.found.0 (Some object) found.0 found.1
     (sym c.is_element.ensures ∙ c.if-not-is_element.false) in
-    let after : Walk = record { steps = c.push-2.new.self; left = c.walk_within.new.walk.left } in
+    let after : Walk = record { tags = c.push-2.new.self; left = c.walk_within.new.walk.left } in
     subst (λ (m : Marks). Walks m c.args.walk.now after) (sym is)
-    (around store mark _ c.args.walk.now after c.push.new.self.items c.walk_within.new.walk.steps.items c.if-walk-eq0.false
-    (c.in_ok-push.ensures.items ∙ ap (λ (e : Child). c.args.walk.now.steps.items ++ Begin e ∷ []) c.led_to.ensures)
-    c.in_ok-walk_within.ensures.steps c.in_ok-walk_within.ensures.left c.in_ok-push-2.ensures.items)
+    (around store mark _ c.args.walk.now after c.push.new.self.items c.walk_within.new.walk.tags.items c.if-walk-eq0.false
+    (c.in_ok-push.ensures.items ∙ ap (λ (e : Child). c.args.walk.now.tags.items ++ Open e ∷ []) c.led_to.ensures)
+    c.in_ok-walk_within.ensures.tags c.in_ok-walk_within.ensures.left c.in_ok-push-2.ensures.items)
 
 pub walk_item-returns-in-None : goal.walk_item-returns-in-None
 walk_item-returns-in-None g t c =

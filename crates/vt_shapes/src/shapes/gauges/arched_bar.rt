@@ -6,12 +6,12 @@ ghost use Rattle.vt_svg.specs.declared.element.Element.TheVariants.{Polygon, Pol
 ghost use Rattle.vt_svg.specs.declared.attribute.Attribute.TheVariants.{Fill};
 ghost use Rattle.vt_svg.specs.declared.attribute.Paint.TheVariants.{Colour};
 ghost use Rattle.vt_shapes.specs.Arcs.{arc, IsOval};
-ghost use Rattle.vt_shapes.specs.Gauges.{across_arch, arch_border, arch_part, arch_shapes, arch_steps, arch_target, arch_value, between_edges, first_angle, is_clockwise, ring, stroke, turned};
+ghost use Rattle.vt_shapes.specs.Gauges.{across_arch, arch_border, arch_part, arch_shapes, arch_steps, arch_target, arch_value, between_edges, first_angle, is_clockwise, ring, plain_line, turned};
 ghost use Rattle.vt_shapes.specs.Bits.{has_bit};
 
 use crate::bits::has_bit;
 use crate::shapes::arcs::{Oval, STEPS, point_on, push_arc, push_arc_back, sweep};
-use crate::shapes::gauges::values::{draw_arc, draw_between, share, shown, stroke, turned};
+use crate::shapes::gauges::values::{draw_arc, draw_between, share, shown, plain_line, turned};
 use crate::shapes::lines::{half_of, tenths};
 use std::alloc::AllocError;
 use vt_objects::{ArchedBar, Store};
@@ -91,7 +91,7 @@ fn draw_across(text: &mut Vec<u8>, bar: &ArchedBar, colour: u8, n: u32) -> Resul
     let angle = angle_at(bar, n);
     draw_between(
         text,
-        &stroke(colour, LINE_WIDTH),
+        &plain_line(colour, LINE_WIDTH),
         point_on(ring(bar, tenths(bar.bar_width)), angle),
         point_on(ring(bar, 0), angle),
     )
@@ -183,11 +183,11 @@ fn draw_border_if_set(text: &mut Vec<u8>, bar: &ArchedBar) -> Result<(), AllocEr
 
 /// Draws a line along the arch, at a distance from its outer edge.
 fn draw_edge(text: &mut Vec<u8>, bar: &ArchedBar, inset: u32) -> Result<(), AllocError>
-    ensures { OnOk result (text.new.items ≡ text.old.items ++ text_of (Along Polyline (stroke bar.now.colour 10) (arc (ring bar.now inset) bar.now.start (arch_steps bar.now)) None)) }
+    ensures { OnOk result (text.new.items ≡ text.old.items ++ text_of (Along Polyline (plain_line bar.now.colour 10) (arc (ring bar.now inset) bar.now.start (arch_steps bar.now)) None)) }
 {
     draw_arc(
         text,
-        &stroke(bar.colour, BORDER_WIDTH),
+        &plain_line(bar.colour, BORDER_WIDTH),
         ring(bar, inset),
         bar.start,
         arch_steps(bar),

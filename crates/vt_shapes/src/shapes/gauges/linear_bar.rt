@@ -7,7 +7,7 @@ ghost use Rattle.vt_shapes.specs.Bits.{has_bit};
 
 use crate::bits::has_bit;
 use crate::shapes::gauges::axis::{draw_across, length_of, part_between};
-use crate::shapes::gauges::values::{share, shown, stroke, tick_at};
+use crate::shapes::gauges::values::{share, shown, plain_line, tick_at};
 use std::alloc::AllocError;
 use vt_objects::{LinearBar, Store};
 use vt_svg::{Attribute, Element, Paint, along};
@@ -74,7 +74,7 @@ fn draw_value<S: Store>(text: &mut Vec<u8>, store: &S, bar: &LinearBar) -> Resul
         draw_across(
             text,
             bar,
-            &stroke(bar.colour, LINE_WIDTH),
+            &plain_line(bar.colour, LINE_WIDTH),
             length,
             ALL_ACROSS,
         )
@@ -117,7 +117,7 @@ fn draw_tick(text: &mut Vec<u8>, bar: &LinearBar, i: u8) -> Result<(), AllocErro
     draw_across(
         text,
         bar,
-        &stroke(TICK_COLOUR, THIN_WIDTH),
+        &plain_line(TICK_COLOUR, THIN_WIDTH),
         place,
         TICK_LENGTH,
     )
@@ -139,7 +139,7 @@ fn draw_target_if_set<S: Store>(
     draw_across(
         text,
         bar,
-        &stroke(bar.target_colour, LINE_WIDTH),
+        &plain_line(bar.target_colour, LINE_WIDTH),
         place,
         ALL_ACROSS,
     )
@@ -155,7 +155,7 @@ fn draw_border_if_set(text: &mut Vec<u8>, bar: &LinearBar) -> Result<(), AllocEr
     along(
         text,
         Element::Polygon,
-        &stroke(bar.colour, THIN_WIDTH),
+        &plain_line(bar.colour, THIN_WIDTH),
         &part_between(bar, 0, length_of(bar)),
     )
 }

@@ -9,7 +9,7 @@ ghost use Rattle.vt_shapes.specs.Bits.{has_bit};
 use crate::bits::has_bit;
 use crate::shapes::arcs::{Oval, point_on, sweep};
 use crate::shapes::gauges::values::{
-    draw_arc, draw_between, share, shown, stroke, tick_at, turned,
+    draw_arc, draw_between, share, shown, plain_line, tick_at, turned,
 };
 use crate::shapes::lines::half_of;
 use std::alloc::AllocError;
@@ -100,7 +100,7 @@ fn draw_arc_if_set(text: &mut Vec<u8>, meter: &Meter) -> Result<(), AllocError>
     }
     draw_arc(
         text,
-        &stroke(meter.arc_colour, WIDTH),
+        &plain_line(meter.arc_colour, WIDTH),
         dial(meter, ARC_RADIUS),
         meter.start,
         steps_of(meter),
@@ -158,7 +158,7 @@ fn draw_tick(text: &mut Vec<u8>, meter: &Meter, i: u8) -> Result<(), AllocError>
     let angle = angle_at(meter, tick_at(u32::from(steps_of(meter)), meter.ticks, i));
     draw_between(
         text,
-        &stroke(meter.arc_colour, WIDTH),
+        &plain_line(meter.arc_colour, WIDTH),
         point_on(dial(meter, NEEDLE_RADIUS), angle),
         point_on(dial(meter, ARC_RADIUS), angle),
     )
@@ -172,7 +172,7 @@ fn draw_needle<S: Store>(text: &mut Vec<u8>, store: &S, meter: &Meter) -> Result
     let angle = angle_at(meter, value_step(store, meter));
     draw_between(
         text,
-        &stroke(meter.needle_colour, NEEDLE_WIDTH),
+        &plain_line(meter.needle_colour, NEEDLE_WIDTH),
         Point {
             x: centre,
             y: centre,

@@ -4,7 +4,7 @@ ghost use Rattle.std.specs.Prelude.{◌≡◌, ◌≤◌, ◌<◌, ◌*◌, ◌+
 ghost use Rattle.vt_svg.specs.declared.element.Element.TheVariants.{Polyline};
 ghost use Rattle.vt_svg.specs.Elements.{text_of, Along, None};
 ghost use Rattle.vt_shapes.specs.Arcs.{arc, IsOval};
-ghost use Rattle.vt_shapes.specs.Gauges.{line, share, shown, stroke, tick_at, turned};
+ghost use Rattle.vt_shapes.specs.Gauges.{line, share, shown, plain_line, tick_at, turned};
 
 use crate::shapes::arcs::{Oval, STEPS, push_arc};
 use std::alloc::AllocError;
@@ -63,8 +63,8 @@ pub(crate) fn turned(clockwise: bool, start: u8, steps: u8, n: u32) -> u8
 }
 
 /// The attributes of a line of a colour and a width.
-pub(crate) fn stroke(colour: u8, width: u32) -> [Attribute; 3]
-    ensures { result ≡ stroke colour width }
+pub(crate) fn plain_line(colour: u8, width: u32) -> [Attribute; 3]
+    ensures { result ≡ plain_line colour width }
 {
     [
         Attribute::Fill(Paint::None),
