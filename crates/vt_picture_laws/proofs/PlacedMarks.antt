@@ -68,7 +68,7 @@ first_spots (suc n) x y (Mark entry inside later) =
     let in_x = x +ℤ entry.x in
     let in_y = y +ℤ entry.y in
     let wanted : n - count (cut n inside) ≡ n - length (take n (spots in_x in_y inside)) =
-        ap (λ k. n - k) (spots_counted in_x in_y (cut n inside) ∙ ap length (first_spots n in_x in_y inside)) in
+    ap (λ k. n - k) (spots_counted in_x in_y (cut n inside) ∙ ap length (first_spots n in_x in_y inside)) in
     ap (λ l. (entry.id, in_x, in_y) ∷ l) (
     ap₂ (λ a b. a ++ b) (first_spots n in_x in_y inside) (first_spots (n - count (cut n inside)) x y later ∙ ap (λ k. take k (spots x y later)) wanted)
     ∙ sym (take_append n (spots in_x in_y inside) (spots x y later))

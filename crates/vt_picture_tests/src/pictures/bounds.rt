@@ -8,13 +8,17 @@ use std::test::Fail;
 const MASK: &[u8] = &[0, 0, 0, 0, 1, 0xE8, 3, 0, 0, 0, 0xE8, 3, 1, 0, 0xFF, 0xFF];
 
 /// The Output String 2000, 6 by 65535, which wraps, up to its 16,000 characters.
-const STRING: &[u8] = &[0xD0, 7, 11, 6, 0, 0xFF, 0xFF, 0, 0xB8, 0x0B, 2, 0xFF, 0xFF, 0, 0x80, 0x3E];
+const STRING: &[u8] = &[
+    0xD0, 7, 11, 6, 0, 0xFF, 0xFF, 0, 0xB8, 0x0B, 2, 0xFF, 0xFF, 0, 0x80, 0x3E,
+];
 
 /// The Font Attributes 3000, of 6x8.
 const FONT: &[u8] = &[0xB8, 0x0B, 23, 0, 0, 0, 0, 0];
 
 /// The Picture 2000, 800 by 65535 with a bit for each pixel, up to its 65,536 bytes.
-const PICTURE: &[u8] = &[0xD0, 7, 20, 100, 0, 0x20, 3, 0xFF, 0xFF, 0, 0, 0, 0, 0, 1, 0, 0];
+const PICTURE: &[u8] = &[
+    0xD0, 7, 20, 100, 0, 0x20, 3, 0xFF, 0xFF, 0, 0, 0, 0, 0, 1, 0, 0,
+];
 
 /// The beginning of a pool whose mask has ten Containers, each with the object 2000 200 times.
 fn shown_2000_times(alloc: Global) -> Result<Vec<u8>, AllocError> {

@@ -11,7 +11,7 @@ ghost use Rattle.vt_shapes.specs.Bits.{has_bit};
 
 use crate::bits::has_bit;
 use crate::shapes::arcs::{Oval, STEPS, point_on, push_arc, push_arc_back, sweep};
-use crate::shapes::gauges::values::{draw_arc, draw_between, share, shown, plain_line, turned};
+use crate::shapes::gauges::values::{draw_arc, draw_between, plain_line, share, shown, turned};
 use crate::shapes::lines::{half_of, tenths};
 use std::alloc::AllocError;
 use vt_objects::{ArchedBar, Store};

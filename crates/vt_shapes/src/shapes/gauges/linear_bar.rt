@@ -7,7 +7,7 @@ ghost use Rattle.vt_shapes.specs.Bits.{has_bit};
 
 use crate::bits::has_bit;
 use crate::shapes::gauges::axis::{draw_across, length_of, part_between};
-use crate::shapes::gauges::values::{share, shown, plain_line, tick_at};
+use crate::shapes::gauges::values::{plain_line, share, shown, tick_at};
 use std::alloc::AllocError;
 use vt_objects::{LinearBar, Store};
 use vt_svg::{Attribute, Element, Paint, along};

@@ -9,7 +9,7 @@ ghost use Rattle.vt_shapes.specs.Bits.{has_bit};
 use crate::bits::has_bit;
 use crate::shapes::arcs::{Oval, point_on, sweep};
 use crate::shapes::gauges::values::{
-    draw_arc, draw_between, share, shown, plain_line, tick_at, turned,
+    draw_arc, draw_between, plain_line, share, shown, tick_at, turned,
 };
 use crate::shapes::lines::half_of;
 use std::alloc::AllocError;
