@@ -1,5 +1,5 @@
 -- The elements that entries show, as a tree (docs/PROFILE.md, "The drawing").
-use Rattle.std.specs.Prelude.{ℕ, zero, suc, ◌+◌, ◌-◌, if◌then◌else◌, List, [], ◌∷◌, ◌++◌, Option, Some, None}
+use Rattle.std.specs.Prelude.{ℕ, zero, suc, ℤ, ◌+ℤ◌, ◌+◌, ◌-◌, if◌then◌else◌, List, [], ◌∷◌, ◌++◌, Option, Some, None}
 use Rattle.std.specs.FinMap as finite
 use Rattle.vt_kinds.specs.declared.entries.Child.{Child}
 use Rattle.vt_stores.specs.Stores.{ObjectMap}
@@ -48,3 +48,9 @@ cut (suc n) (Mark entry inside later) = Mark entry (cut n inside) (cut (n - coun
 abbrev pub ids : Marks → List ℕ
 ids Nothing = []
 ids (Mark entry inside later) = entry.id ∷ (ids inside ++ ids later)
+
+-- the IDs with their places from a place: each has that of its entry from the one around it
+abbrev pub spots : ℤ → ℤ → Marks → List (ℕ × ℤ × ℤ)
+spots x y Nothing = []
+spots x y (Mark entry inside later) =
+    (entry.id, x +ℤ entry.x, y +ℤ entry.y) ∷ (spots (x +ℤ entry.x) (y +ℤ entry.y) inside ++ spots x y later)

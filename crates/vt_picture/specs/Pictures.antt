@@ -41,7 +41,7 @@ shapes_if has_room sizes store id object = if has_room then text_of (shapes size
 
 -- the beginning of an element: its tag, and its own shapes if there is room for them
 abbrev pub element_opening : Bool → Sizes → ObjectMap → Child → Option Seen → List ℕ
-element_opening has_room sizes store entry None = opened elements.Svg (attributes.ObjectId entry.id ∷ [])
+element_opening has_room sizes store entry None = opened elements.Svg (element_attributes entry frames.Whole)
 element_opening has_room sizes store entry (Some object) =
     opened elements.Svg (element_attributes entry (frame_of sizes object)) ++ shapes_if has_room sizes store entry.id object
 

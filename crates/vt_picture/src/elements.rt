@@ -60,7 +60,7 @@ fn open_element<S: Store>(
     ensures { OnOk result (text.new.items ≡ text.old.items ++ element_opening has_room sizes (S.contents store.now) entry.now (finite.get (S.contents store.now) entry.now.id)) }
 {
     let Some(object) = store.get(entry.id) else {
-        return open(text, Element::Svg, &[Attribute::ObjectId(entry.id.raw())]);
+        return open_tag(text, entry, Frame::Whole);
     };
     open_tag(text, entry, frame_of(sizes, object))?;
     draw_shapes_if(text, store, sizes, entry.id, object, has_room)

@@ -1,5 +1,5 @@
 -- The marks of entries are at the places of the elements drawn for them.
-use Rattle.std.proofs.Common.{◌≡◌, ℕ, zero, suc, ◌+◌, ◌-◌, Bool, true, false, cond, List, [], ◌∷◌, ◌++◌, map, take, length, Option, Some, None, refl, sym, ap, ap₂, ◌∙◌, arith}
+use Rattle.std.proofs.Common.{◌≡◌, ℕ, zero, suc, ◌+◌, ◌-◌, Bool, true, false, cond, List, [], ◌∷◌, ◌++◌, map, take, length, Option, Some, None, refl, sym, ap, ap₂, ◌∙◌}
 use Rattle.std.specs.Prelude.{ℤ, pos, ◌+ℤ◌}
 use Rattle.std.proofs.lemmas.List.{length-append, map-append}
 use Rattle.std.specs.FinMap as finite
@@ -9,9 +9,9 @@ use Rattle.vt_chains.specs.Limits.{terminal}
 use Rattle.vt_shown.specs.ShownElements.{resolves_to, is_element}
 use Rattle.vt_layout.specs.Drawings.{shifted, element, entries_in, mask_entries, origin}
 use Rattle.vt_layout.specs.Walks.{Draws, with_drawn, each_from, elements}
-use Rattle.vt_picture.specs.Documents.{mask_marks, most_marks}
-use Rattle.vt_picture.specs.Marks.{Marks, Nothing, Mark, count, cut, led_to, marked, each_marked, marks}
-use Rattle.vt_picture_laws.specs.Laws.{ElementsAreInPlace, spots}
+use Rattle.vt_picture.specs.Documents.{most_marks}
+use Rattle.vt_picture.specs.Marks.{Marks, Nothing, Mark, count, cut, led_to, marked, each_marked, marks, ids, spots}
+use Rattle.vt_picture_laws.specs.Laws.{ElementsAreInPlace}
 use Rattle.vt_picture_laws.proofs.FirstMarks.{take_append}
 
 module _ (store : ObjectMap) (within : List Child → Marks) (draws : Draws) (same : (entries : List Child) (from : _) → spots from.x from.y (within entries) ≡ map (λ e. (e.id, e.at.x, e.at.y)) (draws entries from)) where
@@ -78,3 +78,10 @@ pub elements_in_place : ElementsAreInPlace
 elements_in_place store mask =
     first_spots most_marks (pos 0) (pos 0) (marks terminal.inclusions store (mask_entries store mask))
     ∙ ap (take most_marks) (marks_placed store terminal.inclusions (mask_entries store mask) origin)
+
+-- the IDs of places are those of the marks
+pub ids_of_spots : (x y : ℤ) (m : Marks) → map (λ spot. spot.0) (spots x y m) ≡ ids m
+ids_of_spots x y Nothing = refl
+ids_of_spots x y (Mark entry inside later) =
+    ap (λ l. entry.id ∷ l) (map-append (λ spot. spot.0) (spots (x +ℤ entry.x) (y +ℤ entry.y) inside) (spots x y later)
+    ∙ ap₂ (λ a b. a ++ b) (ids_of_spots (x +ℤ entry.x) (y +ℤ entry.y) inside) (ids_of_spots x y later))

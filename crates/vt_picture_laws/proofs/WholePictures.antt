@@ -1,16 +1,18 @@
 -- The first marks of a mask, and then those of its keys, have the first IDs of its drawing.
 use Rattle.std.proofs.Common.{◌≡◌, ℕ, ◌-◌, ◌++◌, take, length, sym, ap, ap₂, ◌∙◌}
+use Rattle.std.specs.Prelude.{pos, ◌+◌, map}
 use Rattle.std.proofs.lemmas.List.{map-append}
 use Rattle.vt_chains.specs.Limits.{terminal}
 use Rattle.vt_shown.specs.ShownElements.{soft_keys}
 use Rattle.vt_layout.specs.Drawings.{origin, mask_entries, key_entries}
 use Rattle.vt_layout.specs.Walks.{elements}
-use Rattle.vt_picture.specs.Documents.{key_places, most_marks}
-use Rattle.vt_picture.specs.Marks.{Marks, marks, count, cut, ids}
+use Rattle.vt_picture.specs.Documents.{gap, key_marks, key_places, mask_marks, most_marks}
+use Rattle.vt_picture.specs.Marks.{Marks, marks, count, cut, ids, spots}
 use Rattle.vt_picture_laws.specs.Laws.{ElementsAreTheDrawing, PicturesShowTheDrawing}
 use Rattle.vt_picture.proofs.ClosedPictures.{picture_closed}
 use Rattle.vt_picture_laws.proofs.KeyPlaces.{same_keys}
 use Rattle.vt_picture_laws.proofs.DrawnMarks.{marks_drawn}
+use Rattle.vt_picture_laws.proofs.PlacedMarks.{elements_in_place, ids_of_spots}
 use Rattle.vt_picture_laws.proofs.FirstMarks.{take_append, ids_counted, first_ids}
 
 -- the first marks of two parts
@@ -34,4 +36,13 @@ elements_shown sizes store mask =
 pub picture_shows : PicturesShowTheDrawing
 picture_shows sizes store mask text is =
     let whole = picture_closed sizes store mask text is in
-    (whole.0, whole.1, whole.2 ∙ elements_shown sizes store mask)
+    let of_mask = spots (pos 0) (pos 0) (mask_marks store mask) in
+    let of_keys = spots (pos (sizes.mask.width + gap)) (pos 0) (key_marks sizes store mask) in (
+      whole.0,
+      whole.1,
+      whole.2 ∙ ap (λ l. l ++ of_keys) (elements_in_place store mask),
+      ap (map (λ spot. spot.0)) whole.2
+          ∙ map-append (λ spot. spot.0) of_mask of_keys
+          ∙ ap₂ (λ a b. a ++ b) (ids_of_spots (pos 0) (pos 0) (mask_marks store mask)) (ids_of_spots (pos (sizes.mask.width + gap)) (pos 0) (key_marks sizes store mask))
+          ∙ elements_shown sizes store mask,
+    )

@@ -1,5 +1,5 @@
 -- What pictures show, beside the drawings of their masks (docs/PROFILE.md, "The drawing").
-use Rattle.std.specs.Prelude.{◌≡◌, ℕ, ℤ, pos, ◌+ℤ◌, true, List, [], ◌∷◌, ◌++◌, map, take, length, Some}
+use Rattle.std.specs.Prelude.{◌≡◌, ℕ, pos, ◌+◌, true, List, [], ◌∷◌, ◌++◌, map, take, length, Some}
 use Rattle.std.specs.FinMap as finite
 use Rattle.std.specs.List.{AllByRecursion}
 use Rattle.vt_kinds.specs.declared.entries.Child.{Child}
@@ -11,18 +11,12 @@ use Rattle.vt_chains.specs.Limits.{terminal}
 use Rattle.vt_layout.specs.Drawings.{mask_entries, origin}
 use Rattle.vt_layout.specs.Walks.{elements, drawing}
 use Rattle.vt_needs.specs.declared.sizes.Sizes.{Sizes}
-use Rattle.vt_svg.specs.Elements.{Nodes, object_ids, references, text_of}
+use Rattle.vt_svg.specs.Elements.{Nodes, references, spots_in, text_of}
 use Rattle.vt_shapes.specs.Shapes.{shapes}
 use Rattle.vt_shapes.specs.UsedPictures.{used_picture}
-use Rattle.vt_picture.specs.Documents.{IsPicture, most_marks, mask_marks, key_marks, pictures}
-use Rattle.vt_picture.specs.Marks.{Marks, Nothing, Mark, marks, count, cut, ids}
+use Rattle.vt_picture.specs.Documents.{IsPicture, gap, most_marks, mask_marks, key_marks, pictures}
+use Rattle.vt_picture.specs.Marks.{Marks, marks, count, cut, ids, spots}
 use Rattle.vt_picture.specs.Pictures.{EachOnce, is_in, picture_of}
-
--- the IDs of marks with their places from a place: each has that of its entry from the one around
-abbrev pub spots : ℤ → ℤ → Marks → List (ℕ × ℤ × ℤ)
-spots x y Nothing = []
-spots x y (Mark entry inside later) =
-    (entry.id, x +ℤ entry.x, y +ℤ entry.y) ∷ (spots (x +ℤ entry.x) (y +ℤ entry.y) inside ++ spots x y later)
 
 -- The marks of entries are the elements of their drawing, in its order and at its places.
 abbrev pub MarksAreDrawn : Type 0
@@ -43,11 +37,16 @@ abbrev pub ElementsAreTheDrawing : Type 0
 ElementsAreTheDrawing = (sizes : Sizes) (store : ObjectMap) (mask : ℕ)
     → ids (mask_marks store mask) ++ ids (key_marks sizes store mask) ≡ take most_marks (map (λ e. e.id) (drawing store mask))
 
--- A picture is the text of elements within each other, each closed after all that is in it, and shows the drawing of its mask: the IDs of
--- objects in its text are, in their order, those of the drawing, the first 2,000.
+-- A picture is the text of elements within each other, each closed after all that is in it, and shows the drawing of its mask. The objects
+-- in its text are those of the drawing, in its order, the first 2,000: those of the mask at the places of the drawing, and then the keys,
+-- with what is in them, from the place of the first key.
 abbrev pub PicturesShowTheDrawing : Type 0
 PicturesShowTheDrawing = (sizes : Sizes) (store : ObjectMap) (mask : ℕ) (text : List ℕ) → IsPicture sizes store mask text
-    → (nodes : Nodes) × (text ≡ text_of nodes) × (object_ids nodes ≡ take most_marks (map (λ e. e.id) (drawing store mask)))
+    → (nodes : Nodes) × (text ≡ text_of nodes)
+    × (spots_in (pos 0) (pos 0) nodes
+    ≡ take most_marks (map (λ e. (e.id, e.at.x, e.at.y)) (elements terminal.inclusions store (mask_entries store mask) origin))
+    ++ spots (pos (sizes.mask.width + gap)) (pos 0) (key_marks sizes store mask))
+    × (map (λ spot. spot.0) (spots_in (pos 0) (pos 0) nodes) ≡ take most_marks (map (λ e. e.id) (drawing store mask)))
 
 -- Each Picture object to which an element of a picture refers is written, and none is written twice.
 pub record PicturesAreWrittenOnce : Type 0 where

@@ -26,8 +26,9 @@ pub fn elements_are_the_drawing()
     ensures { ElementsAreTheDrawing }
 {}
 
-/// A picture is the text of elements within each other, each closed after all that is in it. The IDs of objects in it are, in their order,
-/// those of the drawing of its mask, the first 2,000.
+/// A picture is the text of elements within each other, each closed after all that is in it, and shows the drawing of its mask. The objects
+/// in it are those of the drawing in its order, the first 2,000: those of the mask at the places of the drawing, and then the keys, with what
+/// is in them, from the place of the first key.
 pub fn pictures_show_the_drawing()
     ensures { PicturesShowTheDrawing }
 {}

@@ -1,9 +1,9 @@
 -- Elements as text.
-use Rattle.std.specs.Prelude.{ℕ, Bool, if◌then◌else◌, List, [], ◌∷◌, ◌++◌, codes}
+use Rattle.std.specs.Prelude.{ℕ, ℤ, pos, ◌+ℤ◌, Bool, if◌then◌else◌, List, [], ◌∷◌, ◌++◌, map, codes}
 use Rattle.std.specs.Fmt.{decimal}
 use Rattle.std.specs.List.{flat_map}
 use Rattle.vt_svg.specs.declared.attribute.Attribute.{Attribute}
-use Rattle.vt_svg.specs.declared.attribute.Attribute.TheVariants.{Fill, ObjectId, PictureShown, Stroke}
+use Rattle.vt_svg.specs.declared.attribute.Attribute.TheVariants.{Fill, Left, ObjectId, PictureShown, Stroke, Top, X, Y}
 use Rattle.vt_svg.specs.declared.attribute.Paint.{Paint}
 use Rattle.vt_svg.specs.declared.attribute.Paint.TheVariants.{Pattern}
 use Rattle.vt_svg.specs.declared.element.Element.{Element}
@@ -104,3 +104,28 @@ reference _ = []
 -- the IDs of pictures that are shown or fill something
 abbrev pub references : Nodes → List ℕ
 references nodes = gathered reference nodes
+
+-- ---- the places of objects
+
+-- the distance of an element from the left and from the upper edge of the area around; 0 without an attribute for it
+abbrev pub left_of : List Attribute → ℤ
+left_of [] = pos 0
+left_of (X n ∷ attributes) = n
+left_of (Left n ∷ attributes) = pos n
+left_of (_ ∷ attributes) = left_of attributes
+
+abbrev pub top_of : List Attribute → ℤ
+top_of [] = pos 0
+top_of (Y n ∷ attributes) = n
+top_of (Top n ∷ attributes) = pos n
+top_of (_ ∷ attributes) = top_of attributes
+
+-- the IDs of objects around others, with their places from a place: that of an element is added to that of the one around it
+abbrev pub spots_in : ℤ → ℤ → Nodes → List (ℕ × ℤ × ℤ)
+spots_in x y None = []
+spots_in x y (Characters characters later) = spots_in x y later
+spots_in x y (Along element attributes points later) = spots_in x y later
+spots_in x y (Empty element attributes later) = spots_in x y later
+spots_in x y (Around element attributes inside later) =
+    map (λ id. (id, x +ℤ left_of attributes, y +ℤ top_of attributes)) (flat_map object_id attributes)
+    ++ (spots_in (x +ℤ left_of attributes) (y +ℤ top_of attributes) inside ++ spots_in x y later)
