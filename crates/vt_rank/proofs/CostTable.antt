@@ -1,7 +1,7 @@
 -- Filling of a table of costs, and the costs in the full table.
 use Rattle.std.proofs.Common.{◌≡◌, ◌≢◌, ℕ, ◌+◌, ◌^◌, ◌<◌, ◌≤◌, inl, inr, min, List, length, get_or, set, drop, sym, ◌∙◌, ap, subst, arith, slice_index, get_or-set_same, get_or-set_other}
 use Rattle.std.specs.List.{sum_by}
-use Rattle.std.proofs.lemmas.Bool.{cases_eq, cases_lt}
+use Rattle.std.proofs.lemmas.Bool.{cases_lt}
 use Rattle.std.proofs.lemmas.List.{at_drop_more, get_or_past, length-set}
 use Rattle.std.proofs.lemmas.List.Sums.{sum_by-cons}
 use Rattle.vt_rank.specs.declared.graph.Graph.{Graph}
@@ -18,12 +18,7 @@ use Rattle.vt_rank.proofs.Totals.{sum_by-same, costs_are_totals}
 pub sum_by-left : {X : Type 0} (f : X → ℕ) (xs : List X) (i : ℕ) (d : X) → i < length xs → sum_by f (drop i xs) ≡ f (get_or xs i d) + sum_by f (drop (i + 1) xs)
 sum_by-left f xs i d inside = at_drop_more (sum_by f) xs i d inside ∙ sum_by-cons f (get_or xs i d) (drop (i + 1) xs)
 
--- ---- the nodes of a rank, one after another
-
-pub record IsFilling (g : Graph) (ranks : List ℕ) (limit rank node : ℕ) (table : List ℕ) : Type 0 where
-  pub size : length table ≡ 256
-  pub costs : (n : ℕ) → n < 256 → slice_index ranks n < rank → slice_index table n ≡ min (cost_of g n) limit
-  pub here : (n : ℕ) → n < node → slice_index ranks n ≡ rank → slice_index table n ≡ min (cost_of g n) limit
+-- ---- the node of a rank
 
 pub cost_past : (g : Graph) (ranks : List ℕ) → AreRanks g ranks → (n : ℕ) → 256 ≤ n → cost_of g n ≡ 0
 cost_past g ranks are n past = costs_are_totals g ranks are n ∙ ap (sum_by (item_cost (cost_of g) g)) (items_past g n past)
@@ -31,51 +26,42 @@ cost_past g ranks are n past = costs_are_totals g ranks are n ∙ ap (sum_by (it
 cut_twice : (a c l : ℕ) → a ≡ min c l → min a l ≡ min c l
 cut_twice a c l is = omega arith
 
-pub settled_here : (g : Graph) (ranks : List ℕ) (limit rank node : ℕ) (table : List ℕ) → AreRanks g ranks → IsFilling g ranks limit rank node table → (n : ℕ) → slice_index ranks n ≡ rank → AreSettled g limit table (triggered g n)
-settled_here g ranks limit rank node table are f n of_rank t inside =
+pub settled_here : (g : Graph) (ranks : List ℕ) (limit rank : ℕ) (table : List ℕ) → AreRanks g ranks → IsFilled g ranks limit rank table → (n : ℕ) → slice_index ranks n ≡ rank → AreSettled g limit table (triggered g n)
+settled_here g ranks limit rank table are f n of_rank t inside =
     let less : slice_index ranks t < rank = omega (arith, are.falls n t inside, of_rank) in
     elim (cases_lt t 256) as (λ _. min (slice_index table t) limit ≡ min (cost_of g t) limit) [
       | inl within ↦ cut_twice (slice_index table t) (cost_of g t) limit (f.costs t within less)
       | inr past ↦ let none : slice_index table t ≡ 0 = get_or_past table t 0 (omega (arith, f.size)) in ap (λ (k : ℕ). min k limit) (none ∙ sym (cost_past g ranks are t past))
     ]
 
-pub filled_here : (g : Graph) (ranks : List ℕ) (limit rank node cost : ℕ) (table : List ℕ) → AreRanks g ranks → IsFilling g ranks limit rank node table → slice_index ranks node ≡ rank → node < 256 → cost ≡ min (node_total (cost_of g) g node) limit → IsFilling g ranks limit rank (node + 1) (set table node cost)
-filled_here g ranks limit rank node cost table are f of_rank small is =
+-- the table after the cost of the only node of a rank
+pub filled_here : (g : Graph) (ranks : List ℕ) (limit rank node i cost : ℕ) (table : List ℕ) → AreRanks g ranks → IsFilled g ranks limit rank table → ((n : ℕ) → n < 256 → slice_index ranks n ≡ rank → node ≡ n) → slice_index ranks node ≡ rank → node < 256 → i ≡ node → cost ≡ min (node_total (cost_of g) g node) limit → IsFilled g ranks limit (rank + 1) (set table i cost)
+filled_here g ranks limit rank node i cost table are f only of_rank small at is =
     let inside : node < length table = omega (arith, f.size) in
     let value : cost ≡ min (cost_of g node) limit = is ∙ ap (λ (k : ℕ). min k limit) (sym (costs_are_totals g ranks are node)) in
-    record {
+    subst (λ (k : ℕ). IsFilled g ranks limit (rank + 1) (set table k cost)) (sym at) (record {
       size = length-set table node cost ∙ f.size;
       costs = λ n within below.
-          let other : n ≢ node = λ same. let at : slice_index ranks n ≡ slice_index ranks node = ap (slice_index ranks) same in omega (arith, below, of_rank, at) in
-          get_or-set_other table node n cost 0 other ∙ f.costs n within below;
-      here = λ n below at.
-          elim (cases_eq n node) as (λ _. slice_index (set table node cost) n ≡ min (cost_of g n) limit) [
-            | inl same ↦ subst (λ (k : ℕ). slice_index (set table node cost) k ≡ min (cost_of g k) limit) (sym same) (get_or-set_same table node cost 0 inside ∙ value)
-            | inr other ↦ get_or-set_other table node n cost 0 other ∙ f.here n (omega (arith, below, other)) at
+          elim (cases_lt (slice_index ranks n) rank) as (λ _. slice_index (set table node cost) n ≡ min (cost_of g n) limit) [
+            | inl less ↦
+                let other : n ≢ node = λ same. (let here : slice_index ranks n ≡ slice_index ranks node = ap (slice_index ranks) same in omega (arith, less, of_rank, here)) in
+                get_or-set_other table node n cost 0 other ∙ f.costs n within less
+            | inr at_least ↦
+                subst (λ (k : ℕ). slice_index (set table node cost) k ≡ min (cost_of g k) limit) (only n within (omega (arith, below, at_least)))
+                (get_or-set_same table node cost 0 inside ∙ value)
           ];
-    }
+    })
 
-pub passed_here : (g : Graph) (ranks : List ℕ) (limit rank node : ℕ) (table : List ℕ) → IsFilling g ranks limit rank node table → (slice_index ranks node ≡ rank → ⊥) → IsFilling g ranks limit rank (node + 1) table
-passed_here g ranks limit rank node table f differs = record {
-  size = f.size;
-  costs = f.costs;
-  here = λ n below at.
-      elim (cases_eq n node) as (λ _. slice_index table n ≡ min (cost_of g n) limit) [
-        | inl same ↦ absurd (differs (subst (λ (k : ℕ). slice_index ranks k ≡ rank) same at))
-        | inr other ↦ f.here n (omega (arith, below, other)) at
-      ];
-}
-
-pub rank_begins : (g : Graph) (ranks : List ℕ) (limit rank : ℕ) (table : List ℕ) → IsFilled g ranks limit rank table → IsFilling g ranks limit rank 0 table
-rank_begins g ranks limit rank table f = record { size = f.size; costs = f.costs; here = λ n below at. absurd (omega (arith, below)) }
-
-pub rank_ends : (g : Graph) (ranks : List ℕ) (limit rank node : ℕ) (table : List ℕ) → IsFilling g ranks limit rank node table → 256 ≤ node → IsFilled g ranks limit (rank + 1) table
-rank_ends g ranks limit rank node table f all = record {
+-- a rank without a node
+pub passed_here : (g : Graph) (ranks : List ℕ) (limit rank node : ℕ) (table : List ℕ) → IsFilled g ranks limit rank table → ((n : ℕ) → n < 256 → slice_index ranks n ≡ rank → node ≡ n) → (slice_index ranks node ≡ rank → ⊥) → IsFilled g ranks limit (rank + 1) table
+passed_here g ranks limit rank node table f only differs = record {
   size = f.size;
   costs = λ n within below.
       elim (cases_lt (slice_index ranks n) rank) as (λ _. slice_index table n ≡ min (cost_of g n) limit) [
         | inl less ↦ f.costs n within less
-        | inr at_least ↦ f.here n (omega (arith, within, all)) (omega (arith, below, at_least))
+        | inr at_least ↦
+            let here : slice_index ranks n ≡ rank = omega (arith, below, at_least) in
+            absurd (differs (subst (λ (k : ℕ). slice_index ranks k ≡ rank) (sym (only n within here)) here))
       ];
 }
 

@@ -1,5 +1,5 @@
 -- Each step of the search that ranks the nodes keeps its invariant.
-use Rattle.std.proofs.Common.{◌≡◌, ℕ, ◌+◌, ◌<◌, ◌≤◌, ◌⊎◌, inl, inr, List, [], ◌∷◌, ◌++◌, length, set, sym, ◌∙◌, subst, ap, take, arith, slice_index, length-append, get_or-set_other, get_or-set_same}
+use Rattle.std.proofs.Common.{◌≡◌, ◌≢◌, ℕ, ◌+◌, ◌<◌, ◌≤◌, ◌⊎◌, inl, inr, List, [], ◌∷◌, ◌++◌, length, set, sym, ◌∙◌, subst, ap, take, arith, slice_index, length-append, get_or-set_other, get_or-set_same}
 use Rattle.std.specs.List.{Contains, flat_map}
 use Rattle.std.proofs.lemmas.Bool.{cases_lt}
 use Rattle.std.proofs.lemmas.List.{get_or_past, length-set, length-take}
@@ -16,15 +16,17 @@ use Rattle.vt_rank.proofs.Members.{Contains-nil, IsDistinct-push, IsDistinct-pop
 use Rattle.vt_rank.proofs.NodeInsertion.{marked_here, marked_before, absent-insert, absent-none}
 use Rattle.vt_rank.proofs.PathsAndCircles.{IsPath-front, IsPath-push, closed_path}
 
-pub search_begins : (g : Graph) (s : Search) → ((n : ℕ) → IsIn s.ranked n → ⊥) → ((n : ℕ) → IsIn s.seen n → ⊥) → length s.ranks ≡ 256 → s.count ≡ 0 → IsSearch g s []
-search_begins g s unranked unseen size count = record {
+pub search_begins : (g : Graph) (s : Search) → ((n : ℕ) → IsIn s.ranked n → ⊥) → ((n : ℕ) → IsIn s.seen n → ⊥) → length s.ranks ≡ 256 → length s.order ≡ 256 → s.count ≡ 0 → IsSearch g s []
+search_begins g s unranked unseen size places count = record {
   falls = λ m n ranked. absurd (unranked m ranked);
   below = λ n ranked. absurd (unranked n ranked);
   seen = λ n seen. absurd (unseen n seen);
   on_path = λ n none. absurd (Contains-nil n none);
   walk = tt;
   distinct = tt;
+  ordered = λ n ranked. absurd (unranked n ranked);
   size = size;
+  places = places;
   bound = omega (arith, count, absent-none s.seen unseen);
 }
 
@@ -45,19 +47,22 @@ search_pushed g s path n seen h longer unseen unranked small a = record {
       ];
   walk = longer;
   distinct = IsDistinct-push path n h.distinct (λ on_path. unseen (h.on_path n on_path).0);
+  ordered = h.ordered;
   size = h.size;
+  places = h.places;
   bound = simp length-append (omega (arith, h.bound, absent-insert s.seen seen n a small unseen));
 }
 
 -- the invariant after the last node of the path gets the next rank, if all nodes triggered by it have ranks
 pub search_ranked : (g : Graph) (s : Search) (front : List ℕ) (node : ℕ) (ranked : NodeSet) → IsSearch g s (front ++ node ∷ []) → ((n : ℕ) → Triggers (triggered g) node n → IsIn s.ranked n) → Adds s.ranked ranked (node ∷ []) → node < length s.ranks
-    → IsSearch g (record s { ranks = set s.ranks node s.count; ranked = ranked; count = s.count + 1 }) front
+    → IsSearch g (record s { ranks = set s.ranks node s.count; order = set s.order s.count node; ranked = ranked; count = s.count + 1 }) front
 search_ranked g s front node ranked h all a here =
     let on_path = h.on_path node (Contains-push front node) in
     let apart = IsDistinct-pop front node h.distinct in
     let other = λ (n : ℕ) (was : IsIn s.ranked n) (same : n ≡ node). on_path.1 (subst (λ (k : ℕ). IsIn s.ranked k) same was) in
     let kept = λ (n : ℕ) (was : IsIn s.ranked n). get_or-set_other s.ranks node n s.count 0 (other n was) in
     let now : slice_index (set s.ranks node s.count) node ≡ s.count = get_or-set_same s.ranks node s.count 0 here in
+    let inside : s.count < length s.order = omega (arith, h.bound, h.places, length-append front (node ∷ [])) in
     record {
       falls = λ m n marked t.
           elim (marked_before s.ranked ranked node m a marked) as (λ _. IsIn ranked n × (slice_index (set s.ranks node s.count) n < slice_index (set s.ranks node s.count) m)) [
@@ -86,7 +91,17 @@ search_ranked g s front node ranked h all a here =
           (old.0, λ marked. elim (marked_before s.ranked ranked node n a marked) as (λ _. ⊥) [ inl before ↦ old.1 before | inr same ↦ apart.1 (subst (λ (k : ℕ). Contains front k) (sym same) still) ]);
       walk = IsPath-front g front (node ∷ []) h.walk;
       distinct = apart.0;
+      ordered = λ n marked.
+          elim (marked_before s.ranked ranked node n a marked) as (λ _. slice_index (set s.order s.count node) (slice_index (set s.ranks node s.count) n) ≡ n) [
+            | inl before ↦
+                let apart : slice_index s.ranks n ≢ s.count = λ same. omega (arith, same, h.below n before) in
+                ap (slice_index (set s.order s.count node)) (kept n before) ∙ get_or-set_other s.order s.count (slice_index s.ranks n) node 0 apart ∙ h.ordered n before
+            | inr same ↦
+                subst (λ (k : ℕ). slice_index (set s.order s.count node) (slice_index (set s.ranks node s.count) k) ≡ k) same
+                (ap (slice_index (set s.order s.count node)) now ∙ get_or-set_same s.order s.count node 0 inside)
+          ];
       size = length-set s.ranks node s.count ∙ h.size;
+      places = length-set s.order s.count node ∙ h.places;
       bound = omega (arith, h.bound, length-append front (node ∷ []));
     }
 
@@ -141,12 +156,12 @@ visit_short g start before s path front node next seen after v parts unseen smal
 
 pub visit_ranked : (g : Graph) (start : ℕ) (before s : Search) (path front : List ℕ) (node i : ℕ) (ranked : NodeSet)
     → IsVisit g start before s path → path ≡ front ++ node ∷ [] → ((n : ℕ) → Triggers (triggered g) node n → IsIn s.ranked n) → i ≡ node → node < length s.ranks → Adds s.ranked ranked (node ∷ [])
-    → IsVisit g start before (record s { ranks = set s.ranks i s.count; ranked = ranked; count = s.count + 1 }) front
+    → IsVisit g start before (record s { ranks = set s.ranks i s.count; order = set s.order s.count node; ranked = ranked; count = s.count + 1 }) front
 visit_ranked g start before s path front node i ranked v parts all at here a =
     let h = subst (IsSearch g s) parts v.search in
     let done = search_ranked g s front node ranked h all a here in
     record {
-      search = subst (λ (k : ℕ). IsSearch g (record s { ranks = set s.ranks k s.count; ranked = ranked; count = s.count + 1 }) front) (sym at) done;
+      search = subst (λ (k : ℕ). IsSearch g (record s { ranks = set s.ranks k s.count; order = set s.order s.count node; ranked = ranked; count = s.count + 1 }) front) (sym at) done;
       started = elim v.started as (λ _. IsIn ranked start ⊎ Contains front start) [
         | inl was ↦ inl (a.kept start was)
         | inr on_path ↦

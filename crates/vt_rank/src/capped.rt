@@ -14,7 +14,7 @@ use crate::table::{cost_of_nodes, fill, no_costs};
 /// over it. A step costs one, a group the sum of its nodes' costs, and `Item::Most` the cost of the costliest
 /// of its groups, or 0 without groups. `ranks` are those of this graph.
 ///
-/// Does not allocate. Uses about six kilobytes of stack on x86-64. Reads each item once, with the nodes of its
+/// Does not allocate. Uses about six kilobytes of stack on x86-64. Visits each node once. Reads each item once, with the nodes of its
 /// group, the groups of `Item::Most` once in all, and at the end each group once more.
 pub fn costs(graph: &Graph, ranks: &Ranks, cap: u32) -> Result<Costs, OverBudget>
     requires { AreRanks graph.now ranks.now }

@@ -1,6 +1,6 @@
 //! Ranking of the nodes of a graph.
 
-ghost use Rattle.std.specs.Prelude.{◌≡◌, ℕ, List, IfOk, OnOk, IfErr, slice_index};
+ghost use Rattle.std.specs.Prelude.{◌≡◌, ◌<◌, ℕ, List, IfOk, OnOk, IfErr, slice_index};
 ghost use Rattle.vt_rank.specs.Paths.{AreRanks, RanksFall, HasNoCircle, IsCircle, IsDistinct, IsLeastOnCircles};
 ghost use Rattle.vt_rank.specs.declared.graph.Graph.{Graph as Network};
 ghost use Rattle.vt_rank.specs.Graphs.{triggered};
@@ -16,14 +16,18 @@ use std::marker::Model;
 #[derive(Debug, Drop)]
 pub struct Ranks {
     ranks: [u8; 256],
+    // The nodes by rising rank.
+    order: [u8; 256],
 }
 
 impl Model for Ranks {
-    ghost use Rattle.std.specs.Prelude.{ℕ, List};
+    ghost use Rattle.std.specs.Prelude.{◌≡◌, ◌<◌, ℕ, List, slice_index};
 
     ghost Value = { List ℕ };
 
     ghost view = { λ r. r.ranks };
+
+    ghost invariant = { λ r. (n : ℕ) → n < 256 → slice_index r.order (slice_index r.ranks n) ≡ n };
 }
 
 impl Ranks {
@@ -32,6 +36,13 @@ impl Ranks {
         ensures { result ≡ slice_index self.now node }
     {
         self.ranks[usize::from(node)]
+    }
+
+    /// The node of a rank, or any node if no node has that rank.
+    pub(crate) fn node_of(&self, rank: u8) -> u8
+        ensures { (n : ℕ) → n < 256 → slice_index self.now n ≡ rank → result ≡ n }
+    {
+        self.order[usize::from(rank)]
     }
 }
 
@@ -61,5 +72,6 @@ pub fn rank(graph: &Graph) -> Result<Ranks, Circle>
     }
     Ok(Ranks {
         ranks: search.ranks,
+        order: search.order,
     })
 }

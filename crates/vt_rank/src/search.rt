@@ -10,6 +10,8 @@ use arrayvec::ArrayVec;
 #[derive(Drop)]
 pub(crate) struct Search {
     pub(crate) ranks: [u8; 256],
+    // The nodes by rising rank.
+    pub(crate) order: [u8; 256],
     ranked: NodeSet,
     seen: NodeSet,
     count: usize,
@@ -26,6 +28,7 @@ impl Search {
     {
         Search {
             ranks: [0; 256],
+            order: [0; 256],
             ranked: NodeSet::new(),
             seen: NodeSet::new(),
             count: 0,
@@ -56,6 +59,7 @@ impl Search {
             match targets[usize::from(node)].outside(&self.ranked) {
                 None => {
                     self.ranks[usize::from(node)] = self.count as u8;
+                    self.order[self.count] = node;
                     self.ranked.insert(node);
                     self.count += 1;
                 }

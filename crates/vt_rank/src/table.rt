@@ -16,7 +16,7 @@ pub(crate) fn no_costs() -> [u64; 256]
     [0; 256]
 }
 
-// Sets the costs of the nodes of a rank, after those of all lesser ranks. Each cost is cut at the limit. The cost
+// Sets the cost of the node of a rank, after those of all lesser ranks. Each cost is cut at the limit. The cost
 // of `Item::Most` is computed at the first node that has one.
 pub(crate) fn fill(
     graph: &Graph,
@@ -33,11 +33,10 @@ pub(crate) fn fill(
     ensures filled { IsFilled graph.now ranks.now limit (rank + 1) table.new }
     ensures most { IsMost graph.now limit most.new }
 {
-    for node in 0..256usize {
-        if ranks.of(node as u8) == rank {
-            let cost = cost_of_node(graph, table, node as u8, limit, most);
-            table[node] = cost;
-        }
+    let node = ranks.node_of(rank);
+    if ranks.of(node) == rank {
+        let cost = cost_of_node(graph, table, node, limit, most);
+        table[usize::from(node)] = cost;
     }
 }
 

@@ -6,4 +6,4 @@ pub returns : goal.returns
 returns c =
     let ranks : List ℕ = replicate 256 0 in
     let size : length ranks ≡ 256 = search rules in
-    λ g. search_begins g _ c.new.ensures c.new-2.ensures size refl
+    λ g. search_begins g _ c.new.ensures c.new-2.ensures size size refl
