@@ -1,5 +1,6 @@
 -- Definitions shared by both transport protocols.
 pub mod Bus
+pub mod FirstTimes
 pub mod Histories
 pub mod Marks
 pub mod Messages

@@ -1,4 +1,5 @@
-//! CAN frames, log lines, and the sessions and bytes shared by both transport protocols. No call allocates.
+//! CAN frames, log lines, and the sessions and bytes shared by both transport protocols. Only the table of
+//! `Sessions` is allocated.
 //!
 //! - Frames: `CanId` is an identifier of 29 bits. `Frame` is an identifier with up to eight bytes of data.
 //! - Lines: `parse_line` returns a `Line` or a `LineFault`. A `Line` is a frame with its time, an `Action` of the
@@ -20,6 +21,6 @@ mod transport;
 pub use frames::{CanId, Frame};
 pub use lines::{Action, Line, LineFault, Skipped, parse_line, write_frame, write_line};
 pub use transport::{
-    Bytes, Heard, Reason, Received, Sessions, Timed, abort_bytes, append_packet, frame_of,
+    Bytes, Heard, Reason, Received, Sessions, Timed, abort_bytes, append_packet, earlier, frame_of,
     is_transport_frame_to, numbered_packet, three_bytes,
 };

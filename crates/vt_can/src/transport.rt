@@ -1,12 +1,14 @@
 //! The sessions, bytes and answers shared by both transport protocols.
 
 mod bytes;
+mod first_time;
 mod heard;
 mod received;
 mod sessions;
 mod wire;
 
 pub use bytes::Bytes;
+pub use first_time::earlier;
 pub use heard::Heard;
 pub use received::Received;
 pub use sessions::{Sessions, Timed};

@@ -4,4 +4,5 @@ pub mod outputs
 pub mod pools
 pub mod runs
 pub mod sets
+pub mod ticks
 pub mod views

@@ -8,4 +8,5 @@ pub mod Responses
 pub mod RunsOfSteps
 pub mod SetLists
 pub mod ShownSets
+pub mod Ticks
 pub mod UniqueSteps

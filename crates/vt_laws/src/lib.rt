@@ -15,6 +15,7 @@ ghost use Rattle.vt_laws.specs.Headline.{NeverSticks};
 ghost use Rattle.vt_laws.specs.RunsOfSteps.{RunsAreOfSteps};
 ghost use Rattle.vt_laws.specs.SetLists.{SetsAfterSteps};
 ghost use Rattle.vt_laws.specs.ShownSets.{ShownAreChosen};
+ghost use Rattle.vt_laws.specs.Ticks.{EchoesAreTicks, OthersAreIdle, ProfilesAreKept};
 
 /// The headline: after its pools were accepted, a terminal gives for any inputs the sets and outputs of the written machine, and
 /// that machine never sticks. Each command of a macro finds its object, of a kind that it may change. Each event ends within the
@@ -123,6 +124,27 @@ pub fn sets_after_steps()
 /// a set with a pool is shown, or, before the loss of the address, selected.
 pub fn shown_are_chosen()
     ensures { ShownAreChosen }
+{}
+
+/// An echo makes the step of a tick: sessions time out, silent sets are closed, and the shown set is chosen. The frame of
+/// `Terminal::tick` is an echo.
+pub fn echoes_are_ticks()
+    ensures { EchoesAreTicks }
+{
+    vt_can::laws::parts_are_identifiers();
+}
+
+/// A tick at which nothing is due sends nothing and changes the time alone. `Terminal::next_deadline` returns the first time at
+/// which something is due.
+pub fn other_ticks_are_idle()
+    ensures { OthersAreIdle }
+{
+    vt_can::laws::parts_are_identifiers();
+}
+
+/// Each step and each preload keeps the profile.
+pub fn profiles_are_kept()
+    ensures { ProfilesAreKept }
 {}
 
 /// The holder of each address after a run is the least NAME among those whose last claim was of that address. The claims of the

@@ -1,8 +1,8 @@
 -- The NAMEs of each address in the index, after a claim.
-use Rattle.std.proofs.Common.{◌≡◌, ◌≢◌, ℕ, ◌<◌, Bool, true, false, true≢false, cond, ◌&&◌, eqb, eq-eqb, ne_eqb, List, [], ◌∷◌, length, get_or, Option, Some, None, refl, sym, ap, ◌∙◌, arith}
+use Rattle.std.proofs.Common.{◌≡◌, ◌≢◌, ℕ, zero, suc, ◌≤◌, ◌++◌, ◌<◌, Bool, true, false, true≢false, cond, ◌&&◌, eqb, eq-eqb, ne_eqb, List, [], ◌∷◌, length, get_or, Option, Some, None, refl, sym, ap, ◌∙◌, arith}
 use Rattle.std.proofs.lemmas.Option.{same_Some}
 use Rattle.std.proofs.lemmas.Bool.{eqb-true}
-use Rattle.std.proofs.lemmas.List.{get_or_default}
+use Rattle.std.proofs.lemmas.List.{get_or_default, get_or_past}
 use Rattle.std.proofs.lemmas.Map.Keys.{le_from_not_gt}
 use Rattle.std.specs.List.{list_any}
 use Rattle.std.specs.Option.{option_eq}
@@ -58,6 +58,21 @@ with-same es n (Some a) rising is = inserted-same n a es rising is
 read : (sets : NameSets) (q n : ℕ) (d : BTreeSet ℕ) → q < length sets → contains nat_cmp (get_or sets q d) n ≡ has_name sets q n
 read sets q n d small = ap (λ s. contains nat_cmp s n) (get_or_default sets q d (record { keys = [] }) small)
 
+-- an address without a set has no NAMEs
+pub has-past : (sets : NameSets) (q n : ℕ) → length sets ≤ q → has_name sets q n ≡ false
+has-past sets q n past = ap (λ (s : BTreeSet ℕ). contains nat_cmp s n) (get_or_past sets q (record { keys = [] }) past)
+
+-- one more set without NAMEs changes nothing
+pub has-more : (sets : NameSets) (new : BTreeSet ℕ) (q n : ℕ) → new.keys ≡ [] → has_name (sets ++ new ∷ []) q n ≡ has_name sets q n
+has-more [] new zero n none = ap (list_any (is_at (nat_cmp n))) none
+has-more [] new (suc q) n none = refl
+has-more (s ∷ sets) new zero n none = refl
+has-more (s ∷ sets) new (suc q) n none = has-more sets new q n none
+
+-- the holders by sets that have the same NAMEs
+pub are-same : (old new : NameSets) (es : Addresses) → ((q n : ℕ) → has_name new q n ≡ has_name old q n) → AreHolders old es → AreHolders new es
+are-same old new es same are = record { rising = are.rising; exact = λ q n small. same q n ∙ are.exact q n small }
+
 no-keys : (p : ℕ → Bool) (keys : List ℕ) → (0 < length keys → ⊥) → list_any p keys ≡ false
 no-keys p [] none = refl
 no-keys p (k ∷ keys) none = absurd (none (omega arith))
@@ -68,29 +83,39 @@ has-address sets es q n are small has = same_option (address_of es n) (Some q) (
 address-has : (sets : NameSets) (es : Addresses) (q n : ℕ) → AreHolders sets es → q < 256 → address_of es n ≡ Some q → has_name sets q n ≡ true
 address-has sets es q n are small is = are.exact q n small ∙ ap (λ o. option_eq eqb o (Some q)) is ∙ option_same (Some q)
 
-pub holder-none : (sets : NameSets) (es : Addresses) (q : ℕ) (d : BTreeSet ℕ) → AreHolders sets es → length sets ≡ 256 → q < 256
+pub holder-none : (sets : NameSets) (es : Addresses) (q : ℕ) (d : BTreeSet ℕ) → AreHolders sets es → q < length sets → q < 256
     → (0 < length (get_or sets q d).keys → ⊥) → None ≡ holder_of es q
-holder-none sets es q d are long small none = cases (holder_of es q) refl
+holder-none sets es q d are inside small none = cases (holder_of es q) refl
   where
     cases : (o : Option ℕ) → holder_of es q ≡ o → None ≡ o
     cases None is = refl
     cases (Some h) is =
         let kept = address-has sets es q h are small (holder-address q h es are.rising is) in
-        absurd (true≢false (sym kept ∙ sym (read sets q h d (omega arith)) ∙ no-keys (is_at (nat_cmp h)) (get_or sets q d).keys none))
+        absurd (true≢false (sym kept ∙ sym (read sets q h d inside) ∙ no-keys (is_at (nat_cmp h)) (get_or sets q d).keys none))
 
-pub holder-some : (sets : NameSets) (es : Addresses) (q h : ℕ) (d : BTreeSet ℕ) → AreHolders sets es → length sets ≡ 256 → q < 256
+-- an address without a set has no holder
+pub holder-past : (sets : NameSets) (es : Addresses) (q : ℕ) → AreHolders sets es → length sets ≤ q → q < 256 → None ≡ holder_of es q
+holder-past sets es q are past small = cases (holder_of es q) refl
+  where
+    cases : (o : Option ℕ) → holder_of es q ≡ o → None ≡ o
+    cases None is = refl
+    cases (Some h) is =
+        let kept = address-has sets es q h are small (holder-address q h es are.rising is) in
+        absurd (true≢false (sym kept ∙ has-past sets q h past))
+
+pub holder-some : (sets : NameSets) (es : Addresses) (q h : ℕ) (d : BTreeSet ℕ) → AreHolders sets es → q < length sets → q < 256
     → contains nat_cmp (get_or sets q d) h ≡ true → ((n : ℕ) → contains nat_cmp (get_or sets q d) n ≡ true → is_gt (nat_cmp h n) ≡ false)
     → Some h ≡ holder_of es q
-holder-some sets es q h d are long small is least = cases (holder_of es q) refl
+holder-some sets es q h d are inside small is least = cases (holder_of es q) refl
   where
     claimed : address_of es h ≡ Some q
-    claimed = has-address sets es q h are small (sym (read sets q h d (omega arith)) ∙ is)
+    claimed = has-address sets es q h are small (sym (read sets q h d inside) ∙ is)
 
     cases : (o : Option ℕ) → holder_of es q ≡ o → Some h ≡ o
     cases None none = absurd (no-holder q es none h claimed)
     cases (Some x) first =
         let kept = address-has sets es q x are small (holder-address q x es are.rising first) in
-        let above = le_from_not_gt h x (least x (read sets q x d (omega arith) ∙ kept)) in
+        let above = le_from_not_gt h x (least x (read sets q x d inside ∙ kept)) in
         let below = least-holder q x es are.rising first h claimed in
         ap Some (omega arith)
 

@@ -57,7 +57,7 @@ impl Model for Claims {
 
     ghost view = { λ c. record { own = c.own; name = c.name; addresses = c.addresses.entries } };
 
-    ghost invariant = { λ c. AreHolders c.holders.names c.addresses.entries };
+    ghost invariant = { λ c. AreHolders c.holders.names.items c.addresses.entries };
 }
 
 impl Claims {

@@ -1,4 +1,5 @@
 pub mod ByAddress
 pub mod EarliestTimes
+pub mod FirstSilence
 pub mod RestOfList
 pub mod Sets

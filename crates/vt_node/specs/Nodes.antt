@@ -1,6 +1,6 @@
 -- The terminal as a node of the bus: the address claims received, and its sessions (docs/PROFILE.md, "The holder of an
 -- address", "Transport").
-use Rattle.std.specs.Prelude.{◌≡◌, ◌≢◌, ℕ, List, refl}
+use Rattle.std.specs.Prelude.{◌≡◌, ◌≢◌, ◌⊎◌, ℕ, List, refl}
 use Rattle.std.specs.Coded.{Coded, code_by, coded×, coded_ℕ}
 use Rattle.std.specs.FinMap as finite
 use Rattle.vt_can.specs.declared.frames.frame.Frame.{Frame}
@@ -8,7 +8,7 @@ use Rattle.vt_can.specs.declared.transport.heard.Heard.{Heard}
 use Rattle.vt_can.specs.frames.Frame.{source_of}
 use Rattle.vt_can.specs.transport.Messages.{Message}
 use Rattle.vt_can.specs.transport.Protocols.{Protocol}
-use Rattle.vt_can.specs.transport.Sessions.{ByAddress, Expires, timed_code}
+use Rattle.vt_can.specs.transport.Sessions.{ByAddress, Expires, SomeOverdue, timed_code}
 use Rattle.vt_names.specs.Claims.{Claimed, claimed_code}
 use Rattle.vt_transport.specs.Protocol as tp
 use Rattle.vt_transport.specs.Senders as sender
@@ -39,6 +39,10 @@ node_code =
     (λ n. (n.claims, (n.tp, (n.etp, (n.sending, (n.tp_spare, n.etp_spare))))))
     (λ p. record { claims = p.0; tp = p.1.0; etp = p.1.1.0; sending = p.1.1.1.0; tp_spare = p.1.1.1.1.0; etp_spare = p.1.1.1.1.1 })
     (λ _. refl)
+
+-- some session of the node is overdue
+abbrev pub HasOverdue : NodeState → ℕ → Type 0
+HasOverdue node now = (SomeOverdue node.tp now ⊎ SomeOverdue node.etp now) ⊎ SomeOverdue node.sending now
 
 -- the result of a frame in each receiver, at a time
 abbrev pub tp_taken : NodeState → ℕ → Frame → Taken tp_session.SessionState

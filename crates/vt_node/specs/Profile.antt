@@ -1,50 +1,25 @@
--- What the terminal says of itself (docs/PROFILE.md, "Other messages").
+-- What a terminal says of itself (docs/PROFILE.md, "Other messages").
 use Rattle.std.specs.Prelude.{ℕ}
+use Rattle.vt_node.specs.declared.profile.Profile.{Profile}
 
 -- the version of the standard
 abbrev pub VERSION : ℕ
 VERSION = 3
 
--- the memory for pools, in bytes
-abbrev pub MEMORY : ℕ
-MEMORY = 1048576
-
--- the width and the height of a soft key, in pixels
-abbrev pub SOFT_KEY_SIZE : ℕ
-SOFT_KEY_SIZE = 64
-
--- the number of virtual soft keys
-abbrev pub VIRTUAL_SOFT_KEYS : ℕ
-VIRTUAL_SOFT_KEYS = 64
-
--- the number of physical soft keys
-abbrev pub PHYSICAL_SOFT_KEYS : ℕ
-PHYSICAL_SOFT_KEYS = 6
-
--- the small fonts, a bit for each size
-abbrev pub SMALL_FONTS : ℕ
-SMALL_FONTS = 0x7F
-
--- the large fonts, a bit for each size
-abbrev pub LARGE_FONTS : ℕ
-LARGE_FONTS = 0x7F
-
--- the styles of fonts, a bit for each
-abbrev pub FONT_STYLES : ℕ
-FONT_STYLES = 0
-
--- the boot time in seconds
-abbrev pub BOOT_TIME : ℕ
-BOOT_TIME = 0
-
--- the graphic type
-abbrev pub GRAPHIC_TYPE : ℕ
-GRAPHIC_TYPE = 2
-
--- the hardware, a bit for each feature
-abbrev pub HARDWARE : ℕ
-HARDWARE = 0
-
--- the width and the height of a mask, in pixels
-abbrev pub MASK_SIZE : ℕ
-MASK_SIZE = 480
+-- the answers of a terminal that is given no others
+abbrev pub standard : Profile
+standard = record {
+  memory = 1048576;
+  soft_key_width = 64;
+  soft_key_height = 64;
+  virtual_soft_keys = 64;
+  physical_soft_keys = 6;
+  small_fonts = 0x7F;
+  large_fonts = 0x7F;
+  font_styles = 0;
+  boot_time = 0;
+  graphic_type = 2;
+  hardware = 0;
+  width = 480;
+  height = 480;
+}

@@ -1,5 +1,5 @@
 -- The times of the last frames of addresses, as a value (docs/PROFILE.md, "Silence").
-use Rattle.std.specs.Prelude.{ℕ, ◌-◌, Bool, false, nat_lt, if◌then◌else◌, List, [], ◌∷◌, Option, Some, None, get_or, refl}
+use Rattle.std.specs.Prelude.{◌≡◌, ℕ, ◌-◌, Bool, true, false, is_some, nat_lt, if◌then◌else◌, List, [], ◌∷◌, Option, Some, None, get_or, refl}
 use Rattle.std.specs.Coded.{Coded, code_by, coded×, coded_list, coded_bool, coded_ℕ}
 use Rattle.vt_names.specs.Registry.{Set}
 
@@ -30,3 +30,11 @@ is_silent now (Some last) = nat_lt 3000000 (now - last)
 abbrev pub first_silent_of : ℕ → (ℕ → Option ℕ) → List Set → Option ℕ
 first_silent_of now heard [] = None
 first_silent_of now heard (set ∷ sets) = if is_silent now (heard set.address) then Some set.address else first_silent_of now heard sets
+
+-- some set is silent
+abbrev pub SomeSilent : (ℕ → Option ℕ) → List Set → ℕ → Type 0
+SomeSilent heard sets now = is_some (first_silent_of now heard sets) ≡ true
+
+-- some address has no time yet
+abbrev pub SomeAwaited : (ℕ → Option ℕ) → Type 0
+SomeAwaited heard = (address : ℕ) × (heard address ≡ None)

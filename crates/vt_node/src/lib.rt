@@ -3,7 +3,7 @@
 //!
 //! - `notice_of` reads what a frame says, as a `FrameMeaning`.
 //! - `Node` has the claims heard, the two receivers and the sender. `WatchedRegistry` has the sets, and finds one that is silent.
-//! - `message_to`, `claim_from` and `technical_reply` make messages, and `profile` has what the terminal says of itself.
+//! - `message_to`, `claim_from` and `technical_reply` make messages, and a `Profile` is what a terminal says of itself.
 //!
 //! docs/PROFILE.md, "Messages of address claim", "Working sets", "Silence", "Other messages".
 #![tactic(auto)]
@@ -11,13 +11,14 @@
 mod bus;
 mod messages;
 mod node;
-pub mod profile;
+mod profile;
 mod watch;
 mod watched;
 
 pub use bus::{FrameMeaning, notice_of};
-pub use messages::{claim_from, message_to, technical_reply};
+pub use messages::{claim_from, echo, message_to, technical_reply};
 pub use node::Node;
+pub use profile::{Profile, VERSION};
 pub use watched::WatchedRegistry;
 
 /// A refused allocation.

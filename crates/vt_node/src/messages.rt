@@ -1,12 +1,10 @@
 //! Messages of the terminal.
 
-ghost use Rattle.std.specs.Prelude.{◌≡◌};
+ghost use Rattle.std.specs.Prelude.{◌≡◌, []};
+ghost use Rattle.vt_can.specs.Assigned.{GLOBAL_ADDRESS};
 ghost use Rattle.vt_node.specs.Messages.{message_to, claim_from, memory_reply, soft_keys_reply, fonts_reply, hardware_reply, technical_reply};
 
-use crate::profile::{
-    BOOT_TIME, FONT_STYLES, GRAPHIC_TYPE, HARDWARE, LARGE_FONTS, MASK_SIZE, MEMORY,
-    PHYSICAL_SOFT_KEYS, SMALL_FONTS, SOFT_KEY_SIZE, VERSION, VIRTUAL_SOFT_KEYS,
-};
+use crate::profile::{Profile, VERSION};
 use arrayvec::ArrayVec;
 use byteorder::{ByteOrder, LittleEndian};
 use vt_can::assigned::{
@@ -32,6 +30,16 @@ pub fn message_to(own: u8, address: u8, bytes: [u8; 8]) -> Frame
     }
 }
 
+/// A frame without data from the terminal to all, which the terminal takes as an echo.
+pub fn echo(own: u8) -> Frame
+    ensures { result ≡ message_to own GLOBAL_ADDRESS [] }
+{
+    Frame {
+        id: CanId::new(MESSAGE_PRIORITY, VT_TO_ECU, GLOBAL_ADDRESS, own),
+        bytes: ArrayVec::new(),
+    }
+}
+
 /// Address Claimed, or Cannot Claim from the null address.
 pub fn claim_from(address: u8, name: Name) -> Frame
     ensures { result ≡ claim_from address name }
@@ -46,44 +54,44 @@ pub fn claim_from(address: u8, name: Name) -> Frame
 
 /// The reply to a request for technical data of the terminal, or `None` for any other message.
 /// docs/PROFILE.md, "Other messages".
-pub fn technical_reply(bytes: &[u8]) -> Option<[u8; 8]>
-    ensures { result ≡ technical_reply bytes.now }
+pub fn technical_reply(profile: &Profile, bytes: &[u8]) -> Option<[u8; 8]>
+    ensures { result ≡ technical_reply profile.now bytes.now }
 {
     match *bytes.first()? {
         GET_MEMORY if bytes.len() >= 6 => {
-            Some(memory_reply(LittleEndian::read_u32(&bytes[2..])))
+            Some(memory_reply(profile, LittleEndian::read_u32(&bytes[2..])))
         }
-        GET_SOFT_KEYS => Some(soft_keys_reply()),
-        GET_FONTS => Some(fonts_reply()),
-        GET_HARDWARE => Some(hardware_reply()),
+        GET_SOFT_KEYS => Some(soft_keys_reply(profile)),
+        GET_FONTS => Some(fonts_reply(profile)),
+        GET_HARDWARE => Some(hardware_reply(profile)),
         _ => None,
     }
 }
 
-fn memory_reply(asked: u32) -> [u8; 8]
-    ensures { result ≡ memory_reply asked }
+fn memory_reply(profile: &Profile, asked: u32) -> [u8; 8]
+    ensures { result ≡ memory_reply profile.now asked }
 {
-    let status = if asked <= MEMORY { 0 } else { 1 };
+    let status = if asked <= profile.memory { 0 } else { 1 };
     [GET_MEMORY, VERSION, status, FILL, FILL, FILL, FILL, FILL]
 }
 
-fn soft_keys_reply() -> [u8; 8]
-    ensures { result ≡ soft_keys_reply }
+fn soft_keys_reply(profile: &Profile) -> [u8; 8]
+    ensures { result ≡ soft_keys_reply profile.now }
 {
     [
         GET_SOFT_KEYS,
         FILL,
         FILL,
         FILL,
-        SOFT_KEY_SIZE,
-        SOFT_KEY_SIZE,
-        VIRTUAL_SOFT_KEYS,
-        PHYSICAL_SOFT_KEYS,
+        profile.soft_key_width,
+        profile.soft_key_height,
+        profile.virtual_soft_keys,
+        profile.physical_soft_keys,
     ]
 }
 
-fn fonts_reply() -> [u8; 8]
-    ensures { result ≡ fonts_reply }
+fn fonts_reply(profile: &Profile) -> [u8; 8]
+    ensures { result ≡ fonts_reply profile.now }
 {
     [
         GET_FONTS,
@@ -91,17 +99,26 @@ fn fonts_reply() -> [u8; 8]
         FILL,
         FILL,
         FILL,
-        SMALL_FONTS,
-        LARGE_FONTS,
-        FONT_STYLES,
+        profile.small_fonts,
+        profile.large_fonts,
+        profile.font_styles,
     ]
 }
 
-fn hardware_reply() -> [u8; 8]
-    ensures { result ≡ hardware_reply }
+fn hardware_reply(profile: &Profile) -> [u8; 8]
+    ensures { result ≡ hardware_reply profile.now }
 {
-    let mut bytes = [GET_HARDWARE, BOOT_TIME, GRAPHIC_TYPE, HARDWARE, 0, 0, 0, 0];
-    LittleEndian::write_u16(&mut bytes[4..6], MASK_SIZE);
-    LittleEndian::write_u16(&mut bytes[6..8], MASK_SIZE);
+    let mut bytes = [
+        GET_HARDWARE,
+        profile.boot_time,
+        profile.graphic_type,
+        profile.hardware,
+        0,
+        0,
+        0,
+        0,
+    ];
+    LittleEndian::write_u16(&mut bytes[4..6], profile.width);
+    LittleEndian::write_u16(&mut bytes[6..8], profile.height);
     bytes
 }

@@ -14,14 +14,15 @@ ghost use Rattle.vt_transport.specs.Wire.{tp_frame, rts_frame};
 ghost use Rattle.vt_transport.specs.Senders.{timeout_frame, has_size};
 ghost use Rattle.vt_extended.specs.Protocol as etp;
 ghost use Rattle.vt_extended.specs.Wire.{etp_frame};
-ghost use Rattle.vt_node.specs.Nodes.{HasTaken, HasAnswered, HasExpired, abort_by, sender_answer, tp_taken, etp_taken};
+ghost use Rattle.vt_can.specs.transport.FirstTimes.{IsFirstTime};
+ghost use Rattle.vt_node.specs.Nodes.{HasOverdue, HasTaken, HasAnswered, HasExpired, abort_by, sender_answer, tp_taken, etp_taken};
 
 use crate::OutOfMemory;
 use arrayvec::ArrayVec;
 use std::alloc::Global;
 use std::marker::Model;
 use vt_can::assigned::VT_TO_ECU;
-use vt_can::{Frame, Heard};
+use vt_can::{Frame, Heard, earlier};
 use vt_names::{ClaimMeaning, Claims, Name};
 use vt_transport::SendFault;
 
@@ -214,6 +215,14 @@ impl Node {
         ensures rest { self.new ≡ record self.old { sending = self.new.sending } }
     {
         self.sender.expire(now)
+    }
+
+    /// The first time at which a session is overdue, or `None` if none ever is. docs/PROFILE.md, "Timeouts".
+    pub fn overdue_from(&self) -> Option<u64>
+        ensures { IsFirstTime (HasOverdue self.now) result }
+    {
+        let receiving = earlier(self.tp.overdue_from(), self.etp.overdue_from());
+        earlier(receiving, self.sender.overdue_from())
     }
 
     /// Starts to send a message of 9 to 1785 bytes, and returns its request to send.

@@ -1,9 +1,10 @@
 //! The time of the last frame of each address.
 
-ghost use Rattle.std.specs.Prelude.{◌≡◌, ◌<◌, ◌-◌, ℕ, Some, None, false, unwrap_or, length, get_or};
+ghost use Rattle.std.specs.Prelude.{◌≡◌, ◌↔◌, true, ◌<◌, ◌-◌, ℕ, Some, None, false, unwrap_or, length, get_or};
 ghost use Rattle.vt_node.specs.Watches.{is_silent};
 ghost use Rattle.vt_node.specs.AddressFunctions.{with_at};
-ghost use Rattle.vt_node.specs.Watches.{heard_of, heard_in};
+ghost use Rattle.vt_can.specs.transport.FirstTimes.{IsFirstTime};
+ghost use Rattle.vt_node.specs.Watches.{heard_of, heard_in, SomeAwaited};
 
 use std::marker::Model;
 
@@ -79,6 +80,21 @@ impl Watch {
             return None;
         }
         Some(self.last[usize::from(address)])
+    }
+
+    /// Whether some address waits for the time of the next frame line.
+    pub(crate) fn awaits(&self) -> bool
+        ensures { (result ≡ true) ↔ SomeAwaited (heard_of self.now) }
+    {
+        self.awaits && self.awaited.contains(&true)
+    }
+
+    /// The first time at which an address is silent, or `None` if it has no time or is never silent.
+    pub(crate) fn silent_from(&self, address: u8) -> Option<u64>
+        ensures { IsFirstTime (λ now. is_silent now (heard_of self.now address) ≡ true) result }
+    {
+        let last = self.last_heard(address)?;
+        last.checked_add(SILENCE + 1)
     }
 
     /// Whether an address has sent no frame for more than 3,000,000 microseconds.

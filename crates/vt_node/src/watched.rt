@@ -1,10 +1,11 @@
 //! The working sets, with the time of the last frame of each address (docs/PROFILE.md, "Working sets", "Silence").
 
-ghost use Rattle.std.specs.Prelude.{◌≡◌, ◌≢◌, ◌<◌, ◌≤◌, ℕ, None, Some, Ok, Err, [], length, slice_get, unwrap_or, IfErr, IfNone, IfSome, OnOk, OnErr, if◌then◌else◌};
+ghost use Rattle.std.specs.Prelude.{◌≡◌, ◌≢◌, ◌↔◌, true, ◌<◌, ◌≤◌, ℕ, None, Some, Ok, Err, [], length, slice_get, unwrap_or, IfErr, IfNone, IfSome, OnOk, OnErr, if◌then◌else◌};
 ghost use Rattle.std.specs.Option.{option_copied};
 ghost use Rattle.vt_names.specs.Registry.{set_at, with_set, without, registering, joining, binding, preloaded, has_place, AreApart, IsUnnamed};
 ghost use Rattle.vt_names.specs.declared.registry.RegistryFault.TheVariants as declared;
-ghost use Rattle.vt_node.specs.Watches.{first_silent_of, is_silent};
+ghost use Rattle.vt_can.specs.transport.FirstTimes.{IsFirstTime};
+ghost use Rattle.vt_node.specs.Watches.{first_silent_of, is_silent, SomeAwaited, SomeSilent};
 ghost use Rattle.vt_node.specs.Registries.{AreHeardSince, sooner};
 ghost use Rattle.vt_node.specs.AddressFunctions.{with_at};
 ghost use Rattle.vt_node.specs.Watches.{heard_of};
@@ -13,6 +14,7 @@ use crate::OutOfMemory;
 use crate::watch::{SILENCE, Watch};
 use std::alloc::Global;
 use std::marker::Model;
+use vt_can::earlier;
 use vt_names::{Name, Registry, RegistryFault, Set};
 
 /// The working sets, and the time of the last frame of each of the 256 addresses.
@@ -180,6 +182,28 @@ impl WatchedRegistry {
     {
         self.earliest = self.earliest.min(now);
         self.watch.note_frame(address, now);
+    }
+
+    /// Whether some address waits for the time of the next frame line, from which its silence counts.
+    pub fn awaits(&self) -> bool
+        ensures { (result ≡ true) ↔ SomeAwaited (heard_of self.now.watch) }
+    {
+        self.watch.awaits()
+    }
+
+    /// The first time at which a set is silent, or `None` if none ever is. docs/PROFILE.md, "Silence".
+    pub fn silent_from(&self) -> Option<u64>
+        ensures { IsFirstTime (SomeSilent (heard_of self.now.watch) self.now.sets) result }
+    {
+        let mut first = None;
+        let mut place = self.registry.len();
+        while place > 0 {
+            place -= 1;
+            if let Some(set) = self.registry.at(place) {
+                first = earlier(first, self.watch.silent_from(set.address()));
+            }
+        }
+        first
     }
 
     /// Returns the address of the first silent set in order of registration. Nothing is changed.

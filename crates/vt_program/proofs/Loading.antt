@@ -13,6 +13,7 @@ use Rattle.vt_chains.specs.Limits.{terminal}
 use Rattle.vt_verify.specs.declared.refusal.Refusal.{Refusal}
 use Rattle.vt_verify.specs.Reports.{report_text}
 use Rattle.vt_logs.specs.declared.counts.Counts.{Counts}
+use Rattle.vt_node.specs.Profile.{standard}
 use Rattle.vt_program.specs.declared.options.Options.{Options}
 use Rattle.vt_program.specs.declared.options.Preload.{Preload}
 use Rattle.vt_logs.specs.declared.fault.ReplayFault.{ReplayFault}
@@ -91,10 +92,10 @@ report_of_file None pool text is rising same = tt
 report_of_file (Some bytes) pool text is rising same =
     record { objects = contents pool; accepted = is; text_is = same ∙ ap report_text rising }
 
-pub new_is : (s : State) (own name : ℕ) → s.claims ≡ record { own = own; name = name; addresses = [] } → s.sets ≡ []
+pub new_is : (s : State) (own name : ℕ) → s.claims ≡ record { own = own; name = name; addresses = [] } → s.profile ≡ standard → s.sets ≡ []
     → ((address : ℕ) → s.places address ≡ empty) → s.selected ≡ None → s.shown ≡ None → s.lost ≡ false → s.now ≡ 0 → s ≡ new_state own name
-new_is s own name claims sets places selected shown lost now =
-    λ i. record { claims = claims i; sets = sets i; places = λ address. places address i; selected = selected i; shown = shown i; lost = lost i; now = now i }
+new_is s own name claims profile sets places selected shown lost now =
+    λ i. record { claims = claims i; profile = profile i; sets = sets i; places = λ address. places address i; selected = selected i; shown = shown i; lost = lost i; now = now i }
 
 pub start_alone : (files : FileContents) (options : Options) (s : State) → options.preload ≡ None
     → s ≡ new_state options.own options.name → IsStart files options s

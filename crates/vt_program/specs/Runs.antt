@@ -31,6 +31,7 @@ use Rattle.vt_logs.specs.EarlyEnds.{HasStopped, HasStoppedAtLong}
 use Rattle.vt_logs.specs.Replays.{IsReplay, HasLongLine}
 use Rattle.vt_logs.specs.Texts.{newline}
 use Rattle.vt_program.specs.Words.{IsRefusalOf, WordsGive}
+use Rattle.vt_node.specs.Profile.{standard}
 use Rattle.vt_server.specs.state.AddressStates.{empty}
 use Rattle.vt_server.specs.Steps.{preloading}
 use Rattle.vt_server.specs.Terminals.{State}
@@ -64,10 +65,11 @@ pub record IsRefusedPool (bytes : List ℕ) (why : PoolRefusal) : Type 0 where
   pub refused : IsRefused terminal (finite.entries objects) why
   pub named : rules.IsWantOfMemory why → ⊥
 
--- A new terminal with its address and NAME, before its first input.
+-- A new terminal with its address, its NAME and the standard profile, before its first input.
 abbrev pub new_state : ℕ → ℕ → State
 new_state own name = record {
   claims = record { own = own; name = name; addresses = [] };
+  profile = standard;
   sets = [];
   places = λ address. empty;
   selected = None;

@@ -26,6 +26,7 @@ places_by contents node heard address = record {
 abbrev pub state_of : Terminal → State
 state_of t = record {
   claims = t.node.claims;
+  profile = t.profile;
   sets = t.registry.sets;
   places = places_by (content_of t.contents) t.node (heard_of t.registry.watch);
   selected = t.selected;

@@ -5,14 +5,16 @@ use Rattle.vt_names.specs.Claims.{Claimed, holder_of}
 use Rattle.vt_names.specs.Registry.{Set, set_at, with_set, without}
 use Rattle.vt_machine.specs.SetStates.{SetState}
 use Rattle.vt_node.specs.AddressFunctions.{with_at}
+use Rattle.vt_node.specs.declared.profile.Profile.{Profile}
 use Rattle.vt_server.specs.state.AddressStates.{AddressState}
 use Rattle.vt_server.specs.state.AddressViews.{AddressView, AddressOutcome, Act, outcome}
 use Rattle.vt_server.specs.declared.output.OperatorFault.{OperatorFault}
 
--- the address claims received, the sets in order of registration, the state of each address, the addresses of the selected set
+-- the address claims received, the profile, the sets in order of registration, the state of each address, the addresses of the selected set
 -- and of the shown set, whether the own address was lost, and the latest time so far in microseconds
 pub record State : Type 0 where
   pub claims : Claimed
+  pub profile : Profile
   pub sets : List Set
   pub places : ℕ → AddressState
   pub selected : Option ℕ
@@ -34,6 +36,7 @@ holder s address = holder_of s.claims.addresses address
 abbrev pub part : ℕ → State → AddressView
 part address s = record {
   terminal = s.claims.own;
+  profile = s.profile;
   lost = s.lost;
   holder = holder s address;
   set = set_at address s.sets;

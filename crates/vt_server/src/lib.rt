@@ -2,13 +2,17 @@
 //!
 //! - `Terminal` takes each `Input`, a frame or an action of the operator, and appends each `Output`, a frame or an
 //!   `OperatorFault`. A run of inputs ends with a `RunFault` at the first refusal of memory.
+//! - `Terminal::tick` moves the time on without a frame, and `Terminal::next_deadline` tells from when on that does anything. A
+//!   `Profile` is what the terminal says of itself.
 //! - `laws` has the invariants of every terminal; the laws on its steps are in vt_laws.
 //!
 //! docs/PROFILE.md, "The step", has the rules.
 #![tactic(auto)]
 
+mod clock;
 mod frame;
 mod held_pool;
+mod held_upload;
 mod input;
 pub mod laws;
 mod message;
@@ -22,6 +26,7 @@ pub use input::Input;
 pub use output::{OperatorFault, Output};
 pub use terminal::{RunFault, Terminal};
 pub use vt_machine::OperatorRefusal;
+pub use vt_node::Profile;
 
 /// The error of a refused allocation.
 pub use std::alloc::AllocError as OutOfMemory;

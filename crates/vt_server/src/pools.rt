@@ -16,6 +16,7 @@ ghost use Rattle.vt_server.specs.state.PoolTables.{content_of, spare_of};
 
 use crate::OutOfMemory;
 use crate::held_pool::HeldPool;
+use crate::held_upload::HeldUpload;
 use crate::message::end_of_pool::{ACCEPTED, Judgement, judge};
 use crate::message::replies::{deletes, error_byte};
 use crate::operator::actions::keeps_look;
@@ -30,7 +31,7 @@ use vt_pool::Reading;
 #[derive(Drop)]
 pub(crate) struct PoolTable {
     pools: [Option<HeldPool>; 256],
-    transfers: [Option<Reading>; 256],
+    transfers: [Option<HeldUpload>; 256],
     // Whether some address may have a pool.
     may_have_pools: bool,
 }
@@ -159,7 +160,7 @@ impl PoolTable {
         match place {
             Some(transfer) => transfer.reserve(count),
             None => {
-                let mut transfer = Reading::new(alloc);
+                let mut transfer = HeldUpload::new(alloc)?;
                 transfer.reserve(count)?;
                 *place = Some(transfer);
                 Ok(())
@@ -176,10 +177,7 @@ impl PoolTable {
         let Some(transfer) = self.transfers[usize::from(address)].as_mut() else {
             return;
         };
-        match transfer.feed(piece, from) {
-            Ok(()) => {}
-            Err(_) => unreachable!(),
-        }
+        transfer.feed(piece, from);
     }
 
     /// Judges the upload of an address. Changes nothing.
@@ -188,7 +186,7 @@ impl PoolTable {
     {
         let pool = self.pool(address);
         match &self.transfers[usize::from(address)] {
-            Some(transfer) => judge(alloc, pool, transfer),
+            Some(transfer) => judge(alloc, pool, transfer.reading()),
             None => judge(alloc, pool, &Reading::new(alloc)),
         }
     }

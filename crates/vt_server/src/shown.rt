@@ -63,11 +63,9 @@ impl Terminal {
             self.shown = None;
             return;
         }
-        self.selected = self.selected_now();
-        self.shown = match self.loudest() {
-            Some(alarm) => Some(alarm.address),
-            None => self.selected,
-        };
+        let selected = self.selected_now();
+        self.shown = self.shown_by(selected);
+        self.selected = selected;
     }
 
     /// If the shown set changed, raises Deactivate on the old set and Activate on the new one.
@@ -120,7 +118,18 @@ impl Terminal {
         }
     }
 
-    fn selected_now(&self) -> Option<u8>
+    /// The set that shows the loudest alarm, or else the selected set.
+    pub(crate) fn shown_by(&self, selected: Option<u8>) -> Option<u8>
+        ensures { result ≡ choosing.or_selected (choosing.loudest (spec.pool_of (state_of self.now)) (state_of self.now).sets) selected }
+    {
+        match self.loudest() {
+            Some(alarm) => Some(alarm.address),
+            None => selected,
+        }
+    }
+
+    /// The selected set if it has a pool, or else the first set with a pool.
+    pub(crate) fn selected_now(&self) -> Option<u8>
         ensures { result ≡ choosing.selected_now (state_of self.now) }
     {
         if self.has_pool(self.selected) {

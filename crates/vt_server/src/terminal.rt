@@ -3,6 +3,7 @@
 ghost use Rattle.std.specs.Prelude.{◌≡◌, ◌≢◌, ◌≤◌, ◌++◌, ◌<◌, ℕ, [], ◌∷◌, None, Some, true, false, is_some, IsOk, IfOk, IfErr, OnOk, OnErr, length, take};
 ghost use Rattle.std.specs.Option.{option_map};
 ghost use Rattle.vt_names.specs.Registry.{set_at};
+ghost use Rattle.vt_node.specs.Profile.{standard};
 ghost use Rattle.vt_stores.specs.Stores.{map_of};
 ghost use Rattle.vt_server.specs.state.AddressStates.{empty};
 ghost use Rattle.vt_server.specs.shown.Screens.{GainsScreenOf, KeepsScreen, redraws};
@@ -19,7 +20,7 @@ use thiserror::Error;
 use vt_layout::draw;
 use vt_machine::Live;
 use vt_names::Name;
-use vt_node::{Node, WatchedRegistry};
+use vt_node::{Node, Profile, WatchedRegistry};
 use vt_objects::SortedStore;
 use vt_verify::Accepted;
 
@@ -27,6 +28,7 @@ use vt_verify::Accepted;
 pub struct Terminal {
     pub(crate) alloc: Global,
     pub(crate) node: Node,
+    pub(crate) profile: Profile,
     pub(crate) registry: WatchedRegistry,
     pub(crate) contents: PoolTable,
     // The addresses of the selected set and of the shown set.
@@ -46,6 +48,7 @@ impl Drop for Terminal {
         let Terminal {
             alloc: _alloc,
             node: _node,
+            profile: _profile,
             registry: _registry,
             contents: _contents,
             selected: _selected,
@@ -66,9 +69,27 @@ pub struct RunFault {
 }
 
 impl Terminal {
-    /// A terminal without working sets, at address `own` (at most 253), with its NAME. It allocates nothing.
+    /// A terminal without working sets, at address `own` (at most 253), with its NAME and the standard profile. It allocates
+    /// nothing.
     pub fn new(alloc: Global, own: u8, name: Name) -> Terminal
         requires { own ≤ 253 }
+        ensures claims { (state_of result).claims ≡ record { own = own; name = name; addresses = [] } }
+        ensures profile { (state_of result).profile ≡ standard }
+        ensures sets { (state_of result).sets ≡ [] }
+        ensures places { (address : ℕ) → (state_of result).places address ≡ empty }
+        ensures selected { (state_of result).selected ≡ None }
+        ensures shown { (state_of result).shown ≡ None }
+        ensures lost { (state_of result).lost ≡ false }
+        ensures now { (state_of result).now ≡ 0 }
+        ensures redraws { redraws result ≡ true }
+    {
+        Terminal::new_with(alloc, own, name, Profile::standard())
+    }
+
+    /// A terminal like that of `new`, with other answers to requests for its technical data. docs/PROFILE.md, "Other messages".
+    pub fn new_with(alloc: Global, own: u8, name: Name, profile: Profile) -> Terminal
+        requires { own ≤ 253 }
+        ensures profile { (state_of result).profile ≡ profile }
         ensures claims { (state_of result).claims ≡ record { own = own; name = name; addresses = [] } }
         ensures sets { (state_of result).sets ≡ [] }
         ensures places { (address : ℕ) → (state_of result).places address ≡ empty }
@@ -81,6 +102,7 @@ impl Terminal {
         Terminal {
             alloc,
             node: Node::new(alloc, own, name),
+            profile,
             registry: WatchedRegistry::new(alloc),
             contents: PoolTable::new(),
             selected: None,

@@ -7,6 +7,7 @@ use Rattle.vt_verify.specs.Rules.{IsVerified}
 use Rattle.vt_machine.specs.SetStates.{SetState}
 use Rattle.vt_logs.specs.Replays.{IsReplay}
 use Rattle.vt_logs.specs.declared.counts.Counts.{Counts}
+use Rattle.vt_node.specs.Profile.{standard}
 use Rattle.vt_server.specs.state.AddressStates.{empty}
 use Rattle.vt_server.specs.Steps.{preloading}
 use Rattle.vt_server.specs.Terminals.{State}
@@ -14,10 +15,12 @@ use Rattle.vt_states.specs.declared.state.StartSet.{StartSet}
 
 -- ---- the terminal before the first line
 
--- A new terminal at the address 26 (38 in decimal) with the NAME 20001D0000000001, before its first input.
+-- A new terminal at the address 26 (38 in decimal) with the NAME 20001D0000000001 and the standard profile,
+-- before its first input.
 abbrev pub new_state : State
 new_state = record {
   claims = record { own = 38; name = 2305874895050899457; addresses = [] };
+  profile = standard;
   sets = [];
   places = λ address. empty;
   selected = None;

@@ -2,7 +2,8 @@
 
 ghost use Rattle.std.specs.Prelude.{◌≡◌, ℕ, false, Some, None, List, length, IfOk, OnOk, OnErr, IsOk, IfSome, IfNone};
 ghost use Rattle.std.specs.FinMap as finite;
-ghost use Rattle.vt_can.specs.transport.Sessions.{is_overdue, alive, AreOfAddresses};
+ghost use Rattle.vt_can.specs.transport.FirstTimes.{IsFirstTime};
+ghost use Rattle.vt_can.specs.transport.Sessions.{is_overdue, alive, SomeOverdue, AreOfAddresses};
 ghost use Rattle.vt_can.specs.frames.Frame.{source_of};
 ghost use Rattle.vt_can.specs.transport.Messages.{size_and_first_byte};
 ghost use Rattle.vt_can.specs.transport.Receivers.{outcome, timely_outcome, AnswersWith, MakesStep, OthersStay, HasCapacityFor, OpensNone, TimesOut};
@@ -22,7 +23,7 @@ use vt_can::assigned::VT_TO_ECU;
 use vt_can::{Frame, Heard, Reason, Received, Sessions, Timed};
 
 /// The TP receiver of a node: at most one session for each source, seen as the map of the sessions by
-/// source, the node's address, and the number of bytes reserved for a message.
+/// source, the node's address, and the number of bytes reserved for a message. Without its table no byte is reserved.
 ///
 /// docs/PROFILE.md, "The TP receiver".
 pub struct Receiver {
@@ -46,7 +47,7 @@ impl Drop for Receiver {
 }
 
 impl Model for Receiver {
-    ghost use Rattle.std.specs.Prelude.{◌≡◌, vec_len, vec_capacity};
+    ghost use Rattle.std.specs.Prelude.{◌≡◌, vec_len, vec_capacity, if◌then◌else◌};
     ghost use Rattle.vt_can.specs.transport.Receivers.{ReceiverState, receiver_state_code};
     ghost use Rattle.vt_transport.specs.SessionState.{SessionState, session_state_code};
 
@@ -54,7 +55,7 @@ impl Model for Receiver {
 
     ghost coded = { receiver_state_code session_state_code };
 
-    ghost view = { λ r. record { own_address = r.own_address; sessions = r.sessions; spare = vec_capacity r.spare } };
+    ghost view = { λ r. record { own_address = r.own_address; sessions = r.sessions.sessions; spare = if r.sessions.allocated then vec_capacity r.spare else 0 } };
 
     ghost invariant = { λ r. vec_len r.spare ≡ 0 };
 }
@@ -68,13 +69,13 @@ impl Receiver {
     {
         Receiver {
             own_address,
-            sessions: Sessions::new(),
+            sessions: Sessions::new(alloc),
             spare: Vec::new(alloc),
             alloc,
         }
     }
 
-    /// Handles a frame received at `now`. Only a request to send allocates, for the whole message. After
+    /// Handles a frame received at `now`. Only a request to send allocates, for the whole message and the first for the table. After
     /// `OutOfMemory` the receiver is unchanged. docs/PROFILE.md, "The TP receiver".
     pub fn hear(&mut self, now: u64, frame: &Frame) -> Result<Heard, OutOfMemory>
         ensures step { IfOk result
@@ -113,6 +114,13 @@ impl Receiver {
         Some(wire::reply_frame(self.own_address, source, abort))
     }
 
+    /// The first time at which a session is overdue, or `None` if none ever is. docs/PROFILE.md, "Timeouts".
+    pub fn overdue_from(&self) -> Option<u64>
+        ensures { IsFirstTime (SomeOverdue self.now.sessions) result }
+    {
+        self.sessions.overdue_from()
+    }
+
     /// Reserves the memory for `hear` of this frame, so that it is not refused, even after calls of
     /// `expire`. The sessions are unchanged. Returns the size and first byte of the message that `hear`
     /// hands out after those calls, if any. docs/PROFILE.md, "The TP receiver".
@@ -148,6 +156,7 @@ impl Receiver {
             return Ok(answered(self.own_address, source, Some(opening.first_reply())));
         }
         self.spare.reserve_exact(usize::from(opening.size))?;
+        self.sessions.allocate()?;
         let bytes = mem::replace(&mut self.spare, Vec::new(self.alloc));
         self.sessions.put(source, now, Session::new(opening, bytes));
         Ok(answered(self.own_address, source, Some(opening.first_reply())))
@@ -200,6 +209,7 @@ impl Receiver {
     {
         if opening.opens() {
             self.spare.reserve_exact(usize::from(opening.size))?;
+            self.sessions.allocate()?;
         }
         Ok(())
     }

@@ -2,7 +2,8 @@
 
 ghost use Rattle.std.specs.Prelude.{◌≡◌, ◌↔◌, ℕ, ◌%◌, ◌^◌, false, Some, None, Err, [], ◌∷◌, is_some, IsSome, IfOk, OnErr, IfSome, IfNone};
 ghost use Rattle.std.specs.FinMap as finite;
-ghost use Rattle.vt_can.specs.transport.Sessions.{is_overdue, AreOfAddresses};
+ghost use Rattle.vt_can.specs.transport.FirstTimes.{IsFirstTime};
+ghost use Rattle.vt_can.specs.transport.Sessions.{is_overdue, SomeOverdue, AreOfAddresses};
 ghost use Rattle.vt_can.specs.frames.Frame.{source_of};
 ghost use Rattle.vt_transport.specs.Wire.{rts_frame};
 ghost use Rattle.vt_transport.specs.declared.messages.TpFrame.TheVariants as declared;
@@ -61,7 +62,7 @@ impl Model for Sender {
 
     ghost coded = { sender_state_code };
 
-    ghost view = { λ s. record { own_address = s.own_address; sessions = s.sessions } };
+    ghost view = { λ s. record { own_address = s.own_address; sessions = s.sessions.sessions } };
 }
 
 impl Sender {
@@ -71,7 +72,7 @@ impl Sender {
     {
         Sender {
             own_address,
-            sessions: Sessions::new(),
+            sessions: Sessions::new(alloc),
             alloc,
         }
     }
@@ -100,9 +101,19 @@ impl Sender {
         let Ok(bytes) = Vec::from_slice(self.alloc, message) else {
             return Err(SendFault::OutOfMemory);
         };
+        if self.sessions.allocate().is_err() {
+            return Err(SendFault::OutOfMemory);
+        }
         let pgn = pgn % (1 << 24);
         self.sessions.put(to, now, Outgoing::new(pgn, bytes));
         Ok(wire::rts_frame(self.own_address, to, size as u16, pgn))
+    }
+
+    /// The first time at which a session is overdue, or `None` if none ever is. docs/PROFILE.md, "Timeouts".
+    pub fn overdue_from(&self) -> Option<u64>
+        ensures { IsFirstTime (SomeOverdue self.now.sessions) result }
+    {
+        self.sessions.overdue_from()
     }
 
     /// Whether a message is being sent to a destination.

@@ -2,6 +2,7 @@
 pub mod Booleans
 pub mod ByAddress
 pub mod CallsAsSteps
+pub mod FirstTimes
 pub mod MarkedHistories
 pub mod OneSource
 pub mod OpenSessions

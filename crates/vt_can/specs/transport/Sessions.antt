@@ -1,7 +1,7 @@
 -- Sessions by address, each with the time of its last frame (docs/PROFILE.md, "Timeouts").
-use Rattle.std.specs.Prelude.{◌≡◌, ◌<◌, ◌≤◌, ℕ, zero, suc, ◌+◌, ◌-◌, Bool, true, false, nat_lt, if◌then◌else◌, Option, Some, None, List, [], ◌∷◌, ◌++◌, length, get_or, refl}
+use Rattle.std.specs.Prelude.{◌≡◌, ◌≢◌, ◌==◌, ◌<◌, ◌≤◌, ℕ, zero, suc, ◌+◌, ◌-◌, Bool, true, false, nat_lt, if◌then◌else◌, Option, Some, None, List, [], ◌∷◌, ◌++◌, length, get_or, refl}
 use Rattle.std.specs.Ordering.{nat_cmp}
-use Rattle.std.specs.Coded.{Coded, code_by, coded×, coded_ℕ}
+use Rattle.std.specs.Coded.{Coded, code_by, coded×, coded_ℕ, coded_bool}
 use Rattle.std.specs.FinMap as finite
 use Rattle.vt_can.specs.declared.transport.sessions.Timed.{Timed}
 
@@ -18,9 +18,23 @@ map_of_places address [] = finite.empty
 map_of_places address (None ∷ places) = map_of_places (suc address) places
 map_of_places address (Some x ∷ places) = finite.insert (map_of_places (suc address) places) address x
 
--- an entry for each address, and no session's last frame is before `earliest`
+-- the sessions, and whether the table of the 256 addresses is allocated
+pub record SessionTable (T : Type 0) : Type 0 where
+  pub sessions : ByAddress T
+  pub allocated : Bool
+
+abbrev pub table_code : {T : Type 0} → Coded T → Coded (SessionTable T)
+table_code {T} code =
+    code_by (ByAddress T × Bool) (coded× (finite.code coded_ℕ (timed_code code)) coded_bool)
+    (λ t. (t.sessions, t.allocated)) (λ p. record { sessions = p.0; allocated = p.1 }) (λ _. refl)
+
+abbrev pub table_of_places : {T : Type 0} → List (Option (Timed T)) → SessionTable T
+table_of_places places = record { sessions = map_of_places 0 places; allocated = length places == 256 }
+
+-- an entry for each address or none at all, and no session's last frame is before `earliest`
 pub record ArePlaces {T : Type 0} (places : List (Option (Timed T))) (earliest : ℕ) : Type 0 where
-  pub all : length places ≡ 256
+  pub few : length places ≤ 256
+  pub all : length places ≢ 0 → length places ≡ 256
   pub bound : (q : ℕ) (timed : Timed T) → get_or places q None ≡ Some timed → earliest ≤ timed.last
 
 -- a session without its time
@@ -51,6 +65,10 @@ module _ {T : Type 0} where
   -- the addresses of overdue sessions, the least first, each paired with `what`
   abbrev pub each_overdue : {X : Type 0} → ℕ → ByAddress T → X → List (ℕ × X)
   each_overdue now sessions what = each_below (λ q. is_overdue now (finite.get sessions q)) what 256
+
+  -- some session is overdue
+  abbrev pub SomeOverdue : ByAddress T → ℕ → Type 0
+  SomeOverdue sessions now = (q : ℕ) × (is_overdue now (finite.get sessions q) ≡ true)
 
   -- the least address with an overdue session
   pub record IsFirstOverdue (sessions : ByAddress T) (now address : ℕ) : Type 0 where

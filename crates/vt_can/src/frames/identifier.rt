@@ -85,7 +85,8 @@ impl CanId {
         (self.pdu_format() < 240).then_some((self.raw >> 8 & 0xFF) as u8)
     }
 
-    pub(crate) fn raw(self) -> u32
+    /// The identifier as a number, at most 1FFFFFFF.
+    pub fn raw(self) -> u32
         ensures value { result ≡ self }
         ensures fits { result < 2 ^ 29 }
     {

@@ -1,10 +1,13 @@
 //! Sessions of a transport protocol, by address.
 
-ghost use Rattle.std.specs.Prelude.{◌≡◌, ℕ, ◌≤◌, false, Some, IfSome, IfNone};
+ghost use Rattle.std.specs.Prelude.{◌≡◌, ℕ, ◌≤◌, true, false, None, Some, length, get_or, IfSome, IfNone, IfOk, OnOk, OnErr, IsOk};
 ghost use Rattle.std.specs.FinMap as finite;
 ghost use Rattle.std.specs.Option.{option_copied};
-ghost use Rattle.vt_can.specs.transport.Sessions.{is_overdue, AreOfAddresses, IsFirstOverdue, Expires, NoneExpires};
+ghost use Rattle.vt_can.specs.transport.FirstTimes.{IsFirstTime};
+ghost use Rattle.vt_can.specs.transport.Sessions.{is_overdue, SomeOverdue, AreOfAddresses, IsFirstOverdue, Expires, NoneExpires};
 
+use crate::transport::first_time::earlier;
+use std::alloc::{AllocError, Global};
 use std::marker::Model;
 
 /// The longest time that a session stays open without one of its frames, in microseconds.
@@ -17,11 +20,15 @@ pub struct Timed<T> {
     pub session: T,
 }
 
-/// At most one session for each of the 256 addresses, seen as a finite map from addresses.
+/// The number of addresses.
+const ADDRESSES: usize = 256;
+
+/// At most one session for each of the 256 addresses, seen as a finite map from addresses, and whether its table is allocated.
 ///
-/// No call allocates. A session is found by its index, without a search.
+/// Only `allocate` allocates. A session is found by its index, without a search.
 pub struct Sessions<T> {
-    places: [Option<Timed<T>>; 256],
+    // A place for each address, or none before `allocate`.
+    places: Vec<Option<Timed<T>>>,
     // A lower bound of the times of last frames. Most calls of `expire` read nothing else.
     earliest: u64,
 }
@@ -38,19 +45,15 @@ impl<T: Drop> Drop for Sessions<T> {
 }
 
 impl<T> Model for Sessions<T> {
-    ghost use Rattle.std.specs.FinMap as finite;
-    ghost use Rattle.std.specs.Ordering.{nat_cmp};
-    ghost use Rattle.std.specs.Coded.{coded_ℕ};
-    ghost use Rattle.vt_can.specs.declared.transport.sessions.Timed.{Timed};
-    ghost use Rattle.vt_can.specs.transport.Sessions.{map_of_places, timed_code, ArePlaces};
+    ghost use Rattle.vt_can.specs.transport.Sessions.{SessionTable, table_code, table_of_places, ArePlaces};
 
-    ghost Value = { finite.FinMap nat_cmp (Timed T) };
+    ghost Value = { SessionTable T };
 
-    ghost coded = { finite.code coded_ℕ (timed_code T.code) };
+    ghost coded = { table_code T.code };
 
-    ghost view = { λ a. map_of_places 0 a.places };
+    ghost view = { λ a. table_of_places a.places.items };
 
-    ghost invariant = { λ a. ArePlaces a.places a.earliest };
+    ghost invariant = { λ a. ArePlaces a.places.items a.earliest };
 }
 
 impl<T> Timed<T> {
@@ -61,39 +64,71 @@ impl<T> Timed<T> {
     {
         now.saturating_sub(self.last) > TIMEOUT
     }
+
+    /// The first time at which the session is overdue, or `None` if no time of 64 bits is late enough.
+    pub fn overdue_from(&self) -> Option<u64>
+        ensures { IsFirstTime (λ now. is_overdue now (Some self.now) ≡ true) result }
+    {
+        self.last.checked_add(TIMEOUT + 1)
+    }
 }
 
 impl<T> Sessions<T> {
-    /// Creates the map without sessions.
-    pub fn new() -> Sessions<T>
-        ensures { result ≡ finite.empty }
+    /// Creates the map without sessions. Does not allocate.
+    pub fn new(alloc: Global) -> Sessions<T>
+        ensures { result ≡ record { sessions = finite.empty; allocated = false } }
     {
         Sessions {
-            places: Default::default(),
+            places: Vec::new(alloc),
             earliest: u64::MAX,
         }
     }
 
+    /// Allocates the table, so that `put` may be called. Does nothing if the table is there. After an error nothing is
+    /// changed.
+    pub fn allocate(&mut self) -> Result<(), AllocError>
+    where
+        T: Drop,
+        ensures ok { OnOk result (self.new ≡ record self.old { allocated = true }) }
+        ensures err { OnErr result (self.new ≡ self.old) }
+        ensures free { self.old.allocated ≡ true → IsOk result }
+    {
+        if self.places.is_empty() {
+            self.places = empty_places(*self.places.allocator())?;
+        }
+        Ok(())
+    }
+
     /// Returns the session of an address, if there is one.
     pub fn get(&self, address: u8) -> Option<&Timed<T>>
-        ensures { option_copied result ≡ finite.get self.now address }
+        ensures { option_copied result ≡ finite.get self.now.sessions address }
     {
+        if self.places.is_empty() {
+            return None;
+        }
         self.places[usize::from(address)].as_ref()
     }
 
     /// Returns the session of an address and removes it.
     pub fn take(&mut self, address: u8) -> Option<Timed<T>>
-        ensures found { result ≡ finite.get self.old address }
-        ensures left { self.new ≡ finite.remove self.old address }
+        ensures found { result ≡ finite.get self.old.sessions address }
+        ensures left { self.new ≡ record self.old { sessions = finite.remove self.old.sessions address } }
+        // A session has a place in the table.
+        ensures allocated { IfSome result (λ _. self.old.allocated ≡ true) }
     {
+        if self.places.is_empty() {
+            return None;
+        }
         self.places[usize::from(address)].take()
     }
 
-    /// Opens a session for an address, with its last frame at `last`. An open session of the address ends.
+    /// Opens a session for an address, with its last frame at `last`. An open session of the address ends. The table is
+    /// allocated.
     pub fn put(&mut self, address: u8, last: u64, session: T)
     where
         T: Drop,
-        ensures { self.new ≡ finite.insert self.old address (record { last = last; session = session }) }
+        requires { self.old.allocated ≡ true }
+        ensures { self.new ≡ record self.old { sessions = finite.insert self.old.sessions address (record { last = last; session = session }) } }
     {
         self.earliest = self.earliest.min(last);
         self.places[usize::from(address)] = Some(Timed { last, session });
@@ -103,8 +138,11 @@ impl<T> Sessions<T> {
     pub fn remove(&mut self, address: u8)
     where
         T: Drop,
-        ensures { self.new ≡ finite.remove self.old address }
+        ensures { self.new ≡ record self.old { sessions = finite.remove self.old.sessions address } }
     {
+        if self.places.is_empty() {
+            return;
+        }
         self.places[usize::from(address)] = None;
     }
 
@@ -112,9 +150,10 @@ impl<T> Sessions<T> {
     /// 1,250,000 microseconds after its last frame; a `now` before that frame counts as no time passed.
     /// docs/PROFILE.md, "Timeouts".
     pub fn expire(&mut self, now: u64) -> Option<(u8, T)>
-        ensures some { IfSome result (λ expired. Expires self.old self.new now expired.0 expired.1) }
-        ensures none { IfNone result (NoneExpires self.old self.new now) }
-        ensures addresses { AreOfAddresses self.old }
+        ensures some { IfSome result (λ expired. Expires self.old.sessions self.new.sessions now expired.0 expired.1) }
+        ensures none { IfNone result (NoneExpires self.old.sessions self.new.sessions now) }
+        ensures addresses { AreOfAddresses self.old.sessions }
+        ensures allocated { self.new.allocated ≡ self.old.allocated }
     {
         if now.saturating_sub(self.earliest) <= TIMEOUT {
             return None;
@@ -124,11 +163,23 @@ impl<T> Sessions<T> {
         Some((address, timed.session))
     }
 
+    /// The first time at which a session is overdue, or `None` if none ever is. Reads each place of the table.
+    /// docs/PROFILE.md, "Timeouts".
+    pub fn overdue_from(&self) -> Option<u64>
+        ensures { IsFirstTime (SomeOverdue self.now.sessions) result }
+    {
+        let mut first = None;
+        for place in &self.places {
+            first = earlier(first, overdue_from(place));
+        }
+        first
+    }
+
     // Returns the least address with an overdue session. If there is none, `earliest` is exact afterwards.
     fn first_overdue(&mut self, now: u64) -> Option<u8>
         ensures same { self.new ≡ self.old }
-        ensures some { IfSome result (λ address. IsFirstOverdue self.old now address) }
-        ensures none { IfNone result ((q : ℕ) → is_overdue now (finite.get self.old q) ≡ false) }
+        ensures some { IfSome result (λ address. IsFirstOverdue self.old.sessions now address) }
+        ensures none { IfNone result ((q : ℕ) → is_overdue now (finite.get self.old.sessions q) ≡ false) }
     {
         let mut earliest = u64::MAX;
         for (address, place) in self.places.iter().enumerate() {
@@ -141,6 +192,28 @@ impl<T> Sessions<T> {
         }
         self.earliest = earliest;
         None
+    }
+}
+
+// A place for each address, without sessions.
+fn empty_places<T: Drop>(alloc: Global) -> Result<Vec<Option<Timed<T>>>, AllocError>
+    ensures all { IfOk result (λ places. length places.items ≡ 256) }
+    ensures empty { IfOk result (λ places. (q : ℕ) → get_or places.items q None ≡ None) }
+{
+    let mut places = Vec::with_capacity(alloc, ADDRESSES)?;
+    for _address in 0..ADDRESSES {
+        places.push(None)?;
+    }
+    Ok(places)
+}
+
+// The first time at which the session at a place is overdue.
+fn overdue_from<T>(place: &Option<Timed<T>>) -> Option<u64>
+    ensures { IsFirstTime (λ now. is_overdue now place.now ≡ true) result }
+{
+    match place {
+        Some(timed) => timed.overdue_from(),
+        None => None,
     }
 }
 

@@ -150,8 +150,8 @@ with_content_at address content s = record s { places = with_at address (with_co
 
 -- A technical request or a command is handled, and these are the bytes of the reply.
 pub record IsReplyTo (s : State) (source : ℕ) (bytes : List ℕ) (reply : Option (List ℕ)) (t : State) : Type 0 where
-  pub state : t ≡ with_content_at source (asked (s.places source).content bytes (technical_reply bytes)).content s
-  pub reply_is : reply ≡ (asked (s.places source).content bytes (technical_reply bytes)).reply
+  pub state : t ≡ with_content_at source (asked (s.places source).content bytes (technical_reply s.profile bytes)).content s
+  pub reply_is : reply ≡ (asked (s.places source).content bytes (technical_reply s.profile bytes)).reply
 
 -- A frame has the effect of its meaning at its source address.
 pub record TakesNotice (s : State) (notice : FrameMeaning) (frame : Frame) (t : State) (before after : List Output) : Type 0 where

@@ -6,6 +6,7 @@ use Rattle.vt_commands.specs.declared.command.Command.{Command}
 use Rattle.vt_commands.specs.Commands.{command_at}
 use Rattle.vt_server.specs.message.CommandEffects.{content_after, error_after}
 use Rattle.vt_node.specs.Messages.{technical_reply}
+use Rattle.vt_node.specs.declared.profile.Profile.{Profile}
 use Rattle.vt_server.specs.state.AddressStates.{SetPool, with_piece}
 use Rattle.vt_server.specs.message.CommandReplies.{command_reply}
 use Rattle.vt_server.specs.message.Verdicts.{Verdict, after_verdict, end_reply}
@@ -34,13 +35,13 @@ transferred content bytes = ignored (with_piece content bytes)
 abbrev pub end_handled : SetPool → Verdict → Handled
 end_handled content verdict = record { content = after_verdict content verdict; reply = Some (end_reply verdict) }
 
--- the effect of a message and its reply; the verdict counts for End of Object Pool alone
-abbrev pub handled : SetPool → Verdict → List ℕ → Handled
-handled content verdict [] = ignored content
-handled content verdict (function ∷ bytes) =
+-- the effect of a message and its reply, from a terminal of this profile; the verdict counts for End of Object Pool alone
+abbrev pub handled : Profile → SetPool → Verdict → List ℕ → Handled
+handled profile content verdict [] = ignored content
+handled profile content verdict (function ∷ bytes) =
     if function == TRANSFER then transferred content bytes
     else if function == END_OF_POOL then end_handled content verdict
-    else asked content (function ∷ bytes) (technical_reply (function ∷ bytes))
+    else asked content (function ∷ bytes) (technical_reply profile (function ∷ bytes))
 
 abbrev pub ends_pool : List ℕ → Bool
 ends_pool [] = false

@@ -17,6 +17,7 @@ use Rattle.vt_machine.specs.OperatorActions as operating
 use Rattle.vt_server.specs.message.CommandEffects.{fresh_set}
 use Rattle.vt_server.specs.message.MessageEffects.{Handled, handled}
 use Rattle.vt_node.specs.Messages.{message_to}
+use Rattle.vt_node.specs.declared.profile.Profile.{Profile}
 use Rattle.vt_server.specs.operator.ActionEffects.{action_on, fault_of, is_busy, message_frames, sending_after, ran}
 use Rattle.vt_server.specs.state.AddressStates.{AddressState, no_content, with_content, with_pool, heard_at, untimed_place}
 use Rattle.vt_server.specs.frame.SessionEffects.{Came, came, timeout_of, sending_timeout}
@@ -26,10 +27,11 @@ use Rattle.vt_node.specs.declared.bus.FrameMeaning.TheVariants.{Claim, Master, M
 use Rattle.vt_server.specs.declared.output.OperatorFault.{OperatorFault}
 use Rattle.vt_server.specs.declared.output.OperatorFault.TheVariants.{Busy}
 
--- The view of an address: the terminal's own address and whether it was lost, the holder of the address, its set, and the other
--- state of the address.
+-- The view of an address: the terminal's own address, its profile and whether it was lost, the holder of the address, its set,
+-- and the other state of the address.
 pub record AddressView : Type 0 where
   pub terminal : ℕ
+  pub profile : Profile
   pub lost : Bool
   pub holder : Option ℕ
   pub set : Option Set
@@ -104,7 +106,7 @@ with_reply address p done =
 
 -- A message counts only from the master of a set.
 abbrev pub after_message : ℕ → AddressView → Verdict → Option Set → Option (List ℕ) → AddressOutcome
-after_message address p verdict (Some set) (Some bytes) = with_reply address p (handled p.place.content verdict bytes)
+after_message address p verdict (Some set) (Some bytes) = with_reply address p (handled p.profile p.place.content verdict bytes)
 after_message address p verdict _ _ = unchanged p
 
 -- The end of a session is sent before the reply to its message.

@@ -3,7 +3,6 @@
 ghost use Rattle.std.specs.Prelude.{◌≡◌, IfOk, OnOk, OnErr};
 ghost use Rattle.vt_names.specs.Claims.{address_of};
 ghost use Rattle.vt_server.specs.frame.FrameContracts.{TakesClaim};
-ghost use Rattle.vt_node.specs.Messages as messages;
 ghost use Rattle.vt_server.specs.Outputs.{HasSpare};
 ghost use Rattle.vt_server.specs.state.AddressViews.{after_claim_heard, stays_under};
 ghost use Rattle.vt_server.specs.shown.Screens.{redraws};
@@ -18,7 +17,6 @@ use crate::output::{Output, send};
 use crate::terminal::Terminal;
 use vt_can::Frame;
 use vt_names::Name;
-use vt_node::claim_from;
 
 /// The holders, before a claim, of the addresses whose holder the claim may change.
 #[derive(Drop)]
@@ -47,7 +45,7 @@ impl Terminal {
         ensures capacity { HasSpare 1 outputs.new }
     {
         if former.is_defended {
-            send(outputs, self.own_claim());
+            send(outputs, self.claim());
         }
         self.rebind_former(former.address, former.address_holder);
         self.rebind(source, former.holder);
@@ -56,14 +54,6 @@ impl Terminal {
             self.bind(source);
         }
     }
-
-    /// The terminal's Address Claimed.
-    pub(crate) fn own_claim(&self) -> Frame
-        ensures { result ≡ messages.claim_from (state_of self.now).claims.own (state_of self.now).claims.name }
-    {
-        claim_from(self.node.own(), self.node.name())
-    }
-
     /// Records a claim, the only part that may need memory. The sets are unchanged.
     pub(crate) fn record(
         &mut self,

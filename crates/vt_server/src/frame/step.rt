@@ -195,7 +195,7 @@ impl Terminal {
         ensures tells { TellsChanges self.old self.new }
         ensures capacity { HasSpare 1 outputs.new }
     {
-        send(outputs, self.own_claim());
+        send(outputs, self.claim());
         let source = frame.id.source();
         if source == self.node.own() {
             return;

@@ -122,7 +122,7 @@ impl Terminal {
         ensures replies { IsReplyTo (state_of self.old) source bytes.now result (state_of self.new) }
         ensures tells { TellsChanges self.old self.new }
     {
-        if let Some(reply) = technical_reply(bytes) {
+        if let Some(reply) = technical_reply(&self.profile, bytes) {
             return Some(reply);
         }
         let command = Command::read(bytes)?;

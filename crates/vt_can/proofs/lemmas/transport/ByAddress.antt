@@ -2,7 +2,12 @@
 use Rattle.std.proofs.Common.{◌≡◌, ◌≢◌, ℕ, cond, Some, None, ap, sym, ◌∙◌, refl, eq-eqb, ne_eqb}
 use Rattle.std.specs.Ordering.{nat_cmp}
 use Rattle.std.specs.Cmp.{unsigned_tied, nat_cmp_total}
+use Rattle.vt_can.specs.transport.Sessions.{SessionTable}
 use Rattle.std.specs.FinMap as finite
+
+-- equal tables have equal sessions
+pub same_sessions : {T : Type 0} {a b : SessionTable T} → a ≡ b → a.sessions ≡ b.sessions
+same_sessions {T} is = ap (λ (t : SessionTable T). t.sessions) is
 
 module _ {X : Type 0} where
   pub get-put : (m : finite.FinMap nat_cmp X) (a : ℕ) (x : X) → finite.get (finite.insert m a x) a ≡ Some x

@@ -1,14 +1,14 @@
 -- The list of entries as a map from addresses.
-use Rattle.std.proofs.Common.{◌≡◌, ℕ, zero, suc, ◌+◌, ◌<◌, ◌≤◌, Bool, true, false, cond, eqb, List, [], ◌∷◌, length, get_or, set, Option, Some, None, refl, sym, ap, subst, ◌∙◌, arith, min, length-set, get_or-set_same, get_or-set_other, eq-eqb, ne_eqb, inl, inr, below_more, le-ltb, ◌-◌}
+use Rattle.std.proofs.Common.{◌≡◌, ◌++◌, IfSome, ◌≢◌, ◌==◌, ap₂, ℕ, zero, suc, ◌+◌, ◌<◌, ◌≤◌, Bool, true, false, cond, eqb, List, [], ◌∷◌, length, get_or, set, Option, Some, None, refl, sym, ap, subst, ◌∙◌, arith, min, length-set, get_or-set_same, get_or-set_other, eq-eqb, ne_eqb, inl, inr, below_more, le-ltb, ◌-◌}
 use Rattle.std.proofs.lemmas.Bool.{eqb-true, false≢true}
 use Rattle.std.proofs.Math.ListN.{get_or-eq_default}
 use Rattle.std.proofs.lemmas.Bool.{cases_lt}
-use Rattle.std.proofs.lemmas.List.{get_or_default}
+use Rattle.std.proofs.lemmas.List.{get_or_default, nil_from_length}
 use Rattle.std.specs.Ordering.{nat_cmp}
 use Rattle.std.specs.Cmp.{unsigned_tied, nat_cmp_total}
 use Rattle.std.specs.FinMap as finite
 use Rattle.vt_can.specs.declared.transport.sessions.Timed.{Timed}
-use Rattle.vt_can.specs.transport.Sessions.{ByAddress, map_of_places, ArePlaces, AreOfAddresses, is_overdue, IsFirstOverdue}
+use Rattle.vt_can.specs.transport.Sessions.{ByAddress, SessionTable, map_of_places, table_of_places, ArePlaces, AreOfAddresses, is_overdue, IsFirstOverdue}
 
 before_places : {X : Type 0} (n : ℕ) (places : List (Option X)) (q : ℕ) → q < n → finite.get (map_of_places n places) q ≡ None
 before_places n [] q h = finite.get-empty nat_cmp q
@@ -72,6 +72,20 @@ len-map_of_places n (Some x ∷ places) =
     subst (λ (k : ℕ). k ≤ suc (length places)) (sym (finite.len-insert nat_cmp_total (map_of_places (suc n) places) n x))
     (one_more places (map_of_places (suc n) places) n x (finite.contains_key (map_of_places (suc n) places) n) (len-map_of_places (suc n) places))
 
+both_none : {X : Type 0} (b : Bool) → ◌≡◌ {A = Option X} (cond b None None) None
+both_none true = refl
+both_none false = refl
+
+pub one_more_empty : {X : Type 0} (places : List (Option X)) (q : ℕ) → ((k : ℕ) → get_or places k None ≡ None) → get_or (places ++ None ∷ []) q None ≡ None
+one_more_empty [] zero empty = refl
+one_more_empty [] (suc q) empty = refl
+one_more_empty (x ∷ places) zero empty = empty 0
+one_more_empty (x ∷ places) (suc q) empty = one_more_empty places q (λ k. empty (suc k))
+
+pub for_some : {X : Type 0} (x : Option X) (P : Type 0) → P → IfSome x (λ _. P)
+for_some None P p = tt
+for_some (Some x) P p = p
+
 -- results of the calls of `Sessions`, over lists of entries
 
 pub empty_places : {X : Type 0} (places : List (Option X)) → length places ≡ 256 → ((q : ℕ) → q < 256 → get_or places q None ≡ None)
@@ -102,10 +116,17 @@ place_put places i a x map same h is =
     ∙ ap (λ (k : ℕ). finite.insert (map_of_places 0 places) k x) same ∙ ap (λ (m : finite.FinMap nat_cmp _). finite.insert m a x) is
 
 module _ {T : Type 0} where
+  pub ArePlaces-none : (earliest : ℕ) → ArePlaces {T = T} [] earliest
+  ArePlaces-none earliest = record {
+    few = omega arith;
+    all = λ some. absurd (some refl);
+    bound = λ q timed is. let absent : get_or {A = Option (Timed T)} [] q None ≡ None = get_or-eq_default {A = Option (Timed T)} [] None {n = q} (omega arith) in absurd cc;
+  }
+
   pub ArePlaces-empty : (places : List (Option (Timed T))) (earliest : ℕ) → length places ≡ 256 → ((q : ℕ) → get_or places q None ≡ None)
       → ArePlaces places earliest
   ArePlaces-empty places earliest all none =
-      record { all = all; bound = λ q timed is. let absent = none q in absurd cc }
+      record { few = omega (arith, all); all = λ _. all; bound = λ q timed is. let absent = none q in absurd cc }
 
   chosen_bound : (places : List (Option (Timed T))) (i q earliest : ℕ) (x : Option (Timed T)) (timed : Timed T) (b : Bool)
       → ((timed : Timed T) → x ≡ Some timed → earliest ≤ timed.last)
@@ -117,7 +138,8 @@ module _ {T : Type 0} where
   pub ArePlaces-set : (places : List (Option (Timed T))) (i earliest lower : ℕ) (x : Option (Timed T)) → ArePlaces places earliest → i < length places
       → lower ≤ earliest → ((timed : Timed T) → x ≡ Some timed → lower ≤ timed.last) → ArePlaces (set places i x) lower
   ArePlaces-set places i earliest lower x placed h less new = record {
-    all = length-set places i x ∙ placed.all;
+    few = (let same = length-set places i x in omega (arith, same, placed.few));
+    all = λ some. (let same = length-set places i x in same ∙ placed.all (λ none. some (same ∙ none)));
     bound = λ q timed is.
         chosen_bound places i q lower x timed (eqb q i) new (λ old. let bound = placed.bound q timed old in omega arith)
         (sym (get_or-placed places i q x h) ∙ is);
@@ -138,8 +160,8 @@ module _ {T : Type 0} where
   pub of_addresses : (places : List (Option (Timed T))) (earliest : ℕ) (map : ByAddress T) → ArePlaces places earliest → map_of_places 0 places ≡ map
       → AreOfAddresses map
   of_addresses places earliest map placed is = subst (λ (m : ByAddress T). AreOfAddresses m) is (record {
-    none_above = λ q above. get-map_of_places places q ∙ get_or-eq_default places None {n = q} (let all = placed.all in omega arith);
-    at_most = let all = placed.all in let few = len-map_of_places 0 places in omega arith;
+    none_above = λ q above. get-map_of_places places q ∙ get_or-eq_default places None {n = q} (let all = placed.few in omega arith);
+    at_most = let all = placed.few in let few = len-map_of_places 0 places in omega arith;
   })
 
   -- no session in the first n entries had its last frame before `earliest`
@@ -219,7 +241,72 @@ module _ {T : Type 0} where
   pub ArePlaces-bound : (places : List (Option (Timed T))) (earliest lower : ℕ) (map : ByAddress T) → ArePlaces places earliest
       → map_of_places 0 places ≡ map → ((q : ℕ) (timed : Timed T) → finite.get map q ≡ Some timed → lower ≤ timed.last) → ArePlaces places lower
   ArePlaces-bound places earliest lower map placed is bound = record {
+    few = placed.few;
     all = placed.all;
     bound = λ q timed there.
         bound q timed (ap (λ (m : ByAddress T). finite.get m q) (sym is) ∙ get-map_of_places places q ∙ there);
   }
+
+  -- ---- results of the calls of `Sessions`, as tables
+
+  pub map_in : (places : List (Option (Timed T))) (table : SessionTable T) → table_of_places places ≡ table → map_of_places 0 places ≡ table.sessions
+  map_in places table is = ap (λ (t : SessionTable T). t.sessions) is
+
+  with_map : (places later : List (Option (Timed T))) (table : SessionTable T) (map : ByAddress T) → table_of_places places ≡ table
+      → length later ≡ length places → map_of_places 0 later ≡ map → table_of_places later ≡ record table { sessions = map }
+  with_map places later table map is same made =
+      ap₂ (λ (m : ByAddress T) (b : Bool). record { sessions = m; allocated = b }) made
+      (ap (λ (n : ℕ). n == 256) same ∙ ap (λ (t : SessionTable T). t.allocated) is)
+
+  pub inside_table : (places : List (Option (Timed T))) (earliest i : ℕ) → ArePlaces places earliest → length places ≢ 0 → i < 256 → i < length places
+  inside_table places earliest i placed some small = let all = placed.all some in omega (arith, all)
+
+  pub table_read : (places : List (Option (Timed T))) (i a : ℕ) (x d : Option (Timed T)) (table : SessionTable T)
+      → x ≡ get_or places i d → i ≡ a → i < length places → table_of_places places ≡ table → x ≡ finite.get table.sessions a
+  table_read places i a x d table read same h is = place_read places i a x d table.sessions read same h (map_in places table is)
+
+  pub table_removed : (places : List (Option (Timed T))) (i a : ℕ) (x : Option (Timed T)) (table : SessionTable T)
+      → x ≡ None → i ≡ a → i < length places → table_of_places places ≡ table
+      → table_of_places (set places i x) ≡ record table { sessions = finite.remove table.sessions a }
+  table_removed places i a x table none same h is =
+      with_map places (set places i x) table _ is (length-set places i x) (place_removed places i a x table.sessions none same h (map_in places table is))
+
+  pub table_put : (places : List (Option (Timed T))) (i a : ℕ) (x : Timed T) (table : SessionTable T)
+      → i ≡ a → i < length places → table_of_places places ≡ table
+      → table_of_places (set places i (Some x)) ≡ record table { sessions = finite.insert table.sessions a x }
+  table_put places i a x table same h is =
+      with_map places (set places i (Some x)) table _ is (length-set places i (Some x)) (place_put places i a x table.sessions same h (map_in places table is))
+
+  -- a table without places has no sessions, and a removal changes nothing
+  no_places : (places : List (Option (Timed T))) (table : SessionTable T) → length places ≡ 0 → table_of_places places ≡ table → table.sessions ≡ finite.empty
+  no_places places table none is = sym (map_in places table is) ∙ ap (map_of_places 0) (nil_from_length places none)
+
+  pub read_none : (places : List (Option (Timed T))) (a : ℕ) (table : SessionTable T) → length places ≡ 0 → table_of_places places ≡ table
+      → None ≡ finite.get table.sessions a
+  read_none places a table none is =
+      sym (ap (λ (m : ByAddress T). finite.get m a) (no_places places table none is) ∙ finite.get-empty nat_cmp a)
+
+  removed_absent : (m : ByAddress T) (a : ℕ) → m ≡ finite.empty → m ≡ finite.remove m a
+  removed_absent m a is = finite.same_map nat_cmp_total finite.nat_cmp-IsAntisymmetric _ _ (λ q.
+      let absent : (k : ℕ) → finite.get m k ≡ None = λ k. ap (λ (n : ByAddress T). finite.get n k) is ∙ finite.get-empty nat_cmp k in
+      absent q ∙ sym (finite.get-remove nat_cmp_total m a q ∙ ap (λ (b : Bool). cond b None (finite.get m q)) (unsigned_tied q a)
+      ∙ ap (cond (eqb q a) None) (absent q) ∙ both_none (eqb q a)))
+
+  pub removed_none : (places : List (Option (Timed T))) (a : ℕ) (table : SessionTable T) → length places ≡ 0 → table_of_places places ≡ table
+      → table_of_places places ≡ record table { sessions = finite.remove table.sessions a }
+  removed_none places a table none is =
+      is ∙ ap (λ (m : ByAddress T). record table { sessions = m }) (removed_absent table.sessions a (no_places places table none is))
+
+  pub is_allocated : (places : List (Option (Timed T))) (earliest : ℕ) (table : SessionTable T) → ArePlaces places earliest → length places ≢ 0
+      → table_of_places places ≡ table → table.allocated ≡ true
+  is_allocated places earliest table placed some is = sym (ap (λ (t : SessionTable T). t.allocated) is) ∙ eq-eqb (length places) 256 (placed.all some)
+
+  pub has_places : (places : List (Option (Timed T))) (table : SessionTable T) → table.allocated ≡ true → table_of_places places ≡ table → length places ≡ 256
+  has_places places table allocated is = eqb-true (length places) 256 (ap (λ (t : SessionTable T). t.allocated) is ∙ allocated)
+
+  -- the table after its allocation
+  pub table_allocated : (before after : List (Option (Timed T))) (table : SessionTable T) → length before ≡ 0 → table_of_places before ≡ table
+      → length after ≡ 256 → ((q : ℕ) → get_or after q None ≡ None) → table_of_places after ≡ record table { allocated = true }
+  table_allocated before after table none is all empty =
+      ap₂ (λ (m : ByAddress T) (b : Bool). record { sessions = m; allocated = b })
+      (map_of_places-empty after empty ∙ sym (no_places before table none is)) (eq-eqb (length after) 256 all)

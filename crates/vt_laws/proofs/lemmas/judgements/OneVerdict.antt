@@ -13,6 +13,7 @@ use Rattle.vt_verify.specs.declared.refusal.Refusal.TheVariants as refusals
 use Rattle.vt_server.specs.Judgements.{IsJudged, ends_transfer}
 use Rattle.vt_server.specs.message.MessageEffects.{Handled, TRANSFER, END_OF_POOL, handled, transferred, end_handled, asked, ends_pool}
 use Rattle.vt_node.specs.Messages.{technical_reply}
+use Rattle.vt_node.specs.declared.profile.Profile.{Profile}
 use Rattle.vt_server.specs.state.AddressViews.{AddressView, Hears, with_reply, with_frames_first, after_message, outcome}
 use Rattle.vt_server.specs.state.AddressStates.{SetPool, heard_at}
 use Rattle.vt_server.specs.frame.SessionEffects.{came}
@@ -92,17 +93,17 @@ module _ (judging : Judging) where
   abbrev answered_by : SetPool → List ℕ → Handled
   answered_by content reply = record { content = content; reply = Some reply }
 
-  handled-one : (content : SetPool) (v w : Verdict) (bytes : List ℕ) → (ends_pool bytes ≡ true → IsVerdict content v) → (ends_pool bytes ≡ true → IsVerdict content w)
-      → handled content v bytes ≡ handled content w bytes
-  handled-one content v w [] right too = refl
-  handled-one content v w (function ∷ bytes) right too = cases (eqb function TRANSFER) (eqb function END_OF_POOL) right too
+  handled-one : (profile : Profile) (content : SetPool) (v w : Verdict) (bytes : List ℕ) → (ends_pool bytes ≡ true → IsVerdict content v) → (ends_pool bytes ≡ true → IsVerdict content w)
+      → handled profile content v bytes ≡ handled profile content w bytes
+  handled-one profile content v w [] right too = refl
+  handled-one profile content v w (function ∷ bytes) right too = cases (eqb function TRANSFER) (eqb function END_OF_POOL) right too
     where
       all : List ℕ
       all = function ∷ bytes
 
       cases : (b c : Bool) → (c ≡ true → IsVerdict content v) → (c ≡ true → IsVerdict content w)
-          → cond b (transferred content bytes) (cond c (end_handled content v) (asked content all (technical_reply all)))
-          ≡ cond b (transferred content bytes) (cond c (end_handled content w) (asked content all (technical_reply all)))
+          → cond b (transferred content bytes) (cond c (end_handled content v) (asked content all (technical_reply profile all)))
+          ≡ cond b (transferred content bytes) (cond c (end_handled content w) (asked content all (technical_reply profile all)))
       cases true c right too = refl
       cases false true right too =
           let alike = verdicts-alike content v w (right refl) (too refl) in
@@ -111,7 +112,7 @@ module _ (judging : Judging) where
 
   message-one : (a : ℕ) (p : AddressView) (v w : Verdict) (o : Option Set) (message : Option (List ℕ)) → (ends_transfer o message ≡ true → IsVerdict p.place.content v)
       → (ends_transfer o message ≡ true → IsVerdict p.place.content w) → after_message a p v o message ≡ after_message a p w o message
-  message-one a p v w (Some set) (Some bytes) right too = ap (with_reply a p) (handled-one p.place.content v w bytes right too)
+  message-one a p v w (Some set) (Some bytes) right too = ap (with_reply a p) (handled-one p.profile p.place.content v w bytes right too)
   message-one a p v w (Some set) None right too = refl
   message-one a p v w None message right too = refl
 

@@ -19,7 +19,6 @@ use Rattle.vt_server.specs.state.AddressViews.{AddressView, AddressOutcome, Act,
 use Rattle.vt_server.specs.state.AddressStates.{AddressState, heard_at}
 use Rattle.vt_node.specs.ReceiverResults.{taken}
 use Rattle.vt_server.specs.frame.SessionEffects.{came}
-use Rattle.vt_server.specs.Terminals.{sent_refusal}
 use Rattle.vt_server.specs.message.Verdicts.{Verdict}
 use Rattle.vt_node.specs.declared.bus.FrameMeaning.{FrameMeaning}
 use Rattle.vt_node.specs.declared.bus.FrameMeaning.TheVariants.{Claim, ClaimRequest, Master, Member, Message, Tp, Etp, Nothing}
@@ -31,7 +30,7 @@ message-replies : (a : ℕ) (p : AddressView) (verdict : Verdict) (o : Option Se
 message-replies a p verdict None bytes = tt
 message-replies a p verdict (Some set) None = tt
 message-replies a p verdict (Some set) (Some bytes) =
-    option-replies p.terminal a (message_to p.terminal a) (λ r. inl refl) (handled p.place.content verdict bytes).reply
+    option-replies p.terminal a (message_to p.terminal a) (λ r. inl refl) (handled p.profile p.place.content verdict bytes).reply
 
 came-replies : (now own a : ℕ) (place : AddressState) (n : FrameMeaning) (frame : Frame) → AreReplies own a (came now own a place n frame).frames
 came-replies now own a place (Claim name) frame = tt

@@ -54,7 +54,7 @@ frames-few a n after none few =
 message-few : (a : ℕ) (p : AddressView) (verdict : Verdict) (o : Option Set) (bytes : Option (List ℕ)) → length (after_message a p verdict o bytes).frames ≤ one_if bytes
 message-few a p verdict None bytes = omega arith
 message-few a p verdict (Some set) None = omega arith
-message-few a p verdict (Some set) (Some bytes) = option-few (message_to p.terminal a) (handled p.place.content verdict bytes).reply
+message-few a p verdict (Some set) (Some bytes) = option-few (message_to p.terminal a) (handled p.profile p.place.content verdict bytes).reply
 
 message-refused : (a : ℕ) (p : AddressView) (verdict : Verdict) (o : Option Set) (bytes : Option (List ℕ)) → (after_message a p verdict o bytes).refused ≡ None
 message-refused a p verdict None bytes = refl

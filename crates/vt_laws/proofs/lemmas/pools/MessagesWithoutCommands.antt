@@ -4,6 +4,7 @@ use Rattle.std.proofs.lemmas.Bool.{eqb-true}
 use Rattle.vt_can.specs.Assigned.{GET_FONTS, GET_HARDWARE, GET_MEMORY, GET_SOFT_KEYS}
 use Rattle.vt_commands.specs.Commands.{command_at}
 use Rattle.vt_node.specs.Messages.{technical_reply}
+use Rattle.vt_node.specs.declared.profile.Profile.{Profile}
 use Rattle.vt_server.specs.message.MessageEffects.{TRANSFER, END_OF_POOL}
 
 -- No command has this function byte.
@@ -23,8 +24,8 @@ pub end-none : (function : ℕ) (bytes : List ℕ) → eqb function END_OF_POOL 
 end-none function bytes is = named-none function END_OF_POOL bytes (λ bytes. refl) is
 
 -- A technical request is no command.
-pub asked-none : (function : ℕ) (bytes reply : List ℕ) → technical_reply (function ∷ bytes) ≡ Some reply → command_at (function ∷ bytes) ≡ None
-asked-none function bytes reply is = cases (eqb function GET_MEMORY) refl (eqb function GET_SOFT_KEYS) refl (eqb function GET_FONTS) refl (eqb function GET_HARDWARE) refl _ _ _ _ is
+pub asked-none : (profile : Profile) (function : ℕ) (bytes reply : List ℕ) → technical_reply profile (function ∷ bytes) ≡ Some reply → command_at (function ∷ bytes) ≡ None
+asked-none profile function bytes reply is = cases (eqb function GET_MEMORY) refl (eqb function GET_SOFT_KEYS) refl (eqb function GET_FONTS) refl (eqb function GET_HARDWARE) refl _ _ _ _ is
   where
     cases : (b : Bool) → eqb function GET_MEMORY ≡ b → (c : Bool) → eqb function GET_SOFT_KEYS ≡ c → (d : Bool) → eqb function GET_FONTS ≡ d → (e : Bool) → eqb function GET_HARDWARE ≡ e
         → (memory keys font hardware : Option (List ℕ)) → cond b memory (cond c keys (cond d font (cond e hardware None))) ≡ Some reply

@@ -21,6 +21,7 @@ use Rattle.vt_server.specs.message.CommandEffects.{after_done, deletes, state_af
 use Rattle.vt_server.specs.Judgements.{ends_transfer}
 use Rattle.vt_server.specs.message.MessageEffects.{handled, ends_pool, transferred, end_handled, asked, commanded, TRANSFER, END_OF_POOL}
 use Rattle.vt_node.specs.Messages.{technical_reply}
+use Rattle.vt_node.specs.declared.profile.Profile.{Profile}
 use Rattle.vt_server.specs.operator.ActionEffects.{action_on, is_busy, message_frames, sending_after, ran}
 use Rattle.vt_server.specs.state.AddressViews.{AddressView, Act, Hears, Rebinds, Preloads, TpExpires, EtpExpires, SendingExpires, FallsSilent, Operates, Raises, outcome, after_action, after_change, after_claim_heard, after_master, after_member, after_message, after_operator, raised_on, refused_by, stays_under, unchanged, with_place, without_set}
 use Rattle.vt_server.specs.state.AddressStates.{SetPool, heard_at, with_pool}
@@ -101,10 +102,10 @@ commanded-follows a content (Some command) = cases (deletes command)
 -- ---- messages
 
 -- The pool after a command or a technical request is the result of its runs.
-asked-follows : (a : ℕ) (content : SetPool) (function : ℕ) (bytes : List ℕ) (o : Option (List ℕ)) → technical_reply (function ∷ bytes) ≡ o
+asked-follows : (profile : Profile) (a : ℕ) (content : SetPool) (function : ℕ) (bytes : List ℕ) (o : Option (List ℕ)) → technical_reply profile (function ∷ bytes) ≡ o
     → Follows content.pool (runs_of_command a content.pool (command_at (function ∷ bytes))) (asked content (function ∷ bytes) o).content.pool
-asked-follows a content function bytes None is = commanded-follows a content (command_at (function ∷ bytes))
-asked-follows a content function bytes (Some reply) is = unheard a content.pool (function ∷ bytes) (asked-none function bytes reply is)
+asked-follows profile a content function bytes None is = commanded-follows a content (command_at (function ∷ bytes))
+asked-follows profile a content function bytes (Some reply) is = unheard a content.pool (function ∷ bytes) (asked-none profile function bytes reply is)
 
 -- The end of an upload that is not accepted leaves the pool unchanged.
 ended-follows : (a : ℕ) (content : SetPool) (verdict : Verdict) (bytes : List ℕ) → ((last : Option ObjectMap) → accepted_with true verdict last ≡ last)
@@ -114,11 +115,11 @@ ended-follows a content (Faulty fault) bytes accepts none = unheard a content.po
 ended-follows a content (Refuses refusal) bytes accepts none = unheard a content.pool bytes none
 
 -- The pool after a message that accepts no pool is the result of its runs.
-handled-follows : (a : ℕ) (content : SetPool) (verdict : Verdict) (bytes : List ℕ)
+handled-follows : (profile : Profile) (a : ℕ) (content : SetPool) (verdict : Verdict) (bytes : List ℕ)
     → ((last : Option ObjectMap) → accepted_with (ends_pool bytes) verdict last ≡ last)
-    → Follows content.pool (runs_of_command a content.pool (command_at bytes)) (handled content verdict bytes).content.pool
-handled-follows a content verdict [] accepts = no-command a content.pool
-handled-follows a content verdict (function ∷ bytes) accepts = cases (eqb function TRANSFER) refl (eqb function END_OF_POOL) refl accepts
+    → Follows content.pool (runs_of_command a content.pool (command_at bytes)) (handled profile content verdict bytes).content.pool
+handled-follows profile a content verdict [] accepts = no-command a content.pool
+handled-follows profile a content verdict (function ∷ bytes) accepts = cases (eqb function TRANSFER) refl (eqb function END_OF_POOL) refl accepts
   where
     all : List ℕ
     all = function ∷ bytes
@@ -126,16 +127,16 @@ handled-follows a content verdict (function ∷ bytes) accepts = cases (eqb func
     cases : (b : Bool) → eqb function TRANSFER ≡ b → (c : Bool) → eqb function END_OF_POOL ≡ c
         → ((last : Option ObjectMap) → accepted_with c verdict last ≡ last)
         → Follows content.pool (runs_of_command a content.pool (command_at all))
-        (cond b (transferred content bytes) (cond c (end_handled content verdict) (asked content all (technical_reply all)))).content.pool
+        (cond b (transferred content bytes) (cond c (end_handled content verdict) (asked content all (technical_reply profile all)))).content.pool
     cases true piece c ends accepts = unheard a content.pool all (piece-none function bytes piece)
     cases false piece true ends accepts = ended-follows a content verdict all accepts (end-none function bytes ends)
-    cases false piece false ends accepts = asked-follows a content function bytes (technical_reply all) refl
+    cases false piece false ends accepts = asked-follows profile a content function bytes (technical_reply profile all) refl
 
 -- The pool after a message to an address with or without a set is the result of its runs.
 message-follows : (a : ℕ) (p : AddressView) (verdict : Verdict) (o : Option Set) (message : Option (List ℕ))
     → ((last : Option ObjectMap) → accepted_with (ends_transfer o message) verdict last ≡ last)
     → Follows p.place.content.pool (runs_of_message a o p.place.content.pool message) (after_message a p verdict o message).place.content.pool
-message-follows a p verdict (Some set) (Some bytes) accepts = handled-follows a p.place.content verdict bytes accepts
+message-follows a p verdict (Some set) (Some bytes) accepts = handled-follows p.profile a p.place.content verdict bytes accepts
 message-follows a p verdict (Some set) None accepts = follows-same p.place.content.pool
 message-follows a p verdict None message accepts = follows-same p.place.content.pool
 

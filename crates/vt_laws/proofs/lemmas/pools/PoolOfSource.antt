@@ -11,6 +11,7 @@ use Rattle.vt_node.specs.declared.bus.FrameMeaning.{FrameMeaning}
 use Rattle.vt_node.specs.declared.bus.FrameMeaning.TheVariants.{Claim, ClaimRequest, Master, Member, Message, Tp, Etp, Nothing}
 use Rattle.vt_server.specs.Judgements.{ends_transfer}
 use Rattle.vt_server.specs.message.MessageEffects.{handled, END_OF_POOL}
+use Rattle.vt_node.specs.declared.profile.Profile.{Profile}
 use Rattle.vt_server.specs.state.AddressViews.{AddressView, Hears, outcome, after_message}
 use Rattle.vt_server.specs.state.AddressStates.{SetPool, heard_at}
 use Rattle.vt_server.specs.frame.SessionEffects.{came}
@@ -47,10 +48,10 @@ accepted-holds : (a : ℕ) (objects : ObjectMap) (pool : Option SetState) → Ho
 accepted-holds a objects None = refl
 accepted-holds a objects (Some state) = refl
 
-ended-holds : (a : ℕ) (content : SetPool) (objects : ObjectMap) (function : ℕ) (bytes : List ℕ) → eqb function END_OF_POOL ≡ true
-    → Holds (Some objects) (runs_of_command a content.pool (command_at (function ∷ bytes))) (handled content (Accepts objects) (function ∷ bytes)).content.pool
-ended-holds a content objects function bytes ends =
-    subst (λ (n : ℕ). Holds (Some objects) (runs_of_command a content.pool (command_at (n ∷ bytes))) (handled content (Accepts objects) (n ∷ bytes)).content.pool)
+ended-holds : (profile : Profile) (a : ℕ) (content : SetPool) (objects : ObjectMap) (function : ℕ) (bytes : List ℕ) → eqb function END_OF_POOL ≡ true
+    → Holds (Some objects) (runs_of_command a content.pool (command_at (function ∷ bytes))) (handled profile content (Accepts objects) (function ∷ bytes)).content.pool
+ended-holds profile a content objects function bytes ends =
+    subst (λ (n : ℕ). Holds (Some objects) (runs_of_command a content.pool (command_at (n ∷ bytes))) (handled profile content (Accepts objects) (n ∷ bytes)).content.pool)
     (sym (eqb-true function END_OF_POOL ends)) (accepted-holds a objects content.pool)
 
 message-holds : (a : ℕ) (p : AddressView) (objects : ObjectMap) (o : Option Set) (message : Option (List ℕ)) → ends_transfer o message ≡ true
@@ -58,7 +59,7 @@ message-holds : (a : ℕ) (p : AddressView) (objects : ObjectMap) (o : Option Se
 message-holds a p objects None message ends = absurd cc
 message-holds a p objects (Some set) None ends = absurd cc
 message-holds a p objects (Some set) (Some []) ends = absurd cc
-message-holds a p objects (Some set) (Some (function ∷ bytes)) ends = ended-holds a p.place.content objects function bytes ends
+message-holds a p objects (Some set) (Some (function ∷ bytes)) ends = ended-holds p.profile a p.place.content objects function bytes ends
 
 -- A frame with the message that ends an accepted upload.
 brought : (now a : ℕ) (p : AddressView) (n : FrameMeaning) (f : Frame) (objects : ObjectMap) → ends_transfer p.set (came now p.terminal a p.place n f).message ≡ true

@@ -38,6 +38,7 @@ use Rattle.vt_server.specs.Judgements.{IsJudged, ends_transfer}
 use Rattle.vt_server.specs.message.MessageEffects.{handled, ends_pool, transferred, end_handled, asked, commanded, TRANSFER, END_OF_POOL}
 use Rattle.vt_laws.specs.Headline.{IsPoolInForce, EndsInTime, accepted_at, accepted_by, accepted_with}
 use Rattle.vt_node.specs.Messages.{technical_reply}
+use Rattle.vt_node.specs.declared.profile.Profile.{Profile}
 use Rattle.vt_server.specs.operator.ActionEffects.{action_on, is_busy}
 use Rattle.vt_server.specs.state.AddressViews.{AddressView, Act, Hears, Rebinds, Preloads, TpExpires, EtpExpires, SendingExpires, FallsSilent, Operates, Raises, AddressOutcome, outcome, after_action, after_change, after_claim_heard, after_master, after_member, after_message, after_operator, raised_on, stays_under}
 use Rattle.vt_server.specs.state.AddressStates.{SetPool, heard_at}
@@ -177,25 +178,25 @@ module _ (laws : Laws) (last : Option ObjectMap) where
   asked-keeps content bytes None is = commanded-keeps content (command_at bytes) is
   asked-keeps content bytes (Some reply) is = is
 
-  handled-keeps : (content : SetPool) (verdict : Verdict) (bytes : List ℕ) → IsEach last content.pool → (ends_pool bytes ≡ true → IsVerdict content verdict)
-      → IsEach (accepted_with (ends_pool bytes) verdict last) (handled content verdict bytes).content.pool
-  handled-keeps content verdict [] is right = is
-  handled-keeps content verdict (function ∷ bytes) is right = cases (eqb function TRANSFER) refl (eqb function END_OF_POOL) refl right
+  handled-keeps : (profile : Profile) (content : SetPool) (verdict : Verdict) (bytes : List ℕ) → IsEach last content.pool → (ends_pool bytes ≡ true → IsVerdict content verdict)
+      → IsEach (accepted_with (ends_pool bytes) verdict last) (handled profile content verdict bytes).content.pool
+  handled-keeps profile content verdict [] is right = is
+  handled-keeps profile content verdict (function ∷ bytes) is right = cases (eqb function TRANSFER) refl (eqb function END_OF_POOL) refl right
     where
       all : List ℕ
       all = function ∷ bytes
 
       cases : (b : Bool) → eqb function TRANSFER ≡ b → (c : Bool) → eqb function END_OF_POOL ≡ c → (c ≡ true → IsVerdict content verdict)
-          → IsEach (accepted_with c verdict last) (cond b (transferred content bytes) (cond c (end_handled content verdict) (asked content all (technical_reply all)))).content.pool
+          → IsEach (accepted_with c verdict last) (cond b (transferred content bytes) (cond c (end_handled content verdict) (asked content all (technical_reply profile all)))).content.pool
       cases true first true second right = absurd (not-both function first second)
       cases true first false second right = is
       cases false first true second right = ended-keeps content verdict is (right refl)
-      cases false first false second right = asked-keeps content all (technical_reply all) is
+      cases false first false second right = asked-keeps content all (technical_reply profile all) is
 
   message-keeps : (a : ℕ) (p : AddressView) (verdict : Verdict) (o : Option Set) (message : Option (List ℕ)) → IsEach last p.place.content.pool
       → (ends_transfer o message ≡ true → IsVerdict p.place.content verdict)
       → IsEach (accepted_with (ends_transfer o message) verdict last) (after_message a p verdict o message).place.content.pool
-  message-keeps a p verdict (Some set) (Some bytes) is right = handled-keeps p.place.content verdict bytes is right
+  message-keeps a p verdict (Some set) (Some bytes) is right = handled-keeps p.profile p.place.content verdict bytes is right
   message-keeps a p verdict (Some set) None is right = is
   message-keeps a p verdict None message is right = is
 

@@ -87,7 +87,7 @@ module _ (p : AddressView) (x : AddressState) (alike : untimed_place p.place ≡
   message-timeless a verdict None bytes = kept-timeless p.set
   message-timeless a verdict (Some set) None = kept-timeless p.set
   message-timeless a verdict (Some set) (Some bytes) =
-      ap (λ (u : AddressState). with_reply a (record p { place = u }) (handled u.content verdict bytes)) alike
+      ap (λ (u : AddressState). with_reply a (record p { place = u }) (handled p.profile u.content verdict bytes)) alike
 
 -- ---- sessions
 

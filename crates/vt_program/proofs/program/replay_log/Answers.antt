@@ -6,4 +6,4 @@ pub replay_on-requires-clause-fresh : goal.replay_on-requires-clause-fresh
 replay_on-requires-clause-fresh g c =
     let options = c.args.options.now in
     let new = c.new-terminal.ensures in
-    new_is (state_of c.new-terminal.result) options.own options.name new.claims new.sets new.places new.selected new.shown new.lost new.now
+    new_is (state_of c.new-terminal.result) options.own options.name new.claims new.profile new.sets new.places new.selected new.shown new.lost new.now

@@ -10,6 +10,7 @@ use Rattle.vt_server.specs.Judgements.{ends_transfer}
 use Rattle.vt_server.specs.message.MessageEffects.{Handled, handled, asked, commanded, transferred, end_handled, TRANSFER, END_OF_POOL}
 use Rattle.vt_server.specs.frame.FrameContracts.{HandlesMessage, IsReplyTo, BeginsWithByte, is_other, with_content_at, IsJudgedAt}
 use Rattle.vt_node.specs.Messages.{message_to, technical_reply}
+use Rattle.vt_node.specs.declared.profile.Profile.{Profile}
 use Rattle.vt_server.specs.state.AddressViews.{AddressOutcome, unchanged, with_reply, after_message}
 use Rattle.vt_server.specs.state.AddressStates.{SetPool, AddressState, with_content}
 use Rattle.vt_server.specs.message.CommandReplies.{command_reply}
@@ -25,8 +26,8 @@ pub same-content : (a : ℕ) (s : State) → with_content_at a (s.places a).cont
 same-content a s = ap (λ (p : ℕ → AddressState). record s { places = p }) (places-same a s.places (s.places a) refl)
 
 module _ (s : State) (a : ℕ) (bytes : List ℕ) where
-  module _ (none : None ≡ technical_reply bytes) where
-    asked-is : asked (s.places a).content bytes (technical_reply bytes) ≡ commanded (s.places a).content (command_at bytes)
+  module _ (none : None ≡ technical_reply s.profile bytes) where
+    asked-is : asked (s.places a).content bytes (technical_reply s.profile bytes) ≡ commanded (s.places a).content (command_at bytes)
     asked-is = ap (asked (s.places a).content bytes) (sym none)
 
     pub is-ignored : None ≡ command_at bytes → IsReplyTo s a bytes None s
@@ -71,11 +72,11 @@ module _ (s : State) (a : ℕ) (bytes : List ℕ) where
 
   -- With a set a message is handled.
   module _ (some : true ≡ is_some (set_at a s.sets)) where
-    heard : (verdict : Verdict) (o : Option Set) → true ≡ is_some o → answer_by verdict o ≡ with_reply a (part a s) (handled (s.places a).content verdict bytes)
+    heard : (verdict : Verdict) (o : Option Set) → true ≡ is_some o → answer_by verdict o ≡ with_reply a (part a s) (handled s.profile (s.places a).content verdict bytes)
     heard verdict None e = absurd (true≢false e)
     heard verdict (Some set) e = refl
 
-    module _ (verdict : Verdict) (done : Handled) (is : handled (s.places a).content verdict bytes ≡ done) where
+    module _ (verdict : Verdict) (done : Handled) (is : handled s.profile (s.places a).content verdict bytes ≡ done) where
       outcome-is : answer_by verdict (set_at a s.sets) ≡ with_reply a (part a s) done
       outcome-is = heard verdict (set_at a s.sets) some ∙ ap (with_reply a (part a s)) is
 
@@ -91,23 +92,23 @@ module _ (s : State) (a : ℕ) (bytes : List ℕ) where
 
 -- ---- the functions of messages
 
-pub other-handled : (content : SetPool) (verdict : Verdict) (bytes : List ℕ) → is_other bytes → handled content verdict bytes ≡ asked content bytes (technical_reply bytes)
-other-handled content verdict [] other = refl
-other-handled content verdict (byte ∷ bytes) other =
-    ap (λ b. cond b (transferred content bytes) (cond (eqb byte END_OF_POOL) (end_handled content verdict) (asked content (byte ∷ bytes) (technical_reply (byte ∷ bytes)))))
+pub other-handled : (profile : Profile) (content : SetPool) (verdict : Verdict) (bytes : List ℕ) → is_other bytes → handled profile content verdict bytes ≡ asked content bytes (technical_reply profile bytes)
+other-handled profile content verdict [] other = refl
+other-handled profile content verdict (byte ∷ bytes) other =
+    ap (λ b. cond b (transferred content bytes) (cond (eqb byte END_OF_POOL) (end_handled content verdict) (asked content (byte ∷ bytes) (technical_reply profile (byte ∷ bytes)))))
     (ne_eqb byte TRANSFER other.0)
-    ∙ ap (λ b. cond b (end_handled content verdict) (asked content (byte ∷ bytes) (technical_reply (byte ∷ bytes)))) (ne_eqb byte END_OF_POOL other.1)
+    ∙ ap (λ b. cond b (end_handled content verdict) (asked content (byte ∷ bytes) (technical_reply profile (byte ∷ bytes)))) (ne_eqb byte END_OF_POOL other.1)
 
-pub piece-handled : (content : SetPool) (verdict : Verdict) (bytes : List ℕ) → BeginsWithByte TRANSFER bytes → handled content verdict bytes ≡ transferred content (drop 1 bytes)
-piece-handled content verdict [] begins = absurd begins
-piece-handled content verdict (byte ∷ bytes) begins =
-    ap (λ b. cond b (transferred content bytes) (cond (eqb byte END_OF_POOL) (end_handled content verdict) (asked content (byte ∷ bytes) (technical_reply (byte ∷ bytes)))))
+pub piece-handled : (profile : Profile) (content : SetPool) (verdict : Verdict) (bytes : List ℕ) → BeginsWithByte TRANSFER bytes → handled profile content verdict bytes ≡ transferred content (drop 1 bytes)
+piece-handled profile content verdict [] begins = absurd begins
+piece-handled profile content verdict (byte ∷ bytes) begins =
+    ap (λ b. cond b (transferred content bytes) (cond (eqb byte END_OF_POOL) (end_handled content verdict) (asked content (byte ∷ bytes) (technical_reply profile (byte ∷ bytes)))))
     (eq-eqb byte TRANSFER begins)
 
-pub end-handled : (content : SetPool) (verdict : Verdict) (bytes : List ℕ) → BeginsWithByte END_OF_POOL bytes → handled content verdict bytes ≡ end_handled content verdict
-end-handled content verdict [] begins = absurd begins
-end-handled content verdict (byte ∷ bytes) begins =
-    ap (λ (n : ℕ). handled content verdict (n ∷ bytes)) begins
+pub end-handled : (profile : Profile) (content : SetPool) (verdict : Verdict) (bytes : List ℕ) → BeginsWithByte END_OF_POOL bytes → handled profile content verdict bytes ≡ end_handled content verdict
+end-handled profile content verdict [] begins = absurd begins
+end-handled profile content verdict (byte ∷ bytes) begins =
+    ap (λ (n : ℕ). handled profile content verdict (n ∷ bytes)) begins
 
 -- A piece of a pool does not end an upload.
 pub piece-ends_none : (o : Option Set) (bytes : List ℕ) → BeginsWithByte TRANSFER bytes → ends_transfer o (Some bytes) ≡ true → (P : Type 0) → P

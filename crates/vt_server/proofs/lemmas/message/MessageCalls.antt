@@ -54,21 +54,21 @@ contents-state t contents a x is =
 module _ (s : State) (a : ℕ) (bytes : List ℕ) (some : true ≡ is_some (set_at a s.sets)) where
   pub piece-answered : (t : State) → BeginsWithByte TRANSFER bytes → t ≡ with_content_at a (with_piece (s.places a).content (drop 1 bytes)) s → HandlesMessage s a bytes None t
   piece-answered t begins left =
-      answers-by s a bytes some any_verdict (transferred (s.places a).content (drop 1 bytes)) (piece-handled (s.places a).content any_verdict bytes begins) t None
+      answers-by s a bytes some any_verdict (transferred (s.places a).content (drop 1 bytes)) (piece-handled s.profile (s.places a).content any_verdict bytes begins) t None
       (λ ends. piece-ends_none (set_at a s.sets) bytes begins ends _) left refl
 
   pub end-answered : (t : State) (judgement : Judgement) (reply : List ℕ) (new : ℕ → SetPool) → BeginsWithByte END_OF_POOL bytes
       → (is : IsEnded (λ q. (s.places q).content) a judgement reply new) → t ≡ with_content_at a (after_verdict (s.places a).content is.verdict) s
       → HandlesMessage s a bytes (Some (message_to s.claims.own a reply)) t
   end-answered t judgement reply new begins is left =
-      answers-by s a bytes some is.verdict (end_handled (s.places a).content is.verdict) (end-handled (s.places a).content is.verdict bytes begins) t
+      answers-by s a bytes some is.verdict (end_handled (s.places a).content is.verdict) (end-handled s.profile (s.places a).content is.verdict bytes begins) t
       (Some (message_to s.claims.own a reply)) (λ _. is.right) left
       (ap (λ (r : List ℕ). option_to_list (Some (message_to s.claims.own a r))) is.reply_is)
 
   pub other-answered : (t : State) (reply : Option (List ℕ)) → is_other bytes → IsReplyTo s a bytes reply t
       → HandlesMessage s a bytes (option_map (message_to s.claims.own a) reply) t
   other-answered t reply other is =
-      answers-by s a bytes some any_verdict (asked (s.places a).content bytes (technical_reply bytes)) (other-handled (s.places a).content any_verdict bytes other) t
+      answers-by s a bytes some any_verdict (asked (s.places a).content bytes (technical_reply s.profile bytes)) (other-handled s.profile (s.places a).content any_verdict bytes other) t
       (option_map (message_to s.claims.own a) reply) (λ ends. other-ends_none (set_at a s.sets) bytes other ends _) is.state
       (ap (λ (r : Option (List ℕ)). option_to_list (option_map (message_to s.claims.own a) r)) is.reply_is)
 

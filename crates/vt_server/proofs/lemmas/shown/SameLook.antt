@@ -2,7 +2,7 @@
 use Rattle.std.proofs.Common.{◌≡◌, ℕ, Bool, true, false, cond, List, [], ◌∷◌, Option, Some, None, Result, Ok, Err, refl, sym, ap, subst, ◌∙◌}
 use Rattle.std.specs.Option.{option_map}
 use Rattle.std.specs.FinMap as finite
-use Rattle.vt_can.specs.lines.Actions.{ActionValue, Press, Release}
+use Rattle.vt_can.specs.lines.Actions.{Press, Release}
 use Rattle.vt_commands.specs.declared.command.Command.{Command}
 use Rattle.vt_commands.specs.declared.event.Event.TheVariants as events
 use Rattle.vt_commands.specs.declared.raising.Raised.{Raised}
@@ -11,7 +11,7 @@ use Rattle.vt_stores.specs.Stores.{ObjectMap}
 use Rattle.vt_effects.specs.Effects.{effect}
 use Rattle.vt_effects.specs.Looks.{look, HaveSameLook}
 use Rattle.vt_effects.specs.Soundness.{shape_in}
-use Rattle.vt_macros.specs.Machines.{End, store_of, events_of, run, joined_all, total_budget}
+use Rattle.vt_macros.specs.Machines.{End, store_of, events_of, total_budget}
 use Rattle.vt_macros.specs.QuietMacros.{KeepsLook, RunsKeepLook}
 use Rattle.vt_machine.specs.declared.live.HeldKey.{HeldKey}
 use Rattle.vt_machine.specs.declared.operator.Acted.{Acted}
@@ -20,7 +20,7 @@ use Rattle.vt_machine.specs.declared.operator.OperatorRefusal.TheVariants as ref
 use Rattle.vt_machine.specs.SetStates.{SetState, active_in}
 use Rattle.vt_machine.specs.OperatorActions.{ActionResult, Refused, Acts, ComesTo, holding, held, press, press_with, key_message, or_none, release, release_of}
 use Rattle.vt_server.specs.message.CommandEffects.{after_done, content_after, deletes, objects_after, state_after}
-use Rattle.vt_server.specs.operator.ActionContracts.{ActionKeepsLook, Comes, PerformsAt}
+use Rattle.vt_server.specs.operator.ActionContracts.{ActionKeepsLook, Comes}
 use Rattle.vt_server.specs.shown.Screens.{KeepsPoolLook}
 use Rattle.vt_server.specs.state.AddressStates.{SetPool, no_content}
 use Rattle.vt_server.proofs.lemmas.shown.SameScreen.{looks-some}

@@ -12,7 +12,7 @@ returns-then-eq-clause-ok c =
 pub invariant_of-self-2 : goal.invariant_of-self-2
 invariant_of-self-2 c =
     rw c.in_default.ensures.ok
-    (goes c.self.inside.holders.names c.enter.new.self.names c.leave-2.new.self.names c.self.inside.addresses.entries c.args.name
+    (goes c.self.inside.holders.names.items c.enter.new.self.names.items c.leave-2.new.self.names.items c.self.inside.addresses.entries c.args.name
     c.address_of-former.result c.claimed_address-claimed.result c.self.invariant (search rules)
     (λ is. true≢false (sym (option_same c.address_of-former.result) ∙ ap (λ o. option_eq eqb o c.address_of-former.result) (sym is) ∙ sym c.if-eq.ensures))
     c.in_ok-enter.ensures.ok c.leave-2.ensures)

@@ -1,5 +1,5 @@
-use Rattle.std.proofs.Common.{◌≡◌, ℕ, [], ◌∷◌, Some, sym, ap, subst}
-use Rattle.vt_can.specs.lines.Actions.{ActionValue, action_value}
+use Rattle.std.proofs.Common.{ℕ, [], ◌∷◌, Some, sym, ap, subst}
+use Rattle.vt_can.specs.lines.Actions.{action_value}
 use Rattle.vt_commands.specs.declared.event.Event.TheVariants as events
 use Rattle.vt_commands.specs.Events.{raise}
 use Rattle.vt_macros.specs.QuietMacros.{RunsKeepLook}

@@ -23,7 +23,7 @@ returns-then-source-own-clause-takes c =
     takes-echo s frame notices.ClaimRequest request-unclaimed any_verdict c.args.outputs.now.items c.send.new.outputs.items
     (sym c.source-source.ensures ∙ c.if-source-own.true ∙ c.own.ensures)
     (λ ends. none-ends (part a s).set ends (IsVerdict (s.places a).content any_verdict))
-    (c.send.ensures.items ∙ ap (λ (f : Frame). c.args.outputs.now.items ++ declared.Frame f ∷ []) c.own_claim.ensures)
+    (c.send.ensures.items ∙ ap (λ (f : Frame). c.args.outputs.now.items ++ declared.Frame f ∷ []) c.claim.ensures)
 
 pub returns-clause-takes : goal.returns-clause-takes
 returns-clause-takes c =
@@ -35,7 +35,7 @@ returns-clause-takes c =
     let before = c.args.outputs.now.items in
     let after = c.send.new.outputs.items in
     let sent : after ≡ before ++ outputs_of (defence s a notices.ClaimRequest) =
-    c.send.ensures.items ∙ ap (λ (f : Frame). before ++ declared.Frame f ∷ []) c.own_claim.ensures in
+    c.send.ensures.items ∙ ap (λ (f : Frame). before ++ declared.Frame f ∷ []) c.claim.ensures in
     subst (λ (x : State). TakesFrame s notices.ClaimRequest frame x before after)
     (sym (heard-state t c.note_frame.new.self c.source-source.result a c.source-source.ensures c.note_frame.ensures.sets c.note_frame.ensures.heard))
     (takes-heard s frame notices.ClaimRequest request-unclaimed heard before after after

@@ -26,7 +26,7 @@ returns-then-source-own-clause-takes c s name frame verdict from former defended
           ∙ ap (λ (places : ℕ → AddressState). record v { places = places }) (heard-placed (content_of t.contents) t.node (heard_of t.registry.watch) c.args.source (Some t.time)))
           c.bind.ensures,
       elim c.if-former.branch [
-        | then-former w ↦ ap (λ outputs. outputs.items) w.outputs-is ∙ sent-defence s c.args.source name frame verdict f.is_defended defended (state_of c.args.self.now) w.own_claim.result c.args.outputs.now.items w.send.new.outputs.items is w.own_claim.ensures w.if-former.true w.send.ensures.items
+        | then-former w ↦ ap (λ outputs. outputs.items) w.outputs-is ∙ sent-defence s c.args.source name frame verdict f.is_defended defended (state_of c.args.self.now) w.claim.result c.args.outputs.now.items w.send.new.outputs.items is w.claim.ensures w.if-former.true w.send.ensures.items
         | else-former w ↦ ap (λ outputs. outputs.items) w.outputs-is ∙ sent-nothing s c.args.source name frame verdict f.is_defended defended c.args.outputs.now.items w.if-former.false
       ],
     )
@@ -40,7 +40,7 @@ returns-else-source-own-clause-takes c s name frame verdict from former defended
     is former.address former.address_holder former.holder c.rebind_former.ensures c.rebind.ensures in (
       acted-own s v c.args.source name frame verdict changed (c.if-source-own.false ∙ c.own.ensures),
       elim c.if-former.branch [
-        | then-former w ↦ ap (λ outputs. outputs.items) w.outputs-is ∙ sent-defence s c.args.source name frame verdict f.is_defended defended (state_of c.args.self.now) w.own_claim.result c.args.outputs.now.items w.send.new.outputs.items is w.own_claim.ensures w.if-former.true w.send.ensures.items
+        | then-former w ↦ ap (λ outputs. outputs.items) w.outputs-is ∙ sent-defence s c.args.source name frame verdict f.is_defended defended (state_of c.args.self.now) w.claim.result c.args.outputs.now.items w.send.new.outputs.items is w.claim.ensures w.if-former.true w.send.ensures.items
         | else-former w ↦ ap (λ outputs. outputs.items) w.outputs-is ∙ sent-nothing s c.args.source name frame verdict f.is_defended defended c.args.outputs.now.items w.if-former.false
       ],
     )

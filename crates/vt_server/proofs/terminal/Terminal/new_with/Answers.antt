@@ -1,6 +1,6 @@
 use Rattle.std.proofs.Common.{nat_cmp, ap, ◌∙◌}
 use Rattle.std.specs.FinMap as finite
-use Rattle.vt_server.proofs.terminal.Terminal.new.Goals as goal
+use Rattle.vt_server.proofs.terminal.Terminal.new_with.Goals as goal
 
 pub returns-clause-places : goal.returns-clause-places
 returns-clause-places c address = λ i. record {

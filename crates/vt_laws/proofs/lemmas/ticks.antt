@@ -1,0 +1,4 @@
+-- Ticks, and what each step keeps.
+pub mod Echoes
+pub mod IdleTicks
+pub mod Profiles
