@@ -1,0 +1,2 @@
+-- Definitions cited by the contracts of vt_judge.
+pub mod Judgements

@@ -1,0 +1,49 @@
+//! The judgement of an object pool from its bytes alone: its objects if it meets all rules, or else the first fault or the first
+//! refusal (ISO 11783-6; docs/PROFILE.md, "Pools and faults", "Verification of a pool").
+#![tactic(auto)]
+
+ghost use Rattle.std.specs.Prelude.{◌≡◌, IfOk, IfErr};
+ghost use Rattle.vt_judge.specs.Judgements.{IsAcceptedPool, IsNotAccepted, wants_memory};
+
+use std::alloc::Global;
+use thiserror::Error;
+use vt_pool::{PoolFault, read_pool};
+use vt_verify::{Accepted, Refusal, verify_owned};
+
+/// Why bytes are not an accepted pool.
+#[derive(Debug, Drop, Error)]
+pub enum NotAccepted {
+    /// A record is faulty.
+    #[error(transparent)]
+    Fault(PoolFault),
+    /// The objects break a rule.
+    #[error(transparent)]
+    Refused(Refusal),
+}
+
+/// Reads a pool and verifies it. Keeps nothing after an error.
+pub fn judge(alloc: Global, bytes: &[u8]) -> Result<Accepted, NotAccepted>
+    ensures accepted { IfOk result (IsAcceptedPool bytes.now) }
+    ensures not_accepted { IfErr result (IsNotAccepted bytes.now) }
+{
+    match read_pool(alloc, bytes) {
+        Ok(pool) => match verify_owned(alloc, pool) {
+            Ok(accepted) => Ok(accepted),
+            Err(refusal) => Err(NotAccepted::Refused(refusal)),
+        },
+        Err(fault) => Err(NotAccepted::Fault(fault)),
+    }
+}
+
+impl NotAccepted {
+    /// Whether memory was refused. Then the bytes may be an accepted pool all the same.
+    pub fn wants_memory(&self) -> bool
+        ensures { result ≡ wants_memory self.now }
+    {
+        match self {
+            NotAccepted::Fault(PoolFault::OutOfMemory { .. }) => true,
+            NotAccepted::Refused(Refusal::OutOfMemory) => true,
+            _ => false,
+        }
+    }
+}
