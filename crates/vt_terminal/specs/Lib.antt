@@ -1,0 +1,7 @@
+-- Definitions cited by the contracts of vt_terminal.
+pub mod Calls
+pub mod Inputs
+pub mod Outputs
+pub mod Preloads
+pub mod Sessions
+pub mod Statuses

@@ -1,0 +1,246 @@
+//! The terminal for callers in C: it lies in the caller's memory and is reached by a pointer.
+//!
+//! Each function but `vt_size`, `vt_init` and `vt_done` lends the session behind the pointer to one safe function. docs/EMBEDDING.md
+//! explains the calls, and include/vt_terminal.h declares them for C.
+#![tactic(auto)]
+
+ghost use Rattle.std.specs.Prelude.{◌≡◌};
+ghost use Rattle.std.specs.Borrow.{full_share, sem};
+ghost use Rattle.std.specs.Ptr.{lies_at, room_at};
+ghost use Rattle.vt_terminal.specs.contracts.session.Session.{the_row};
+ghost use Rattle.vt_terminal.specs.Calls.{Acts, Claims, Draws, Hears, Nexts, TellsCount, TellsData, TellsDeadline, TellsId, TellsLost, TellsRedraws, TellsShown, SendsStatus, TellsWord, Texts, Ticks};
+ghost use Rattle.vt_terminal.specs.Preloads.{Preloads};
+ghost use Rattle.vt_terminal.specs.Sessions.{Begins};
+
+mod outputs;
+mod preload;
+mod screen;
+mod session;
+mod status;
+
+use session::Session;
+use std::alloc::Global;
+
+/// A terminal behind a pointer.
+#[repr(C)]
+pub struct VtTerminal {
+    opaque: u8,
+}
+
+/// The number of bytes of a terminal. It lies at a multiple of 16.
+#[unsafe(no_mangle)]
+pub extern "C" fn vt_size() -> usize {
+    std::mem::size_of::<Session>()
+}
+
+/// Makes a terminal in the caller's memory, with an address, a NAME and a profile. With an own address above 253 it takes no input.
+/// `keys` has the width, the height, and the numbers of virtual and physical soft keys, the first lowest, a byte each; `fonts` the
+/// small and the large fonts and the styles; `hardware` the boot time, the graphic type and the hardware; and `size` the width and the
+/// height of a mask, 16 bits each. The highest byte of `fonts` and of `hardware` does not count.
+#[unsafe(no_mangle)]
+pub unsafe extern "C" fn vt_init(
+    alloc: Global,
+    at: *mut VtTerminal,
+    own: u32,
+    name: u64,
+    memory: u32,
+    keys: u32,
+    fonts: u32,
+    hardware: u32,
+    size: u32,
+)
+    requires* { sem 𝓛 (room_at the_row at) }
+    ensures* { ∃ₛ (λ (after : Session). sem 𝓛 (lies_at the_row full_share at after) ∗ ⌜ Begins own name memory keys fonts hardware size after ⌝) }
+{
+    unsafe {
+        (at as *mut Session).write(session::begin(
+            alloc, own, name, memory, keys, fonts, hardware, size,
+        ))
+    }
+}
+
+/// Ends a terminal. Its place is free memory of the caller again.
+#[unsafe(no_mangle)]
+pub unsafe extern "C" fn vt_done(at: *mut VtTerminal)
+    ghost before: { Session }
+    requires* { sem 𝓛 (lies_at the_row full_share at before) }
+    ensures* { sem 𝓛 (room_at the_row at) }
+{
+    session::discard(unsafe { (at as *mut Session).read() })
+}
+
+/// Hears a frame of the bus at a time in microseconds, and returns a status. `bits` has the data bytes, the first lowest.
+#[unsafe(no_mangle)]
+pub unsafe extern "C" fn vt_hear(
+    at: *mut VtTerminal,
+    time: u64,
+    id: u32,
+    count: u32,
+    bits: u64,
+) -> u32
+    ghost before: { Session }
+    requires* { sem 𝓛 (lies_at the_row full_share at before) }
+    ensures* { ∃ₛ (λ (after : Session). sem 𝓛 (lies_at the_row full_share at after) ∗ ⌜ Hears before time id count bits after result ⌝) }
+{
+    session::hear(unsafe { &mut *(at as *mut Session) }, time, id, count, bits)
+}
+
+/// Moves the time on without a frame, and returns a status.
+#[unsafe(no_mangle)]
+pub unsafe extern "C" fn vt_tick(at: *mut VtTerminal, time: u64) -> u32
+    ghost before: { Session }
+    requires* { sem 𝓛 (lies_at the_row full_share at before) }
+    ensures* { ∃ₛ (λ (after : Session). sem 𝓛 (lies_at the_row full_share at after) ∗ ⌜ Ticks before time after result ⌝) }
+{
+    session::tick(unsafe { &mut *(at as *mut Session) }, time)
+}
+
+/// Does an action of the operator: 0 press, 1 release, 2 select, 3 number, 4 the set at an address. Returns a status.
+#[unsafe(no_mangle)]
+pub unsafe extern "C" fn vt_act(at: *mut VtTerminal, kind: u32, id: u32, number: u32) -> u32
+    ghost before: { Session }
+    requires* { sem 𝓛 (lies_at the_row full_share at before) }
+    ensures* { ∃ₛ (λ (after : Session). sem 𝓛 (lies_at the_row full_share at after) ∗ ⌜ Acts before kind id number after result ⌝) }
+{
+    session::act(unsafe { &mut *(at as *mut Session) }, kind, id, number)
+}
+
+/// Makes the address claim the one output that waits, as a host sends it at its start. Returns a status of calls.
+#[unsafe(no_mangle)]
+pub unsafe extern "C" fn vt_claim(at: *mut VtTerminal) -> u32
+    ghost before: { Session }
+    requires* { sem 𝓛 (lies_at the_row full_share at before) }
+    ensures* { ∃ₛ (λ (after : Session). sem 𝓛 (lies_at the_row full_share at after) ∗ ⌜ Claims before after result ⌝) }
+{
+    outputs::claim(unsafe { &mut *(at as *mut Session) })
+}
+
+/// Makes the status message the one output that waits, as a host sends it each second. Returns a status of calls.
+#[unsafe(no_mangle)]
+pub unsafe extern "C" fn vt_status(at: *mut VtTerminal) -> u32
+    ghost before: { Session }
+    requires* { sem 𝓛 (lies_at the_row full_share at before) }
+    ensures* { ∃ₛ (λ (after : Session). sem 𝓛 (lies_at the_row full_share at after) ∗ ⌜ SendsStatus before after result ⌝) }
+{
+    outputs::status(unsafe { &mut *(at as *mut Session) })
+}
+
+/// Takes the next output: 0 if none waits, 1 for a frame, 2 for a refusal to the operator.
+#[unsafe(no_mangle)]
+pub unsafe extern "C" fn vt_next(at: *mut VtTerminal) -> u32
+    ghost before: { Session }
+    requires* { sem 𝓛 (lies_at the_row full_share at before) }
+    ensures* { ∃ₛ (λ (after : Session). sem 𝓛 (lies_at the_row full_share at after) ∗ ⌜ Nexts before after result ⌝) }
+{
+    outputs::next(unsafe { &mut *(at as *mut Session) })
+}
+
+/// The identifier of the frame taken last, or the number of the refusal.
+#[unsafe(no_mangle)]
+pub unsafe extern "C" fn vt_output_id(at: *mut VtTerminal) -> u32
+    ghost before: { Session }
+    requires* { sem 𝓛 (lies_at the_row full_share at before) }
+    ensures* { ∃ₛ (λ (after : Session). sem 𝓛 (lies_at the_row full_share at after) ∗ ⌜ TellsId before after result ⌝) }
+{
+    outputs::output_id(unsafe { &mut *(at as *mut Session) })
+}
+
+/// The number of data bytes of the frame taken last.
+#[unsafe(no_mangle)]
+pub unsafe extern "C" fn vt_output_count(at: *mut VtTerminal) -> u32
+    ghost before: { Session }
+    requires* { sem 𝓛 (lies_at the_row full_share at before) }
+    ensures* { ∃ₛ (λ (after : Session). sem 𝓛 (lies_at the_row full_share at after) ∗ ⌜ TellsCount before after result ⌝) }
+{
+    outputs::output_count(unsafe { &mut *(at as *mut Session) })
+}
+
+/// The data bytes of the frame taken last, the first lowest.
+#[unsafe(no_mangle)]
+pub unsafe extern "C" fn vt_output_data(at: *mut VtTerminal) -> u64
+    ghost before: { Session }
+    requires* { sem 𝓛 (lies_at the_row full_share at before) }
+    ensures* { ∃ₛ (λ (after : Session). sem 𝓛 (lies_at the_row full_share at after) ∗ ⌜ TellsData before after result ⌝) }
+{
+    outputs::output_data(unsafe { &mut *(at as *mut Session) })
+}
+
+/// 1 if the screen may differ from the one before the last input, or else 0.
+#[unsafe(no_mangle)]
+pub unsafe extern "C" fn vt_redraws(at: *mut VtTerminal) -> u32
+    ghost before: { Session }
+    requires* { sem 𝓛 (lies_at the_row full_share at before) }
+    ensures* { ∃ₛ (λ (after : Session). sem 𝓛 (lies_at the_row full_share at after) ∗ ⌜ TellsRedraws before after result ⌝) }
+{
+    screen::redraws(unsafe { &mut *(at as *mut Session) })
+}
+
+/// Draws the screen and returns the number of bytes of its text, or 2^64 - 1 if memory was refused.
+#[unsafe(no_mangle)]
+pub unsafe extern "C" fn vt_screen(at: *mut VtTerminal) -> u64
+    ghost before: { Session }
+    requires* { sem 𝓛 (lies_at the_row full_share at before) }
+    ensures* { ∃ₛ (λ (after : Session). sem 𝓛 (lies_at the_row full_share at after) ∗ ⌜ Draws before after result ⌝) }
+{
+    screen::screen(unsafe { &mut *(at as *mut Session) })
+}
+
+/// Eight bytes of the text drawn last, from an index on, the first lowest.
+#[unsafe(no_mangle)]
+pub unsafe extern "C" fn vt_screen_word(at: *mut VtTerminal, index: u64) -> u64
+    ghost before: { Session }
+    requires* { sem 𝓛 (lies_at the_row full_share at before) }
+    ensures* { ∃ₛ (λ (after : Session). sem 𝓛 (lies_at the_row full_share at after) ∗ ⌜ TellsWord before index after result ⌝) }
+{
+    screen::screen_word(unsafe { &mut *(at as *mut Session) }, index)
+}
+
+/// The address of the shown set, or 254 if none is shown.
+#[unsafe(no_mangle)]
+pub unsafe extern "C" fn vt_shown(at: *mut VtTerminal) -> u32
+    ghost before: { Session }
+    requires* { sem 𝓛 (lies_at the_row full_share at before) }
+    ensures* { ∃ₛ (λ (after : Session). sem 𝓛 (lies_at the_row full_share at after) ∗ ⌜ TellsShown before after result ⌝) }
+{
+    screen::shown(unsafe { &mut *(at as *mut Session) })
+}
+
+/// 1 if the terminal lost its address, or else 0.
+#[unsafe(no_mangle)]
+pub unsafe extern "C" fn vt_lost(at: *mut VtTerminal) -> u32
+    ghost before: { Session }
+    requires* { sem 𝓛 (lies_at the_row full_share at before) }
+    ensures* { ∃ₛ (λ (after : Session). sem 𝓛 (lies_at the_row full_share at after) ∗ ⌜ TellsLost before after result ⌝) }
+{
+    screen::lost(unsafe { &mut *(at as *mut Session) })
+}
+
+/// The first time at which a tick is due, or 2^64 - 1 if there is none.
+#[unsafe(no_mangle)]
+pub unsafe extern "C" fn vt_deadline(at: *mut VtTerminal) -> u64
+    ghost before: { Session }
+    requires* { sem 𝓛 (lies_at the_row full_share at before) }
+    ensures* { ∃ₛ (λ (after : Session). sem 𝓛 (lies_at the_row full_share at after) ∗ ⌜ TellsDeadline before after result ⌝) }
+{
+    screen::deadline(unsafe { &mut *(at as *mut Session) })
+}
+
+/// Enters a text of the operator into an object, and returns a status.
+#[unsafe(no_mangle)]
+pub unsafe extern "C" fn vt_text(at: *mut VtTerminal, id: u32, text: &[u8]) -> u32
+    ghost before: { Session }
+    requires* { sem 𝓛 (lies_at the_row full_share at before) }
+    ensures* { ∃ₛ (λ (after : Session). sem 𝓛 (lies_at the_row full_share at after) ∗ ⌜ Texts before id text.entry after result ⌝) }
+{
+    session::text(unsafe { &mut *(at as *mut Session) }, id, text)
+}
+
+/// Adds a working set with the pool of these bytes, and returns a status.
+#[unsafe(no_mangle)]
+pub unsafe extern "C" fn vt_preload(at: *mut VtTerminal, address: u32, pool: &[u8]) -> u32
+    ghost before: { Session }
+    requires* { sem 𝓛 (lies_at the_row full_share at before) }
+    ensures* { ∃ₛ (λ (after : Session). sem 𝓛 (lies_at the_row full_share at after) ∗ ⌜ Preloads before address pool.now after result ⌝) }
+{
+    preload::preload(unsafe { &mut *(at as *mut Session) }, address, pool)
+}
