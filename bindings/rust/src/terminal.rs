@@ -1,0 +1,345 @@
+use crate::raw::{status, Action, Handle};
+use crate::{Error, Frame, Outputs, Profile};
+
+/// An ISOBUS virtual terminal: its working sets, their object pools, and the screen of the shown set.
+///
+/// Each input returns its [`Outputs`], to be sent and shown at once. Times are in microseconds of one monotonic clock. Time never
+/// goes back: an earlier time counts as the latest one. Actions of the operator happen at the latest time: a host calls
+/// [`tick`](Terminal::tick) before them.
+///
+/// A terminal may be moved to another thread, and is used by one at a time:
+///
+/// ```compile_fail
+/// fn is_sync<T: Sync>() {}
+/// is_sync::<segyolant::Terminal>();
+/// ```
+#[derive(Debug)]
+pub struct Terminal {
+    handle: Handle,
+    own: u8,
+}
+
+impl Terminal {
+    /// A terminal at an address up to 253, with its NAME (ISO 11783-5) and the standard profile. It sends nothing yet: see
+    /// [`claim`](Terminal::claim). [`Error::OwnAddress`] for an address above 253.
+    pub fn new(own: u8, name: u64) -> Result<Terminal, Error> {
+        Terminal::with_profile(own, name, &Profile::default())
+    }
+
+    /// A terminal like that of [`new`](Terminal::new), with other answers to requests for its technical data.
+    pub fn with_profile(own: u8, name: u64, profile: &Profile) -> Result<Terminal, Error> {
+        if own > 253 {
+            return Err(Error::OwnAddress(own));
+        }
+        match Handle::new(own, name, profile) {
+            Some(handle) => Ok(Terminal { handle, own }),
+            None => Err(Error::OutOfMemory),
+        }
+    }
+
+    /// The terminal's own address. It stays the same after its loss.
+    pub fn own(&self) -> u8 {
+        self.own
+    }
+
+    /// Adds a working set with an object pool, without an upload. The bytes are not kept. [`Error::NotFree`] for an address above
+    /// 253, the terminal's own, or one with a set; [`Error::NotAPool`] if the pool has a fault or breaks a rule.
+    pub fn preload(&mut self, address: u8, pool: &[u8]) -> Result<(), Error> {
+        match self.ready().preload(address, pool) {
+            status::DONE => Ok(()),
+            status::NO_MEMORY => Err(Error::OutOfMemory),
+            status::NO_SUCH => Err(Error::NotFree(address)),
+            status::NO_POOL => Err(Error::NotAPool),
+            other => Err(Error::Unexpected(other)),
+        }
+    }
+
+    // ---- inputs
+
+    /// Hears a frame of the bus, with the time of its reception.
+    pub fn hear(&mut self, time: u64, frame: &Frame) -> Result<Outputs<'_>, Error> {
+        let count = frame.data().len() as u32;
+        let status = self.ready().hear(time, frame.id(), count, frame.bits());
+        self.outputs(status)
+    }
+
+    /// Moves the time on: silent transport sessions end (ISO 11783-3), and silent sets are closed (ISO 11783-6). A host calls it at
+    /// the [`deadline`](Terminal::deadline), or some times a second.
+    pub fn tick(&mut self, time: u64) -> Result<Outputs<'_>, Error> {
+        let status = self.ready().tick(time);
+        self.outputs(status)
+    }
+
+    /// The operator presses a soft key or a button (ISO 11783-6, Soft Key Activation, Button Activation).
+    pub fn press(&mut self, id: u16) -> Result<Outputs<'_>, Error> {
+        self.act(Action::Press, id, 0)
+    }
+
+    /// The operator releases the key or button held.
+    pub fn release(&mut self, id: u16) -> Result<Outputs<'_>, Error> {
+        self.act(Action::Release, id, 0)
+    }
+
+    /// The operator selects an input. No message is sent.
+    pub fn select(&mut self, id: u16) -> Result<Outputs<'_>, Error> {
+        self.act(Action::Select, id, 0)
+    }
+
+    /// The operator enters a number: the raw value, without offset and scale (ISO 11783-6, VT Change Numeric Value).
+    pub fn number(&mut self, id: u16, value: u32) -> Result<Outputs<'_>, Error> {
+        self.act(Action::Number, id, value)
+    }
+
+    /// The operator enters a text, one byte a character (ISO 11783-6, VT Change String Value). The bytes are not kept.
+    pub fn text(&mut self, id: u16, text: &[u8]) -> Result<Outputs<'_>, Error> {
+        let status = self.ready().text(id, text);
+        self.outputs(status)
+    }
+
+    /// The operator chooses the working set at an address. While an alarm of another set is shown, that stays shown.
+    pub fn set(&mut self, address: u8) -> Result<Outputs<'_>, Error> {
+        self.act(Action::Set, 0, u32::from(address))
+    }
+
+    // ---- what a host sends by itself
+
+    /// The address claim, to be sent at the start (ISO 11783-5). The first other frame goes out 250 ms after it. A lost terminal has
+    /// no output.
+    pub fn claim(&mut self) -> Result<Outputs<'_>, Error> {
+        let status = self.ready().claim();
+        self.outputs(status)
+    }
+
+    /// The status message, to be sent once a second (ISO 11783-6, VT Status). A lost terminal has no output.
+    pub fn status(&mut self) -> Result<Outputs<'_>, Error> {
+        let status = self.ready().status();
+        self.outputs(status)
+    }
+
+    // ---- the screen
+
+    /// Whether the screen may differ from the one before the last input. A host asks after each input.
+    pub fn redraws(&self) -> bool {
+        self.handle.redraws()
+    }
+
+    /// The screen of the shown set as text in ASCII (docs/PROFILE.md, "Form of the text"). The only error is
+    /// [`Error::OutOfMemory`].
+    pub fn screen(&mut self) -> Result<String, Error> {
+        let count = self.handle.screen();
+        let mut text = String::new();
+        let room = usize::try_from(count).map_err(|_| Error::OutOfMemory)?;
+        text.try_reserve_exact(room)
+            .map_err(|_| Error::OutOfMemory)?;
+        for index in (0..count).step_by(8) {
+            let word = self.handle.screen_word(index).to_le_bytes();
+            let left = (count - index).min(8) as usize;
+            text.extend(word[..left].iter().copied().map(char::from));
+        }
+        Ok(text)
+    }
+
+    // ---- what a host asks
+
+    /// The address of the shown working set, if one is shown.
+    pub fn shown(&self) -> Option<u8> {
+        u8::try_from(self.handle.shown())
+            .ok()
+            .filter(|address| *address <= 253)
+    }
+
+    /// Whether a node with a lower NAME took the terminal's address (ISO 11783-5). A lost terminal sends nothing any more: a host
+    /// makes another one at another address.
+    pub fn lost(&self) -> bool {
+        self.handle.lost()
+    }
+
+    /// The first time, in microseconds, at which a [`tick`](Terminal::tick) is due, or `None` if there is no such time. Before it a
+    /// tick does nothing but move the time on. A time that is not after the latest one means: at once.
+    pub fn deadline(&self) -> Option<u64> {
+        Some(self.handle.deadline()).filter(|time| *time != u64::MAX)
+    }
+
+    // ----
+
+    fn act(&mut self, action: Action, id: u16, number: u32) -> Result<Outputs<'_>, Error> {
+        let status = self.ready().act(action, id, number);
+        self.outputs(status)
+    }
+
+    // The handle, of which no output waits. One may wait only where `Outputs` were forgotten (`std::mem::forget`).
+    fn ready(&mut self) -> &mut Handle {
+        self.handle.discard();
+        &mut self.handle
+    }
+
+    fn outputs(&mut self, status: u32) -> Result<Outputs<'_>, Error> {
+        match status {
+            status::DONE => Ok(Outputs::new(&mut self.handle)),
+            status::NO_MEMORY => Err(Error::OutOfMemory),
+            other => Err(Error::Unexpected(other)),
+        }
+    }
+}
+
+#[cfg(test)]
+mod tests {
+    use super::*;
+    use crate::{Output, Refusal};
+
+    const NAME: u64 = 0x2000_1D00_0000_0001;
+
+    fn pool() -> Vec<u8> {
+        let path = concat!(env!("CARGO_MANIFEST_DIR"), "/../../examples/pool.iop");
+        std::fs::read(path).expect("examples/pool.iop")
+    }
+
+    fn terminal() -> Terminal {
+        Terminal::new(0x26, NAME).expect("a terminal")
+    }
+
+    fn all(outputs: Result<Outputs<'_>, Error>) -> Vec<Output> {
+        outputs.expect("memory").collect()
+    }
+
+    #[test]
+    fn an_address_above_253_is_refused() {
+        for own in [254, 255] {
+            let refused = Terminal::new(own, NAME).expect_err("no terminal");
+            assert_eq!(refused, Error::OwnAddress(own));
+            assert!(refused.to_string().contains("up to 253"));
+        }
+        assert!(Terminal::new(253, NAME).is_ok());
+    }
+
+    #[test]
+    fn it_claims_and_tells_its_status() {
+        let mut terminal = terminal();
+        let claim = all(terminal.claim());
+        assert_eq!(
+            claim,
+            [Output::Frame(
+                Frame::new(0x18EE_FF26, &NAME.to_le_bytes()).unwrap()
+            )]
+        );
+        let status = all(terminal.status());
+        let data = [0xFE, 0xFE, 0xFF, 0xFF, 0xFF, 0xFF, 0x00, 0xFF];
+        assert_eq!(
+            status,
+            [Output::Frame(Frame::new(0x14E6_FF26, &data).unwrap())]
+        );
+    }
+
+    #[test]
+    fn a_pool_is_preloaded_once() {
+        let mut terminal = terminal();
+        assert_eq!(terminal.preload(0x80, b""), Err(Error::NotAPool));
+        assert_eq!(terminal.preload(0x26, &pool()), Err(Error::NotFree(0x26)));
+        assert_eq!(terminal.preload(254, &pool()), Err(Error::NotFree(254)));
+        assert_eq!(terminal.shown(), None);
+        assert_eq!(terminal.preload(0x80, &pool()), Ok(()));
+        assert_eq!(terminal.preload(0x80, &pool()), Err(Error::NotFree(0x80)));
+        assert_eq!(terminal.shown(), Some(0x80));
+        assert!(terminal.redraws());
+        assert_eq!(
+            terminal.screen().unwrap(),
+            "screen 80 mask 1000\ncontainer 100 10 5 50x20\n"
+        );
+    }
+
+    #[test]
+    fn refused_actions_come_as_outputs() {
+        let mut terminal = terminal();
+        let refused = |refusal| [Output::Refused(refusal)];
+        assert_eq!(all(terminal.press(1)), refused(Refusal::NoSet));
+        terminal.preload(0x80, &pool()).unwrap();
+        assert_eq!(all(terminal.press(1)), refused(Refusal::NotShown));
+        assert_eq!(all(terminal.release(1)), refused(Refusal::NotPressed));
+        assert_eq!(all(terminal.select(100)), refused(Refusal::WrongKind));
+        assert_eq!(all(terminal.number(100, 7)), refused(Refusal::WrongKind));
+        assert_eq!(all(terminal.text(100, b"")), refused(Refusal::WrongKind));
+        assert_eq!(all(terminal.set(0x81)), refused(Refusal::NoSet));
+        assert_eq!(all(terminal.set(0x80)), []);
+    }
+
+    #[test]
+    fn a_silent_set_is_closed_at_the_deadline() {
+        let mut terminal = terminal();
+        assert_eq!(terminal.deadline(), None);
+        terminal.preload(0x80, &pool()).unwrap();
+        // The silence of a preloaded set begins with the next time that is told.
+        assert_eq!(terminal.deadline(), Some(0));
+        assert_eq!(all(terminal.tick(500)), []);
+        assert_eq!(terminal.deadline(), Some(3_000_501));
+        assert_eq!(all(terminal.tick(3_000_500)), []);
+        assert_eq!(terminal.shown(), Some(0x80));
+        assert_eq!(all(terminal.tick(3_000_501)).len(), 1);
+        assert_eq!(terminal.shown(), None);
+        assert_eq!(terminal.deadline(), None);
+    }
+
+    #[test]
+    fn a_lost_terminal_is_silent() {
+        let mut terminal = terminal();
+        let claim = Frame::new(0x18EE_FF26, &[0; 8]).unwrap();
+        assert_eq!(all(terminal.hear(1, &claim)).len(), 1);
+        assert!(terminal.lost());
+        assert_eq!(all(terminal.status()), []);
+        assert_eq!(all(terminal.claim()), []);
+        assert_eq!(all(terminal.press(1)), []);
+        assert_eq!(terminal.own(), 0x26);
+    }
+
+    #[test]
+    fn the_profile_is_answered() {
+        let profile = Profile {
+            soft_key_width: 1,
+            soft_key_height: 2,
+            virtual_soft_keys: 3,
+            physical_soft_keys: 4,
+            small_fonts: 5,
+            large_fonts: 6,
+            font_styles: 7,
+            boot_time: 8,
+            graphic_type: 9,
+            hardware: 10,
+            width: 0x0B0C,
+            height: 0x0D0E,
+            memory: 100,
+        };
+        let mut terminal = Terminal::with_profile(0x26, NAME, &profile).unwrap();
+        terminal.preload(0x80, &pool()).unwrap();
+        let mut ask = |data: [u8; 8]| {
+            let request = Frame::new(0x14E7_2680, &data).unwrap();
+            match all(terminal.hear(1, &request))[..] {
+                [Output::Frame(frame)] => frame.data().to_vec(),
+                ref other => panic!("{other:?}"),
+            }
+        };
+        let keys = ask([0xC2, 0xFF, 0xFF, 0xFF, 0xFF, 0xFF, 0xFF, 0xFF]);
+        assert_eq!(keys[4..], [1, 2, 3, 4]);
+        let fonts = ask([0xC3, 0xFF, 0xFF, 0xFF, 0xFF, 0xFF, 0xFF, 0xFF]);
+        assert_eq!(fonts[5..], [5, 6, 7]);
+        let hardware = ask([0xC7, 0xFF, 0xFF, 0xFF, 0xFF, 0xFF, 0xFF, 0xFF]);
+        assert_eq!(hardware[1..], [8, 9, 10, 0x0C, 0x0B, 0x0E, 0x0D]);
+        let enough = ask([0xC0, 0xFF, 100, 0, 0, 0, 0xFF, 0xFF]);
+        let too_much = ask([0xC0, 0xFF, 101, 0, 0, 0, 0xFF, 0xFF]);
+        assert_eq!((enough[2], too_much[2]), (0, 1));
+    }
+
+    #[test]
+    fn outputs_that_are_not_taken_are_lost() {
+        let mut terminal = terminal();
+        drop(terminal.claim());
+        std::mem::forget(terminal.claim());
+        assert_eq!(all(terminal.status()).len(), 1);
+    }
+
+    #[test]
+    fn a_terminal_moves_to_another_thread() {
+        let mut terminal = terminal();
+        terminal.preload(0x80, &pool()).unwrap();
+        let shown = std::thread::spawn(move || terminal.shown()).join();
+        assert_eq!(shown.unwrap(), Some(0x80));
+    }
+}

@@ -1,0 +1,120 @@
+//! Replays the logs of `examples/` and compares the text with the one that the repository keeps of the proved program
+//! (`crates/vt_examples/stdout`).
+
+use segyolant::{Error, Frame, Output, Outputs, Terminal};
+use std::fmt::Write;
+use std::fs;
+use std::path::PathBuf;
+
+fn repository() -> PathBuf {
+    PathBuf::from(env!("CARGO_MANIFEST_DIR")).join("../..")
+}
+
+fn read(path: &str) -> Vec<u8> {
+    let path = repository().join(path);
+    fs::read(&path).unwrap_or_else(|why| panic!("{}: {why}", path.display()))
+}
+
+/// What the program prints for these words: the lines of screens, frames and refusals.
+fn printed(words: &str) -> String {
+    let all = String::from_utf8(read("crates/vt_examples/stdout")).expect("text");
+    let from = all.find(words).expect("a run with these words") + words.len() + 1;
+    let to = all[from..].find("lines ").expect("the end of the run");
+    all[from..from + to].to_string()
+}
+
+/// The frame and the time of a line such as `(1.000000) can0 14E72680#A0640000FFFFFFFF`.
+fn frame_of(line: &str) -> Option<(u64, Frame)> {
+    let mut words = line.split(' ');
+    let time = words.next()?.strip_prefix('(')?.strip_suffix(')')?;
+    let (seconds, micros) = time.split_once('.')?;
+    let time = seconds.parse::<u64>().ok()? * 1_000_000 + micros.parse::<u64>().ok()?;
+    let (id, data) = words.nth(1)?.split_once('#')?;
+    let bytes: Option<Vec<u8>> = (0..data.len())
+        .step_by(2)
+        .map(|at| u8::from_str_radix(&data[at..at + 2], 16).ok())
+        .collect();
+    let id = u32::from_str_radix(id, 16).ok()?;
+    Some((time, Frame::new(id, &bytes?).ok()?))
+}
+
+fn take<'a>(terminal: &'a mut Terminal, line: &str) -> Option<Result<Outputs<'a>, Error>> {
+    let Some(words) = line.strip_prefix("! ") else {
+        let (time, frame) = frame_of(line)?;
+        return Some(terminal.hear(time, &frame));
+    };
+    let (action, rest) = words.split_once(' ')?;
+    if action == "set" {
+        return Some(terminal.set(u8::from_str_radix(rest, 16).ok()?));
+    }
+    let (id, value) = rest.split_once(' ').unwrap_or((rest, ""));
+    let id = id.parse().ok()?;
+    Some(match action {
+        "press" => terminal.press(id),
+        "release" => terminal.release(id),
+        "select" => terminal.select(id),
+        "number" => terminal.number(id, value.parse().ok()?),
+        "text" => terminal.text(id, value.as_bytes()),
+        _ => return None,
+    })
+}
+
+fn replay(log: &str, terminal: &mut Terminal) -> String {
+    let log = String::from_utf8(read(log)).expect("text");
+    let mut screen = terminal.screen().expect("memory");
+    let mut text = screen.clone();
+    for line in log.lines().filter(|line| !line.starts_with('#')) {
+        let outputs = take(terminal, line).unwrap_or_else(|| panic!("no input: {line}"));
+        for output in outputs.expect("memory") {
+            match output {
+                Output::Frame(frame) => writeln!(text, "{frame}").unwrap(),
+                Output::Refused(refusal) => {
+                    writeln!(text, "operator {} {refusal:?}", refusal.number()).unwrap()
+                }
+            }
+        }
+        let new = terminal.screen().expect("memory");
+        assert!(terminal.redraws() || new == screen, "{line}");
+        if new != screen {
+            text.push_str(&new);
+            screen = new;
+        }
+    }
+    text
+}
+
+fn terminal() -> Terminal {
+    Terminal::new(0x26, 0x2000_1D00_0000_0001).expect("a terminal")
+}
+
+#[test]
+fn an_upload_and_keys() {
+    let text = replay("examples/seeder.log", &mut terminal());
+    assert_eq!(text, printed("$ vt_replay seeder.log"));
+}
+
+#[test]
+fn a_preloaded_set_and_a_command() {
+    let mut terminal = terminal();
+    terminal
+        .preload(0x80, &read("examples/pool.iop"))
+        .expect("a pool");
+    let text = replay("examples/hide.log", &mut terminal);
+    assert_eq!(
+        text,
+        printed("$ vt_replay hide.log --pool pool.iop --owner 80")
+    );
+}
+
+#[test]
+fn inputs_and_a_set_that_falls_silent() {
+    let mut terminal = terminal();
+    terminal
+        .preload(0x80, &read("examples/sprayer.iop"))
+        .expect("a pool");
+    let text = replay("examples/sprayer.log", &mut terminal);
+    assert_eq!(
+        text,
+        printed("$ vt_replay sprayer.log --pool sprayer.iop --owner 80")
+    );
+}

@@ -1,0 +1,476 @@
+// Segyolant's terminal for C++17: an ISOBUS virtual terminal (ISO 11783-6) as a class that owns its memory.
+//
+// It is the whole of vt_terminal.h, safe to use: the outputs of a call come with its result, and the memory is given back at the
+// end. docs/EMBEDDING.md explains it, with a program from nothing to a screen (examples/cpp/first.cpp).
+//
+// Link with crates/vt_terminal/out/libvt_terminal.a. One source file of the program defines SEGYOLANT_HEAP before it includes this
+// header, or the program defines the three functions of vt_heap.h itself.
+//
+// One thread at a time may use a terminal; nothing checks it.
+#ifndef SEGYOLANT_HPP
+#define SEGYOLANT_HPP
+
+#include <array>
+#include <cstddef>
+#include <cstdint>
+#include <iterator>
+#include <new>
+#include <optional>
+#include <stdexcept>
+#include <string>
+#include <string_view>
+#include <utility>
+#include <variant>
+#include <vector>
+
+#include "vt_terminal.h"
+
+// Whether the program has exceptions. Without them a terminal is made by Terminal::create.
+#if defined(__cpp_exceptions) || defined(__EXCEPTIONS) || defined(_CPPUNWIND)
+#define SEGYOLANT_THROWS 1
+#else
+#define SEGYOLANT_THROWS 0
+#endif
+
+namespace segyolant {
+
+// The result of a call. After all but `done` the terminal is unchanged.
+enum class [[nodiscard]] Result : std::uint32_t {
+    done = VT_DONE,           // The call is done.
+    no_memory = VT_NO_MEMORY, // Memory was refused. The same call may be made again.
+    no_such = VT_NO_SUCH,     // There is no such frame, or no set may be added at that address.
+    waiting = VT_WAITING,     // The call came from within a function that takes outputs.
+    not_begun = VT_NOT_BEGUN, // The terminal was moved away.
+    no_pool = VT_NO_POOL,     // The bytes are no accepted object pool; `segyolant check` says why.
+};
+
+// A result in words, with the cure.
+inline const char *text_of(Result result) noexcept
+{
+    switch (result) {
+    case Result::done:
+        return "the call is done";
+    case Result::no_memory:
+        return "memory was refused and nothing is changed: free some, or give the arena more, and make the call again";
+    case Result::no_such:
+        return "there is no such frame or address: an identifier is at most 1FFFFFFF, a frame has at most 8 bytes, and a set is "
+               "preloaded at an address up to 253 that is not the terminal's own and has no set";
+    case Result::waiting:
+        return "outputs wait to be taken: make the call after the function that takes outputs has returned";
+    case Result::not_begun:
+        return "the terminal was moved away: use the one that it was moved to";
+    case Result::no_pool:
+        return "the bytes are no accepted object pool: `segyolant check FILE` names each fault, and docs/POOLS.md has its cure";
+    }
+    return "the library returned a result of another version: link the library of the same commit as the header";
+}
+
+// A CAN frame with an identifier of 29 bits (ISO 11783-3).
+struct Frame {
+    std::uint32_t id = 0;                 // at most 1FFFFFFF
+    std::array<std::uint8_t, 8> bytes{};  // the first `count` of them are the data
+    std::uint8_t count = 0;               // at most 8
+};
+
+// Two frames are equal if they have the same identifier and the same data.
+inline bool operator==(const Frame &left, const Frame &right) noexcept
+{
+    if (left.id != right.id || left.count != right.count) {
+        return false;
+    }
+    for (std::size_t k = 0; k < left.bytes.size() && k < left.count; k++) {
+        if (left.bytes[k] != right.bytes[k]) {
+            return false;
+        }
+    }
+    return true;
+}
+
+inline bool operator!=(const Frame &left, const Frame &right) noexcept
+{
+    return !(left == right);
+}
+
+// Why an action of the operator was refused (docs/PROFILE.md, "Refusals"). Such an action changed nothing and sent nothing.
+enum class Refusal : std::uint32_t {
+    not_shown = 1,    // The object is not shown.
+    disabled = 2,     // The input is not enabled.
+    out_of_range = 3, // The input does not accept the number.
+    too_long = 4,     // The text is longer than the input.
+    wrong_kind = 5,   // The object is of a kind without this action.
+    not_pressed = 6,  // The key is not the one held.
+    held = 7,         // A key of the set is held already.
+    busy = 8,         // A long message to the set is still being sent. Try again later.
+    no_set = 9,       // No set is shown, or there is none with a pool at that address.
+};
+
+// The name of a refusal, as docs/PROFILE.md has it.
+inline const char *name_of(Refusal refusal) noexcept
+{
+    switch (refusal) {
+    case Refusal::not_shown:
+        return "NotShown";
+    case Refusal::disabled:
+        return "Disabled";
+    case Refusal::out_of_range:
+        return "Range";
+    case Refusal::too_long:
+        return "TooLong";
+    case Refusal::wrong_kind:
+        return "WrongKind";
+    case Refusal::not_pressed:
+        return "NotPressed";
+    case Refusal::held:
+        return "Held";
+    case Refusal::busy:
+        return "Busy";
+    case Refusal::no_set:
+        return "NoSet";
+    }
+    return "";
+}
+
+// An output: a frame to send on the bus, or a refusal to show to the operator.
+using Output = std::variant<Frame, Refusal>;
+
+// The result of an input with its outputs, in the order in which they are to be sent.
+struct [[nodiscard]] Reply {
+    Result result = Result::done;
+    std::vector<Output> outputs; // at most 1,024; none unless the result is `done`
+
+    explicit operator bool() const noexcept { return result == Result::done; }
+};
+
+// What the terminal answers to requests for its technical data (ISO 11783-6, Get Memory, Get Number of Soft Keys, Get Text Font
+// Data, Get Hardware). It changes nothing else. The default is the profile of docs/PROFILE.md.
+struct Profile {
+    std::uint32_t memory = 1048576;        // for pools, in bytes
+    std::uint8_t soft_key_width = 64;      // in pixels
+    std::uint8_t soft_key_height = 64;     // in pixels
+    std::uint8_t virtual_soft_keys = 64;   // the most keys of a soft key mask
+    std::uint8_t physical_soft_keys = 6;   // the keys that the operator has at once
+    std::uint8_t small_fonts = 0x7F;       // a bit for each size
+    std::uint8_t large_fonts = 0x7F;       // a bit for each size
+    std::uint8_t font_styles = 0;          // a bit for each style
+    std::uint8_t boot_time = 0;            // in seconds
+    std::uint8_t graphic_type = 2;         // 0: 2 colours, 1: 16, 2: 256
+    std::uint8_t hardware = 0;             // a bit for each feature
+    std::uint16_t width = 480;             // of a mask, in pixels
+    std::uint16_t height = 480;            // of a mask, in pixels
+};
+
+// An ISOBUS virtual terminal: its working sets, their object pools, and the screen of the shown set.
+//
+// Each input has two forms. `hear(time, frame)` returns a Reply with the outputs in a vector. `hear(time, frame, each)` calls `each`
+// with each output, as a `const Output &`, and allocates nothing but what the terminal itself needs. `each` calls no input of the
+// same terminal.
+//
+// After an exception, of `each` or of the vector, the input is taken and its other outputs are lost.
+//
+// A terminal that was moved away is empty: inputs return `not_begun`, and the rest answers as a terminal without sets.
+class Terminal {
+public:
+    // The highest address that a terminal may have (ISO 11783-5: 254 is the null address, 255 the global one).
+    static constexpr std::uint8_t highest_address = 253;
+
+#if SEGYOLANT_THROWS
+    // A terminal at an address, with its NAME (ISO 11783-5) and its profile. It sends nothing yet: see `claim`.
+    // Throws std::invalid_argument for an address above 253, and std::bad_alloc without memory for itself.
+    Terminal(std::uint8_t own, std::uint64_t name, const Profile &profile = Profile())
+    {
+        if (own > highest_address) {
+            throw std::invalid_argument("the address of a terminal is above 253 (FD): 254 and 255 are no addresses of a node; "
+                                        "take one up to 253, such as 38 (26)");
+        }
+        if (!begin(own, name, profile)) {
+            throw std::bad_alloc();
+        }
+    }
+#endif
+
+    // Makes a terminal without exceptions: none for an address above 253, or without memory for it.
+    static std::optional<Terminal> create(std::uint8_t own, std::uint64_t name, const Profile &profile = Profile()) noexcept
+    {
+        Terminal made;
+        if (own > highest_address || !made.begin(own, name, profile)) {
+            return std::nullopt;
+        }
+        return std::optional<Terminal>(std::move(made));
+    }
+
+    Terminal(Terminal &&other) noexcept : at_(std::exchange(other.at_, nullptr)) {}
+
+    // Ends this terminal and takes the other one over.
+    Terminal &operator=(Terminal &&other) noexcept
+    {
+        if (this != &other) {
+            end();
+            at_ = std::exchange(other.at_, nullptr);
+        }
+        return *this;
+    }
+
+    Terminal(const Terminal &) = delete;
+    Terminal &operator=(const Terminal &) = delete;
+
+    // Ends the terminal and gives its memory back. It sends nothing.
+    ~Terminal() { end(); }
+
+    // ---- sets that are there from the start
+
+    // Adds a working set with an object pool, without an upload. The address is at most 253, is not the own one, and has no set.
+    // `no_such` for another address, `no_pool` if the pool has a fault or breaks a rule. The bytes are not kept.
+    Result preload(std::uint8_t address, const std::uint8_t *pool, std::size_t count)
+    {
+        static const std::uint8_t nothing = 0;
+        return at_ ? Result(vt_preload(at_, address, pool ? pool : &nothing, pool ? count : 0)) : Result::not_begun;
+    }
+
+    // The same for a vector, an array or a string of bytes.
+    template <class Bytes> Result preload(std::uint8_t address, const Bytes &pool)
+    {
+        static_assert(sizeof(*std::data(pool)) == 1, "an object pool consists of bytes");
+        return preload(address, reinterpret_cast<const std::uint8_t *>(std::data(pool)), std::size(pool));
+    }
+
+    // ---- inputs
+    //
+    // Actions of the operator happen at the latest time so far: call `tick` before them.
+
+    // A frame of the bus, with the time of its reception in microseconds of a monotonic clock.
+    // A time before the latest one counts as the latest one. `no_such` for an identifier above 1FFFFFFF or more than 8 bytes.
+    Reply hear(std::uint64_t time, const Frame &frame) { return collect(heard(time, frame)); }
+    template <class Each> Result hear(std::uint64_t time, const Frame &frame, Each &&each)
+    {
+        return give(heard(time, frame), each);
+    }
+
+    // The time alone, in microseconds: silent transport sessions end (ISO 11783-3), and silent sets are closed (ISO 11783-6).
+    // Call it at `deadline`, or some times a second.
+    Reply tick(std::uint64_t time) { return collect(at_ ? vt_tick(at_, time) : moved); }
+    template <class Each> Result tick(std::uint64_t time, Each &&each) { return give(at_ ? vt_tick(at_, time) : moved, each); }
+
+    // The operator presses a soft key or a button (ISO 11783-6, Soft Key Activation, Button Activation).
+    Reply press(std::uint16_t id) { return collect(acted(VT_PRESS, id, 0)); }
+    template <class Each> Result press(std::uint16_t id, Each &&each) { return give(acted(VT_PRESS, id, 0), each); }
+
+    // The operator releases the key or button held.
+    Reply release(std::uint16_t id) { return collect(acted(VT_RELEASE, id, 0)); }
+    template <class Each> Result release(std::uint16_t id, Each &&each) { return give(acted(VT_RELEASE, id, 0), each); }
+
+    // The operator selects an input. No message is sent.
+    Reply select(std::uint16_t id) { return collect(acted(VT_SELECT, id, 0)); }
+    template <class Each> Result select(std::uint16_t id, Each &&each) { return give(acted(VT_SELECT, id, 0), each); }
+
+    // The operator enters a number: the raw value, without offset and scale (ISO 11783-6, VT Change Numeric Value).
+    Reply number(std::uint16_t id, std::uint32_t value) { return collect(acted(VT_NUMBER, id, value)); }
+    template <class Each> Result number(std::uint16_t id, std::uint32_t value, Each &&each)
+    {
+        return give(acted(VT_NUMBER, id, value), each);
+    }
+
+    // The operator enters a text (ISO 11783-6, VT Change String Value). The bytes are not kept.
+    Reply text(std::uint16_t id, std::string_view text) { return collect(entered(id, text)); }
+    template <class Each> Result text(std::uint16_t id, std::string_view text, Each &&each) { return give(entered(id, text), each); }
+
+    // The operator chooses the working set at an address. While an alarm of another set is shown, that stays shown.
+    Reply set(std::uint8_t address) { return collect(acted(VT_SET, 0, address)); }
+    template <class Each> Result set(std::uint8_t address, Each &&each) { return give(acted(VT_SET, 0, address), each); }
+
+    // ---- what a host sends by itself
+
+    // The address claim, to be sent at the start (ISO 11783-5). The first other frame goes out 250 ms after it.
+    // A lost terminal has no output.
+    Reply claim() { return collect(at_ ? vt_claim(at_) : moved); }
+    template <class Each> Result claim(Each &&each) { return give(at_ ? vt_claim(at_) : moved, each); }
+
+    // The status message, to be sent once a second (ISO 11783-6, VT Status). A lost terminal has no output.
+    Reply status() { return collect(at_ ? vt_status(at_) : moved); }
+    template <class Each> Result status(Each &&each) { return give(at_ ? vt_status(at_) : moved, each); }
+
+    // ---- the screen
+
+    // Whether the screen may differ from the one before the last input. Ask after each input.
+    [[nodiscard]] bool redraws() const noexcept { return at_ && vt_redraws(at_) != 0; }
+
+    // The screen of the shown set as text in ASCII (docs/PROFILE.md, "Form of the text"). None if the library was refused memory; the
+    // string itself may throw std::bad_alloc.
+    [[nodiscard]] std::optional<std::string> screen()
+    {
+        if (!at_) {
+            return std::string("screen none\n");
+        }
+        const std::uint64_t count = vt_screen(at_);
+        if (count == UINT64_MAX) {
+            return std::nullopt;
+        }
+        std::string text(static_cast<std::size_t>(count), ' ');
+        for (std::size_t k = 0; k < text.size(); k++) {
+            text[k] = static_cast<char>(vt_screen_word(at_, k - k % 8) >> 8 * (k % 8));
+        }
+        return text;
+    }
+
+    // ---- what a host asks
+
+    // The address of the shown working set, if one is shown.
+    [[nodiscard]] std::optional<std::uint8_t> shown() const noexcept
+    {
+        const std::uint32_t address = at_ ? vt_shown(at_) : 254;
+        return address <= highest_address ? std::optional<std::uint8_t>(static_cast<std::uint8_t>(address)) : std::nullopt;
+    }
+
+    // Whether a node with a lower NAME took the terminal's address (ISO 11783-5). A lost terminal sends nothing any more: make
+    // another one at another address.
+    [[nodiscard]] bool lost() const noexcept { return at_ && vt_lost(at_) != 0; }
+
+    // The first time, in microseconds, at which a tick is due; none if there is no such time. Before it `tick` does nothing but
+    // move the time on. A time that is not after the latest one means: at once.
+    [[nodiscard]] std::optional<std::uint64_t> deadline() const noexcept
+    {
+        const std::uint64_t time = at_ ? vt_deadline(at_) : UINT64_MAX;
+        return time != UINT64_MAX ? std::optional<std::uint64_t>(time) : std::nullopt;
+    }
+
+private:
+    static constexpr std::align_val_t alignment{16};
+    static constexpr std::uint32_t moved = VT_NOT_BEGUN;
+
+    // Takes the outputs that wait when a call ends, also by an exception, so that the next input is heard.
+    struct Rest {
+        vt_terminal *at;
+        ~Rest()
+        {
+            while (vt_next(at) != VT_NONE) {
+            }
+        }
+    };
+
+    Terminal() noexcept = default;
+
+    bool begin(std::uint8_t own, std::uint64_t name, const Profile &profile) noexcept
+    {
+        void *memory = ::operator new(vt_size(), alignment, std::nothrow);
+        if (!memory) {
+            return false;
+        }
+        at_ = static_cast<vt_terminal *>(memory);
+        vt_profile all = VT_STANDARD_PROFILE;
+        all.memory = profile.memory;
+        all.soft_key_width = profile.soft_key_width;
+        all.soft_key_height = profile.soft_key_height;
+        all.virtual_soft_keys = profile.virtual_soft_keys;
+        all.physical_soft_keys = profile.physical_soft_keys;
+        all.small_fonts = profile.small_fonts;
+        all.large_fonts = profile.large_fonts;
+        all.font_styles = profile.font_styles;
+        all.boot_time = profile.boot_time;
+        all.graphic_type = profile.graphic_type;
+        all.hardware = profile.hardware;
+        all.width = profile.width;
+        all.height = profile.height;
+        return vt_begin(at_, own, name, &all) == VT_DONE;
+    }
+
+    void end() noexcept
+    {
+        if (at_) {
+            vt_done(at_);
+            ::operator delete(static_cast<void *>(at_), alignment);
+            at_ = nullptr;
+        }
+    }
+
+    std::uint32_t heard(std::uint64_t time, const Frame &frame)
+    {
+        std::uint64_t bits = 0;
+        for (std::size_t k = 0; k < frame.bytes.size() && k < frame.count; k++) {
+            bits |= std::uint64_t{frame.bytes[k]} << 8 * k;
+        }
+        return at_ ? vt_hear(at_, time, frame.id, frame.count, bits) : moved;
+    }
+
+    std::uint32_t acted(vt_action kind, std::uint32_t id, std::uint32_t number)
+    {
+        return at_ ? vt_act(at_, kind, id, number) : moved;
+    }
+
+    std::uint32_t entered(std::uint16_t id, std::string_view text)
+    {
+        static const char nothing = 0;
+        const char *bytes = text.data() ? text.data() : &nothing;
+        return at_ ? vt_text(at_, id, reinterpret_cast<const std::uint8_t *>(bytes), text.size()) : moved;
+    }
+
+    // The output taken last.
+    Output latest(std::uint32_t kind) const
+    {
+        if (kind == VT_REFUSED) {
+            return static_cast<Refusal>(vt_output_id(at_));
+        }
+        Frame frame;
+        frame.id = vt_output_id(at_);
+        frame.count = static_cast<std::uint8_t>(vt_output_count(at_));
+        const std::uint64_t bits = vt_output_data(at_);
+        for (std::size_t k = 0; k < frame.bytes.size(); k++) {
+            frame.bytes[k] = static_cast<std::uint8_t>(bits >> 8 * k);
+        }
+        return frame;
+    }
+
+    template <class Each> Result give(std::uint32_t status, Each &each)
+    {
+        if (status == VT_DONE) {
+            const Rest rest{at_};
+            for (std::uint32_t kind = vt_next(at_); kind != VT_NONE; kind = vt_next(at_)) {
+                const Output output = latest(kind);
+                each(output);
+            }
+        }
+        return static_cast<Result>(status);
+    }
+
+    Reply collect(std::uint32_t status)
+    {
+        Reply reply;
+        auto keep = [&reply](const Output &output) { reply.outputs.push_back(output); };
+        reply.result = give(status, keep);
+        return reply;
+    }
+
+    vt_terminal *at_ = nullptr;
+};
+
+} // namespace segyolant
+
+#ifdef SEGYOLANT_HEAP
+
+#include <cstdlib>
+#include <cstring>
+
+#include "vt_heap.h"
+
+// The memory of the library over malloc, in the one source file that defines SEGYOLANT_HEAP.
+static_assert(alignof(std::max_align_t) >= 16, "malloc gives multiples of 16");
+
+extern "C" vt_memory rattle_alloc(std::uint64_t size, std::uint64_t align)
+{
+    void *memory = align <= 16 && size <= SIZE_MAX ? std::malloc(size ? static_cast<std::size_t>(size) : 1) : nullptr;
+    return vt_memory{memory ? 1u : 0u, reinterpret_cast<std::uintptr_t>(memory)};
+}
+
+extern "C" vt_memory rattle_realloc(void *at, std::uint64_t kept, std::uint64_t size, std::uint64_t align)
+{
+    (void)kept; // realloc keeps at least these bytes
+    void *memory = align <= 16 && size <= SIZE_MAX ? std::realloc(at, size ? static_cast<std::size_t>(size) : 1) : nullptr;
+    return vt_memory{memory ? 1u : 0u, reinterpret_cast<std::uintptr_t>(memory)};
+}
+
+extern "C" void rattle_dealloc(void *at)
+{
+    std::free(at);
+}
+
+#endif
+
+#endif
