@@ -3,7 +3,7 @@ ARGS ?= examples/seeder.log
 # The pool that is drawn.
 POOL ?= examples/sprayer.iop
 
-.PHONY: run sample picture pictures help test examples wrong-bodies build bench bench-hostile bench-counts refuse-memory
+.PHONY: run sample picture pictures help test examples wrong-bodies build bench bench-hostile bench-counts refuse-memory test-c
 
 # Runs the program by the toolchain's quick build, which proves nothing.
 run:
@@ -63,3 +63,10 @@ bench-counts: build
 # Refuses each request for memory in turn, in the tests of each crate that are made for it and in the proved program.
 refuse-memory:
 	@python3 scripts/refuse_memory.py
+
+# Makes the static libraries for C, and tests them by the programs of examples/c, examples/cpp and bindings/rust. CASES may name
+# folders of stored runs.
+test-c:
+	cd crates/vt_terminal && rt lib
+	cd crates/vt_check && rt lib
+	@python3 scripts/test_c.py $(foreach folder,$(CASES),--cases $(folder))

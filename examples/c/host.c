@@ -1,0 +1,207 @@
+#define _GNU_SOURCE
+#include "host.h"
+#include <stdlib.h>
+#include <string.h>
+#include <unistd.h>
+
+/* ---- making and ending */
+
+bool host_begin(struct host *host, uint32_t own, uint64_t name)
+{
+    static const struct vt_profile profile = VT_STANDARD_PROFILE;
+    memset(host, 0, sizeof *host);
+    host->tries = 2;
+    /* aligned_alloc wants a multiple of the alignment. */
+    host->vt = aligned_alloc(16, (vt_size() + 15) & ~(size_t)15);
+    if (host->vt == NULL) {
+        return false;
+    }
+    vt_begin(host->vt, own, name, &profile);
+    return true;
+}
+
+void host_end(struct host *host)
+{
+    vt_done(host->vt);
+    free(host->vt);
+    free(host->screen);
+    free(host->drawn);
+}
+
+/* ---- inputs */
+
+/* One call of the library. */
+struct call {
+    enum { HEAR, TICK, ACT, CLAIM, STATUS, PRELOAD } kind;
+    const struct frame *frame;
+    const struct action *action;
+    uint64_t time;
+    uint32_t address;
+    const uint8_t *pool;
+    size_t count;
+};
+
+static uint32_t make_action(struct vt_terminal *vt, const struct action *action)
+{
+    if (action->kind == ACTION_TEXT) {
+        return vt_text(vt, action->id, (const uint8_t *)action->text.at, action->text.count);
+    }
+    return vt_act(vt, action->kind, action->id, action->number);
+}
+
+static uint32_t make(struct vt_terminal *vt, const struct call *call)
+{
+    switch (call->kind) {
+    case HEAR:
+        return vt_hear(vt, call->frame->time, call->frame->id, call->frame->count, call->frame->bits);
+    case TICK:
+        return vt_tick(vt, call->time);
+    case ACT:
+        return make_action(vt, call->action);
+    case CLAIM:
+        return vt_claim(vt);
+    case STATUS:
+        return vt_status(vt);
+    case PRELOAD:
+        return vt_preload(vt, call->address, call->pool, call->count);
+    }
+    return VT_NO_SUCH;
+}
+
+/* Waits between two tries. */
+static void rest(const struct host *host)
+{
+    if (host->pause > 0) {
+        usleep(host->pause);
+    }
+}
+
+/* Makes a call, and makes it again while its memory is refused. */
+static uint32_t try_call(struct host *host, const struct call *call)
+{
+    uint32_t result = make(host->vt, call);
+    for (unsigned tries = 1; result == VT_NO_MEMORY && tries < host->tries; tries++) {
+        rest(host);
+        result = make(host->vt, call);
+    }
+    return result;
+}
+
+uint32_t host_preload(struct host *host, uint32_t address, const uint8_t *pool, size_t count)
+{
+    struct call call = {.kind = PRELOAD, .address = address, .pool = pool, .count = count};
+    return try_call(host, &call);
+}
+
+uint32_t host_hear(struct host *host, const struct frame *frame)
+{
+    struct call call = {.kind = HEAR, .frame = frame};
+    return try_call(host, &call);
+}
+
+uint32_t host_tick(struct host *host, uint64_t time)
+{
+    struct call call = {.kind = TICK, .time = time};
+    return try_call(host, &call);
+}
+
+uint32_t host_act(struct host *host, const struct action *action)
+{
+    struct call call = {.kind = ACT, .action = action};
+    return try_call(host, &call);
+}
+
+uint32_t host_claim(struct host *host)
+{
+    struct call call = {.kind = CLAIM};
+    return try_call(host, &call);
+}
+
+uint32_t host_status(struct host *host)
+{
+    struct call call = {.kind = STATUS};
+    return try_call(host, &call);
+}
+
+/* ---- outputs */
+
+struct frame host_frame(struct host *host)
+{
+    struct frame frame = {0, vt_output_id(host->vt), vt_output_count(host->vt), vt_output_data(host->vt)};
+    return frame;
+}
+
+const char *host_refusal(struct host *host)
+{
+    static const char *const names[] = {"1 NotShown",   "2 Disabled", "3 Range", "4 TooLong", "5 WrongKind",
+                                        "6 NotPressed", "7 Held",     "8 Busy",  "9 NoSet"};
+    return names[vt_output_id(host->vt) - 1];
+}
+
+void print_frame(const struct frame *frame, FILE *out)
+{
+    fprintf(out, "%08X#", (unsigned)frame->id);
+    for (uint32_t i = 0; i < frame->count; i++) {
+        fprintf(out, "%02X", (unsigned)(frame->bits >> 8 * i & 0xFF));
+    }
+    fputc('\n', out);
+}
+
+/* ---- the screen */
+
+/* Makes room for a text, which is read in words of eight bytes. */
+static bool make_room(struct host *host, size_t count)
+{
+    size_t room = 2 * count + 8;
+    if (count + 8 <= host->room) {
+        return true;
+    }
+    char *screen = realloc(host->screen, room);
+    host->screen = screen == NULL ? host->screen : screen;
+    char *drawn = realloc(host->drawn, room);
+    host->drawn = drawn == NULL ? host->drawn : drawn;
+    if (screen == NULL || drawn == NULL) {
+        return false;
+    }
+    host->room = room;
+    return true;
+}
+
+/* Draws the screen, and draws it again while its memory is refused. */
+static uint64_t try_screen(struct host *host)
+{
+    uint64_t count = vt_screen(host->vt);
+    for (unsigned tries = 1; count == UINT64_MAX && tries < host->tries; tries++) {
+        rest(host);
+        count = vt_screen(host->vt);
+    }
+    return count;
+}
+
+/* Copies the text drawn last. */
+static void copy_text(struct host *host, size_t count)
+{
+    for (size_t i = 0; i < count; i += 8) {
+        uint64_t word = vt_screen_word(host->vt, i);
+        for (size_t k = 0; k < 8; k++) {
+            host->drawn[i + k] = (char)(word >> 8 * k & 0xFF);
+        }
+    }
+}
+
+enum draw host_draw(struct host *host)
+{
+    uint64_t count = try_screen(host);
+    if (count == UINT64_MAX || !make_room(host, (size_t)count)) {
+        return DRAW_NO_MEMORY;
+    }
+    copy_text(host, (size_t)count);
+    if (count == host->count && memcmp(host->drawn, host->screen, host->count) == 0) {
+        return DRAW_SAME;
+    }
+    char *screen = host->drawn;
+    host->drawn = host->screen;
+    host->screen = screen;
+    host->count = (size_t)count;
+    return DRAW_NEW;
+}

@@ -1,0 +1,57 @@
+"""Tests of other languages: the headers and examples/cpp in C++, and bindings/rust."""
+import glob
+import os
+import subprocess
+
+from c.programs import EXAMPLES, HEADERS, LIBRARY, ROOT, run
+from c.results import PassedOver, expect, need
+
+
+def check_cpp_header(folder):
+    need('g++')
+    source = f'{folder}/headers.cpp'
+    with open(source, 'w') as file:
+        file.write('#include "vt_heap.h"\n#include "vt_check.h"\n#include "vt_terminal.h"\nint main() { return vt_size() == 0; }\n')
+    words = ['g++', '-std=c++17', '-Wall', '-Wextra', '-Werror', f'-I{HEADERS}', '-fsyntax-only', source]
+    ran = subprocess.run(words, capture_output=True, text=True)
+    expect(ran.returncode == 0, ran.stderr[:400])
+
+
+def check_cpp(folder, source):
+    need('g++')
+    program = f'{folder}/{os.path.basename(source)[:-4]}_cpp'
+    words = ['g++', '-std=c++17', '-Wall', '-Wextra', '-Werror', '-O2', f'-I{HEADERS}', '-o', program, source, LIBRARY]
+    ran = subprocess.run(words, capture_output=True, text=True)
+    expect(ran.returncode == 0, ran.stderr[:400])
+    status, _, messages = run([program], ROOT)
+    expect(status == 0, f'status {status}: {messages[-300:]!r}')
+
+
+def check_rust(folder):
+    need('cargo')
+    if not os.path.isdir(f'{ROOT}/bindings/rust'):
+        raise PassedOver('there is no bindings/rust')
+    env = {**os.environ, 'CARGO_TARGET_DIR': f'{folder}/cargo'}
+    ran = subprocess.run(['cargo', 'test', '--offline', '--quiet'], cwd=f'{ROOT}/bindings/rust', env=env, capture_output=True, text=True)
+    expect(ran.returncode == 0, (ran.stdout + ran.stderr)[-600:])
+
+
+def check_aarch64(folder):
+    need('qemu-aarch64')
+    raise PassedOver('the library of this machine is for x86-64 alone')
+
+
+def check_there(path):
+    if not os.path.exists(path):
+        raise PassedOver(f'there is no {os.path.relpath(path, ROOT)}')
+
+
+def test_other_languages(tests, folder):
+    tests.run('headers in C++', check_cpp_header, folder)
+    sources = sorted(glob.glob(f'{EXAMPLES}/cpp/*.cpp'))
+    for source in sources:
+        tests.run(f'C++ {os.path.basename(source)}', check_cpp, folder, source)
+    if not sources:
+        tests.run('C++ examples', check_there, f'{EXAMPLES}/cpp')
+    tests.run('Rust bindings', check_rust, folder)
+    tests.run('aarch64', check_aarch64, folder)

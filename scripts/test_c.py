@@ -1,0 +1,64 @@
+#!/usr/bin/env python3
+"""Tests the C interface: the programs of examples/c over the libraries crates/vt_terminal/out/libvt_terminal.a and
+crates/vt_check/out/libvt_check.a, examples/cpp and bindings/rust. The tests are in scripts/c, by subject.
+
+    test_c.py [--cases FOLDER ...] [--only WORD]
+
+It compiles with gcc into a temporary folder. `rt lib` makes each library, in its crate. What needs a tool that is not on the machine
+is passed over by name. A goal that is not reached is told as `not yet`, and fails nothing. The last line is `N passed, M failed, K not
+yet, L passed over`, and the status is 1 where something failed.
+
+--cases names folders of runs of vt_replay, each a folder with the files args, log, pool, stdout and status (and perhaps stages: a run
+without the stage `final` is passed over). --only runs the tests whose names have the word.
+"""
+import argparse
+import os
+import shutil
+import sys
+import tempfile
+
+sys.dont_write_bytecode = True
+
+from c.languages import test_other_languages
+from c.live import test_live
+from c.memory import test_memory
+from c.programs import CHECKING, LIBRARY, Programs
+from c.replays import test_replays
+from c.results import Tests
+from c.stacks import test_stacks
+from c.symbols import test_symbols
+from c.times import test_times
+
+
+def test_all(tests, folder, cases):
+    programs = Programs(folder)
+    test_symbols(tests)
+    test_times(tests, programs)
+    test_replays(tests, programs, cases)
+    test_memory(tests, programs)
+    test_stacks(tests, programs)
+    test_live(tests, programs)
+    test_other_languages(tests, folder)
+
+
+def main():
+    parser = argparse.ArgumentParser(description=__doc__.split('\n')[0])
+    parser.add_argument('--cases', action='append', default=[], metavar='FOLDER')
+    parser.add_argument('--only', default='', metavar='WORD')
+    words = parser.parse_args()
+    for library in [LIBRARY, CHECKING]:
+        if not os.path.exists(library):
+            sys.exit(f'{library} is not there: rt lib makes it, in {os.path.dirname(os.path.dirname(library))}')
+    tests = Tests(words.only)
+    if shutil.which('gcc') is None:
+        print('passed over: all tests: gcc is not on this machine')
+        tests.passed_over += 1
+    else:
+        with tempfile.TemporaryDirectory() as folder:
+            test_all(tests, folder, words.cases)
+    print(f'{tests.passed} passed, {tests.failed} failed, {tests.not_yet} not yet, {tests.passed_over} passed over')
+    sys.exit(1 if tests.failed else 0)
+
+
+if __name__ == '__main__':
+    main()
