@@ -65,8 +65,7 @@ refuse-memory:
 	@python3 scripts/refuse_memory.py
 
 # Makes the static libraries for C, and tests them by the programs of examples/c, examples/cpp and bindings/rust. CASES may name
-# folders of stored runs.
+# folders of stored runs. LIBS=--after-gate takes what rt ci has just proved in this tree, and proves the two libraries alone.
 test-c:
-	cd crates/vt_terminal && rt lib
-	cd crates/vt_check && rt lib
+	@python3 scripts/static_libs.py $(LIBS)
 	@python3 scripts/test_c.py $(foreach folder,$(CASES),--cases $(folder))
