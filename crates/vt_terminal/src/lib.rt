@@ -6,6 +6,7 @@
 
 ghost use Rattle.std.specs.Prelude.{◌≡◌};
 ghost use Rattle.std.specs.Borrow.{full_share, sem};
+ghost use Rattle.std.specs.Mem.{type_size};
 ghost use Rattle.std.specs.Ptr.{lies_at, room_at};
 ghost use Rattle.vt_terminal.specs.contracts.session.Session.{the_row};
 ghost use Rattle.vt_terminal.specs.Calls.{Acts, Claims, Draws, Hears, Nexts, TellsCount, TellsData, TellsDeadline, TellsId, TellsLost, TellsRedraws, TellsShown, SendsStatus, TellsWord, Texts, Ticks};
@@ -29,7 +30,9 @@ pub struct VtTerminal {
 
 /// The number of bytes of a terminal. It lies at a multiple of 16.
 #[unsafe(no_mangle)]
-pub extern "C" fn vt_size() -> usize {
+pub extern "C" fn vt_size() -> usize
+    ensures { result ≡ type_size the_row }
+{
     std::mem::size_of::<Session>()
 }
 

@@ -1,0 +1,317 @@
+-- What a frame says in each channel, and the transfers that it ends.
+use Rattle.std.proofs.Common.{◌≡◌, ◌<◌, ℕ, zero, suc, ◌/◌, ◌%◌, ◌^◌, nat_lt, eqb, cond, Bool, true, false, Option, Some, None, List, [], ◌∷◌, ◌++◌, refl, sym, ap, ◌∙◌, subst, ⊎_elim, append-nil, lit<, arith}
+use Rattle.std.specs.List.{Contains, cons_option}
+use Rattle.std.specs.Ordering.{nat_cmp}
+use Rattle.std.specs.BTreeMap.{get}
+use Rattle.std.proofs.lemmas.Bool.{cases_eq, eq-eqb, ne_eqb}
+use Rattle.std.proofs.lemmas.List.Elements.{Contains-append_left, Contains-append_right, Contains-append_cases}
+use Rattle.vt_can.specs.declared.frames.frame.Frame.{Frame}
+use Rattle.vt_can.specs.frames.Identifier.{parts_of, pgn_of, destination_of}
+use Rattle.vt_can.specs.frames.Frame.{source_of}
+use Rattle.vt_listen.specs.declared.broken.Broken.{Broken}
+use Rattle.vt_listen.specs.declared.part.Part.{Part}
+use Rattle.vt_listen.specs.declared.part.Part.TheVariants.{Request, Packet, Offset, Abort}
+use Rattle.vt_listen.specs.declared.transfer.Transfer.{Transfer}
+use Rattle.vt_listen.specs.declared.listener.Ends.{Ends}
+use Rattle.vt_listen.specs.declared.listener.Listener.{Listener}
+use Rattle.vt_listen.specs.Parts.{is_extended, part_in}
+use Rattle.vt_listen.specs.Channels.{channel_of, own_channel, other_channel, sent, refused, said_to, said, parts_in}
+use Rattle.vt_listen.specs.declared.sent_message.SentMessage.{SentMessage}
+use Rattle.vt_listen.specs.Transfers.{IsOpen, Completes}
+use Rattle.vt_listen.specs.Listeners as listeners
+use Rattle.vt_listen.specs.Listeners.{IsFirstMissing, IsStateOf, IsEntryOf, HasHeard, IsAnswer, IsBrokenBy, AreBrokenBy, message_of}
+use Rattle.vt_listen.specs.Steps.{channel_between, swapped, said_between, broken_of, told_by, told_in_both, IsMadeWhole}
+use Rattle.vt_listen.proofs.Requests.{requested_once}
+use Rattle.vt_listen.proofs.Packets.{first_missing_once}
+use Rattle.vt_listen.proofs.Entries.{open_of}
+use Rattle.vt_listen.proofs.Maps.{Transfers, Takes, said_alone, back_apart}
+
+-- a frame says a part, from one end to the other
+pub record IsFrameOf (frame : Frame) (ends : Ends) (part : Part) : Type 0 where
+  pub destination_is : destination_of (parts_of frame.id) ≡ Some ends.destination
+  pub source_is : ends.source ≡ source_of frame
+  pub extended_is : ends.is_extended ≡ is_extended (pgn_of (parts_of frame.id))
+  pub part_is : part_in frame ≡ Some part
+
+abbrev said_with : ℕ → ℕ → Option Part → Bool → ℕ → Option Part
+said_with channel destination o extended source =
+    cond (eqb channel (channel_of extended source destination)) (sent o) (cond (eqb channel (channel_of extended destination source)) (refused o) None)
+
+pub said_is : (frame : Frame) (ends : Ends) (part : Part) → IsFrameOf frame ends part → (channel : ℕ) → said channel frame ≡ said_between ends part channel
+said_is frame ends part of channel =
+    ap (said_to channel frame) of.destination_is
+    ∙ ap (λ o. said_with channel ends.destination o (is_extended (pgn_of (parts_of frame.id))) (source_of frame)) of.part_is
+    ∙ ap (λ e. said_with channel ends.destination (Some part) e (source_of frame)) (sym of.extended_is)
+    ∙ ap (λ s. said_with channel ends.destination (Some part) ends.is_extended s) (sym of.source_is)
+
+pub says_nothing_to_all : (frame : Frame) → destination_of (parts_of frame.id) ≡ None → (channel : ℕ) → said channel frame ≡ None
+says_nothing_to_all frame none channel = ap (said_to channel frame) none
+
+none_either : (b d : Bool) → ◌≡◌ {A = Option Part} (cond b None (cond d None None)) None
+none_either true d = refl
+none_either false true = refl
+none_either false false = refl
+
+said_to_none : (frame : Frame) → part_in frame ≡ None → (channel : ℕ) (destination : Option ℕ) → said_to channel frame destination ≡ None
+said_to_none frame none channel None = refl
+said_to_none frame none channel (Some destination) =
+    ap (λ o. said_with channel destination o (is_extended (pgn_of (parts_of frame.id))) (source_of frame)) none
+    ∙ none_either (eqb channel (own_channel frame destination)) (eqb channel (other_channel frame destination))
+
+pub says_nothing : (frame : Frame) → part_in frame ≡ None → (channel : ℕ) → said channel frame ≡ None
+says_nothing frame none channel = said_to_none frame none channel (destination_of (parts_of frame.id))
+
+-- two channels are the same
+pub record IsSameChannel (extended : Bool) (source destination : ℕ) (extended' : Bool) (source' destination' : ℕ) : Type 0 where
+  pub extended_is : extended ≡ extended'
+  pub source_is : source ≡ source'
+  pub destination_is : destination ≡ destination'
+
+pub same_channel : (extended extended' : Bool) (source destination source' destination' : ℕ) → source < 2 ^ 8 → destination < 2 ^ 8 → source' < 2 ^ 8 → destination' < 2 ^ 8
+    → channel_of extended source destination ≡ channel_of extended' source' destination' → IsSameChannel extended source destination extended' source' destination'
+same_channel true true source destination source' destination' a b c d is = record { extended_is = refl; source_is = omega arith; destination_is = omega arith }
+same_channel true false source destination source' destination' a b c d is = absurd (omega arith)
+same_channel false true source destination source' destination' a b c d is = absurd (omega arith)
+same_channel false false source destination source' destination' a b c d is = record { extended_is = refl; source_is = omega arith; destination_is = omega arith }
+
+-- what is told at the entry of a channel
+pub record IsTold (ends : Ends) (o : Option Part) (entry : Option Transfer) (broken : Broken) : Type 0 where
+  pub transfer : Transfer
+  pub stood : entry ≡ Some transfer
+  pub is : broken_of ends transfer ≡ broken
+  pub ended : listeners.Ends transfer.pgn o
+
+none_contained : (broken : Broken) → Contains [] broken → ⊥
+none_contained broken has = absurd (let below = has.1 in omega arith)
+
+the_one : (x y : Broken) → Contains (x ∷ []) y → x ≡ y
+the_one x y (zero, below, is) = is
+the_one x y (suc k, below, is) = absurd (omega arith)
+
+one_contained : (x y : Broken) → x ≡ y → Contains (x ∷ []) y
+one_contained x y is = (0, lit< tt, is)
+
+is_told : (ends : Ends) (o : Option Part) (entry : Option Transfer) (broken : Broken) → Contains (told_by ends o entry) broken → IsTold ends o entry broken
+is_told ends None entry broken has = absurd (none_contained broken has)
+is_told ends (Some part) None broken has = absurd (none_contained broken has)
+is_told ends (Some (Request size pgn)) (Some transfer) broken has = record { transfer = transfer; stood = refl; is = the_one _ broken has; ended = tt }
+is_told ends (Some (Packet number bytes)) (Some transfer) broken has = absurd (none_contained broken has)
+is_told ends (Some (Offset packets)) (Some transfer) broken has = absurd (none_contained broken has)
+is_told ends (Some (Abort pgn)) (Some transfer) broken has =
+    ⊎_elim
+    (λ (same : transfer.pgn ≡ pgn).
+    let has' = subst (λ b. Contains (cond b (broken_of ends transfer ∷ []) []) broken) (eq-eqb transfer.pgn pgn same) has in
+    record { transfer = transfer; stood = refl; is = the_one _ broken has'; ended = sym same })
+    (λ (apart : transfer.pgn ≡ pgn → ⊥).
+    absurd (none_contained broken (subst (λ b. Contains (cond b (broken_of ends transfer ∷ []) []) broken) (ne_eqb transfer.pgn pgn apart) has)))
+    (cases_eq transfer.pgn pgn)
+
+tells : (ends : Ends) (o : Option Part) (transfer : Transfer) (broken : Broken) → broken_of ends transfer ≡ broken → listeners.Ends transfer.pgn o
+    → Contains (told_by ends o (Some transfer)) broken
+tells ends None transfer broken is ended = absurd ended
+tells ends (Some (Request size pgn)) transfer broken is ended = one_contained _ broken is
+tells ends (Some (Packet number bytes)) transfer broken is ended = absurd ended
+tells ends (Some (Offset packets)) transfer broken is ended = absurd ended
+tells ends (Some (Abort pgn)) transfer broken is ended =
+    subst (λ b. Contains (cond b (broken_of ends transfer ∷ []) []) broken) (sym (eq-eqb transfer.pgn pgn (sym ended))) (one_contained _ broken is)
+
+abbrev broken_with : ℕ → ℕ → ℕ → ℕ → ℕ → Broken
+broken_with source destination pgn size missing = record { source = source; destination = destination; pgn = pgn; size = size; missing = missing }
+
+same_broken : (ends : Ends) (transfer : Transfer) (broken : Broken) → broken.source ≡ ends.source → broken.destination ≡ ends.destination
+    → broken.pgn ≡ transfer.pgn → broken.size ≡ transfer.size → broken.missing ≡ transfer.missing → broken_of ends transfer ≡ broken
+same_broken ends transfer broken source destination pgn size missing =
+    sym (ap (λ s. broken_with s broken.destination broken.pgn broken.size broken.missing) source
+    ∙ ap (λ d. broken_with ends.source d broken.pgn broken.size broken.missing) destination
+    ∙ ap (λ p. broken_with ends.source ends.destination p broken.size broken.missing) pgn
+    ∙ ap (λ s. broken_with ends.source ends.destination transfer.pgn s broken.missing) size
+    ∙ ap (λ m. broken_with ends.source ends.destination transfer.pgn transfer.size m) missing)
+
+-- a transfer that stood at the entry of its channel is told
+told_at : (ends : Ends) (o : Option Part) (parts : List Part) (entry : Option Transfer) → IsEntryOf parts entry → (broken : Broken) (since : List Part)
+    → broken.source ≡ ends.source → broken.destination ≡ ends.destination → IsOpen parts broken.size broken.pgn since
+    → IsFirstMissing since broken.size broken.missing → listeners.Ends broken.pgn o → Contains (told_by ends o entry) broken
+told_at ends o parts None has broken since source destination stood missing ended = absurd (has.closed refl broken.size broken.pgn since stood)
+told_at ends o parts (Some transfer) has broken since source destination stood missing ended =
+    let state = has.stands transfer refl in
+    let same = requested_once parts broken.size broken.pgn transfer.size transfer.pgn since state.since stood.requested state.requested in
+    let P : List Part → Type 0 = λ l. IsFirstMissing l broken.size broken.missing in
+    let Q : ℕ → Type 0 = λ s. IsFirstMissing state.since s broken.missing in
+    let first = first_missing_once state.since transfer.size broken.missing transfer.missing (subst Q same.size_is (subst P same.since_is missing)) state.missing in
+    tells ends o transfer broken (same_broken ends transfer broken source destination same.pgn_is same.size_is first)
+    (let R : ℕ → Type 0 = λ p. listeners.Ends p o in subst R same.pgn_is ended)
+
+-- what is told at the entry of a channel is a transfer that the frame ends
+broken_from : (frames : List Frame) (frame : Frame) (ends : Ends) (o : Option Part) (listener : Listener) → HasHeard frames listener → ends.source < 2 ^ 8 → ends.destination < 2 ^ 8
+    → said (channel_between ends) frame ≡ o → (broken : Broken) → Contains (told_by ends o (get nat_cmp listener.transfers (channel_between ends))) broken
+    → IsBrokenBy frames frame broken
+broken_from frames frame ends o listener heard small small' says broken has =
+    let told = is_told ends o (get nat_cmp listener.transfers (channel_between ends)) broken has in
+    let state = (heard (channel_between ends)).stands told.transfer told.stood in
+    let made : IsBrokenBy frames frame (broken_of ends told.transfer) = record {
+      addresses = (small, small');
+      extended = ends.is_extended;
+      since = state.since;
+      stood = open_of (parts_in (channel_between ends) frames) told.transfer state;
+      ended = let P : Option Part → Type 0 = λ o. listeners.Ends told.transfer.pgn o in subst P (sym says) told.ended;
+      missing = state.missing;
+    } in
+    subst (IsBrokenBy frames frame) told.is made
+
+in_some : (b : Bool) (x y : ℕ) → cond b (Some x) None ≡ Some y → x ≡ y
+in_some true x y is = cc
+in_some false x y is = absurd (let e = is in cc)
+
+small_remainder : (n : ℕ) → n % 2 ^ 8 < 2 ^ 8
+small_remainder n = omega arith
+
+-- what is told of the other channel, which there is if the ends are two
+abbrev told_back : Ends → Option Part → Listener → Bool → List Broken
+told_back ends o listener one = cond one [] (told_by (swapped ends) o (get nat_cmp listener.transfers (channel_between (swapped ends))))
+
+module _ (frames : List Frame) (frame : Frame) (ends : Ends) (part : Part) (of : IsFrameOf frame ends part) (listener : Listener) (heard : HasHeard frames listener) where
+  small_source : ends.source < 2 ^ 8
+  small_source = let P : ℕ → Type 0 = λ n. n < 2 ^ 8 in subst P (sym of.source_is) (small_remainder frame.id)
+
+  small_destination : ends.destination < 2 ^ 8
+  small_destination =
+      let P : ℕ → Type 0 = λ n. n < 2 ^ 8 in
+      subst P (in_some (nat_lt (frame.id / 2 ^ 16 % 2 ^ 8) 240) (frame.id / 2 ^ 8 % 2 ^ 8) ends.destination of.destination_is) (small_remainder (frame.id / 2 ^ 8))
+
+  said_own : said (channel_between ends) frame ≡ sent (Some part)
+  said_own =
+      said_is frame ends part of (channel_between ends)
+      ∙ ap (λ b. cond b (sent (Some part)) (cond (eqb (channel_between ends) (channel_between (swapped ends))) (refused (Some part)) None))
+      (eq-eqb (channel_between ends) (channel_between ends) refl)
+
+  said_other : (ends.source ≡ ends.destination → ⊥) → said (channel_between (swapped ends)) frame ≡ refused (Some part)
+  said_other apart =
+      said_is frame ends part of (channel_between (swapped ends))
+      ∙ ap (λ b. cond b (sent (Some part)) (cond (eqb (channel_between (swapped ends)) (channel_between (swapped ends))) (refused (Some part)) None))
+      (ne_eqb (channel_between (swapped ends)) (channel_between ends) (λ same. back_apart ends.is_extended ends.source ends.destination apart (sym same)))
+      ∙ ap (λ b. cond b (refused (Some part)) None) (eq-eqb (channel_between (swapped ends)) (channel_between (swapped ends)) refl)
+
+  only_told : (broken : Broken) → Contains (told_in_both ends part listener) broken → IsBrokenBy frames frame broken
+  only_told broken has =
+      ⊎_elim
+      (λ at_own. broken_from frames frame ends (sent (Some part)) listener heard small_source small_destination said_own broken at_own)
+      (λ at_other. ⊎_elim
+      (λ (same : ends.source ≡ ends.destination).
+      absurd (none_contained broken (subst (λ b. Contains (told_back ends (refused (Some part)) listener b) broken) (eq-eqb ends.source ends.destination same) at_other)))
+      (λ (apart : ends.source ≡ ends.destination → ⊥).
+      broken_from frames frame (swapped ends) (refused (Some part)) listener heard small_destination small_source (said_other apart) broken
+      (subst (λ b. Contains (told_back ends (refused (Some part)) listener b) broken) (ne_eqb ends.source ends.destination apart) at_other))
+      (cases_eq ends.source ends.destination))
+      (Contains-append_cases (told_by ends (sent (Some part)) (get nat_cmp listener.transfers (channel_between ends)))
+      (told_back ends (refused (Some part)) listener (eqb ends.source ends.destination)) broken has)
+
+  told_in : (there : Ends) (o : Option Part) → there.source < 2 ^ 8 → there.destination < 2 ^ 8 → said (channel_between there) frame ≡ o
+      → (broken : Broken) (by : IsBrokenBy frames frame broken) → channel_of by.extended broken.source broken.destination ≡ channel_between there
+      → Contains (told_by there o (get nat_cmp listener.transfers (channel_between there))) broken
+  told_in there o small small' says broken by is =
+      let same = same_channel by.extended there.is_extended broken.source broken.destination there.source there.destination by.addresses.0 by.addresses.1 small small' is in
+      let P : ℕ → Type 0 = λ channel. IsOpen (parts_in channel frames) broken.size broken.pgn by.since in
+      let Q : ℕ → Type 0 = λ channel. listeners.Ends broken.pgn (said channel frame) in
+      let R : Option Part → Type 0 = λ o. listeners.Ends broken.pgn o in
+      told_at there o (parts_in (channel_between there) frames) (get nat_cmp listener.transfers (channel_between there)) (heard (channel_between there)) broken by.since
+      same.source_is same.destination_is (subst P is by.stood) by.missing (subst R says (subst Q is by.ended))
+
+  one_channel : ends.source ≡ ends.destination → channel_between (swapped ends) ≡ channel_between ends
+  one_channel same = ap (λ (p : ℕ × ℕ). channel_of ends.is_extended p.0 p.1) (cc)
+
+  says_none : (channel : ℕ) → (channel ≡ channel_between ends → ⊥) → (channel ≡ channel_between (swapped ends) → ⊥) → said channel frame ≡ None
+  says_none channel apart apart' =
+      said_is frame ends part of channel
+      ∙ ap (λ b. cond b (sent (Some part)) (cond (eqb channel (channel_between (swapped ends))) (refused (Some part)) None)) (ne_eqb channel (channel_between ends) apart)
+      ∙ ap (λ b. cond b (refused (Some part)) None) (ne_eqb channel (channel_between (swapped ends)) apart')
+
+  all_told : (broken : Broken) → IsBrokenBy frames frame broken → Contains (told_in_both ends part listener) broken
+  all_told broken by =
+      let channel = channel_of by.extended broken.source broken.destination in
+      let first = told_by ends (sent (Some part)) (get nat_cmp listener.transfers (channel_between ends)) in
+      let second = told_back ends (refused (Some part)) listener (eqb ends.source ends.destination) in
+      ⊎_elim
+      (λ (own : channel ≡ channel_between ends).
+      Contains-append_left first second broken (told_in ends (sent (Some part)) small_source small_destination said_own broken by own))
+      (λ (apart : channel ≡ channel_between ends → ⊥). ⊎_elim
+      (λ (other : channel ≡ channel_between (swapped ends)).
+      let two : ends.source ≡ ends.destination → ⊥ = λ same. apart (other ∙ one_channel same) in
+      Contains-append_right first second broken
+      (subst (λ b. Contains (told_back ends (refused (Some part)) listener b) broken) (sym (ne_eqb ends.source ends.destination two))
+      (told_in (swapped ends) (refused (Some part)) small_destination small_source (said_other two) broken by other)))
+      (λ (apart' : channel ≡ channel_between (swapped ends) → ⊥).
+      let P : Option Part → Type 0 = λ o. listeners.Ends broken.pgn o in
+      absurd (subst P (says_none channel apart apart') by.ended))
+      (cases_eq channel (channel_between (swapped ends))))
+      (cases_eq channel (channel_between ends))
+
+  pub are_told : AreBrokenBy frames frame (told_in_both ends part listener)
+  are_told broken = (only_told broken, all_told broken)
+
+-- a frame that says nothing ends no transfer
+pub none_broken : (frames : List Frame) (frame : Frame) → ((channel : ℕ) → said channel frame ≡ None) → AreBrokenBy frames frame []
+none_broken frames frame silent broken = (
+  λ has. absurd (none_contained broken has),
+  λ by. let P : Option Part → Type 0 = λ o. listeners.Ends broken.pgn o in
+      absurd (subst P (silent (channel_of by.extended broken.source broken.destination)) by.ended),
+)
+
+-- what is told of each part
+none_back : (ends : Ends) (listener : Listener) (one : Bool) → told_back ends None listener one ≡ []
+none_back ends listener true = refl
+none_back ends listener false = refl
+
+pub told_at_request : (ends : Ends) (size pgn : ℕ) (listener : Listener)
+    → told_in_both ends (Request size pgn) listener ≡ told_by ends (Some (Request size pgn)) (get nat_cmp listener.transfers (channel_between ends))
+told_at_request ends size pgn listener =
+    let first = told_by ends (Some (Request size pgn)) (get nat_cmp listener.transfers (channel_between ends)) in
+    ap (λ l. first ++ l) (none_back ends listener (eqb ends.source ends.destination)) ∙ append-nil first
+
+none_at_packet : (ends : Ends) (number : ℕ) (bytes : List ℕ) (entry : Option Transfer) → told_by ends (Some (Packet number bytes)) entry ≡ []
+none_at_packet ends number bytes None = refl
+none_at_packet ends number bytes (Some transfer) = refl
+
+none_at_offset : (ends : Ends) (packets : ℕ) (entry : Option Transfer) → told_by ends (Some (Offset packets)) entry ≡ []
+none_at_offset ends packets None = refl
+none_at_offset ends packets (Some transfer) = refl
+
+pub told_at_packet : (ends : Ends) (number : ℕ) (bytes : List ℕ) (listener : Listener) → told_in_both ends (Packet number bytes) listener ≡ []
+told_at_packet ends number bytes listener =
+    ap (λ l. l ++ told_back ends None listener (eqb ends.source ends.destination)) (none_at_packet ends number bytes (get nat_cmp listener.transfers (channel_between ends)))
+    ∙ none_back ends listener (eqb ends.source ends.destination)
+
+pub told_at_offset : (ends : Ends) (packets : ℕ) (listener : Listener) → told_in_both ends (Offset packets) listener ≡ []
+told_at_offset ends packets listener =
+    ap (λ l. l ++ told_back ends None listener (eqb ends.source ends.destination)) (none_at_offset ends packets (get nat_cmp listener.transfers (channel_between ends)))
+    ∙ none_back ends listener (eqb ends.source ends.destination)
+
+-- a listener that has taken in what a frame says has heard it
+pub hears : (frames : List Frame) (frame : Frame) (says : ℕ → Option Part) → ((channel : ℕ) → said channel frame ≡ says channel) → (m n : Transfers) → Takes says m n
+    → (channel : ℕ) → IsEntryOf (parts_in channel frames) (get nat_cmp m channel) → IsEntryOf (cons_option (said channel frame) (parts_in channel frames)) (get nat_cmp n channel)
+hears frames frame says is m n takes channel has =
+    let P : Option Part → Type 0 = λ o. IsEntryOf (cons_option o (parts_in channel frames)) (get nat_cmp n channel) in
+    subst P (sym (is channel)) (takes channel (parts_in channel frames) has)
+
+-- the answer to a packet
+pub answers : (frames : List Frame) (frame : Frame) (ends : Ends) (number : ℕ) (bytes : List ℕ) → IsFrameOf frame ends (Packet number bytes) → (answer : Option SentMessage)
+    → IsMadeWhole ends (parts_in (channel_between ends) frames) (Packet number bytes) answer → IsAnswer frames frame answer
+answers frames frame ends number bytes of None made = λ channel message completes.
+    let P : Option Part → Type 0 = λ o. Completes (parts_in channel frames) o message in
+    let says = said_is frame ends (Packet number bytes) of channel
+    ∙ sym (said_alone (eqb channel (channel_between ends)) (eqb channel (channel_between (swapped ends))) (Packet number bytes) (Some (Packet number bytes)) None refl refl) in
+    ⊎_elim
+    (λ (own : channel ≡ channel_between ends).
+    let Q : ℕ → Type 0 = λ c. Completes (parts_in c frames) (Some (Packet number bytes)) message in
+    made message (subst Q own (subst P (says ∙ ap (λ b. cond b (Some (Packet number bytes)) None) (eq-eqb channel (channel_between ends) own)) completes)))
+    (λ (apart : channel ≡ channel_between ends → ⊥).
+    absurd (subst P (says ∙ ap (λ b. cond b (Some (Packet number bytes)) None) (ne_eqb channel (channel_between ends) apart)) completes))
+    (cases_eq channel (channel_between ends))
+answers frames frame ends number bytes of (Some whole) made =
+    let P : Option Part → Type 0 = λ o. Completes (parts_in (channel_between ends) frames) o (message_of whole) in
+    let says = said_is frame ends (Packet number bytes) of (channel_between ends)
+    ∙ sym (said_alone (eqb (channel_between ends) (channel_between ends)) (eqb (channel_between ends) (channel_between (swapped ends))) (Packet number bytes) (Some (Packet number bytes)) None refl refl)
+    ∙ ap (λ b. cond b (Some (Packet number bytes)) None) (eq-eqb (channel_between ends) (channel_between ends) refl) in (
+      channel_between ends,
+      (ends.is_extended, ap (λ s. channel_of ends.is_extended s ends.destination) (sym made.0) ∙ ap (λ d. channel_of ends.is_extended whole.source d) (sym made.1)),
+      subst P (sym says) made.2,
+    )

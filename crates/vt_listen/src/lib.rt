@@ -1,0 +1,21 @@
+//! Messages between any two nodes of a bus, put together from the frames of a log.
+//!
+//! - `Listener` hears frames. It puts each packet of a transport protocol where its number says, so that a packet that came twice
+//!   or was sent again does no harm, and returns each `SentMessage` when its last packet has come.
+//! - `Broken` is a transfer that ended before it was whole, with the first packet that is missing.
+//!
+//! docs/PROFILE.md, "Transport messages", has the frames, and "Listening" the rules.
+#![tactic(auto)]
+
+mod broken;
+mod channel;
+mod listener;
+mod part;
+mod sent_message;
+#[cfg(test)]
+mod tests;
+mod transfer;
+
+pub use broken::Broken;
+pub use listener::Listener;
+pub use sent_message::SentMessage;
