@@ -1,8 +1,8 @@
 //! Ranks and costs on a graph of triggers.
 //!
 //! - `Graph` has an `Item` for each step, group and choice of a node.
-//! - `rank` returns `Ranks` or a `Circle`. `costs` returns `Costs`, or what is `OverBudget`. `reached` returns the nodes that some
-//!   nodes trigger.
+//! - `rank` returns `Ranks` or a `Circle`; `rank_on_heap` does the same with less stack. `costs` returns `Costs`, or
+//!   what is `OverBudget`. `reached` returns the nodes that some nodes trigger.
 //! - `laws` has theorems about the definitions in specs/.
 //!
 //! docs/PROFILE.md has the rules: "Triggers and circles", "Costs and budgets". A node is a macro, an item the
@@ -26,5 +26,5 @@ pub use capped::{costs, costs_up_to};
 pub use circle::Circle;
 pub use gather::reached;
 pub use graph::{Graph, Item};
-pub use ranking::{Ranks, rank};
+pub use ranking::{Ranks, rank, rank_on_heap};
 pub use table::cost_of_nodes;

@@ -1,7 +1,7 @@
 use Rattle.std.proofs.Common.{ℕ, ◌<◌, []}
 use Rattle.vt_rank.specs.NodeSets.{IsIn, AreTargets}
 use Rattle.vt_rank.specs.Searches.{IsSearch}
-use Rattle.vt_rank.proofs.ranking.rank.Given as goal
+use Rattle.vt_rank.proofs.ranking.rank_with_rows.Given as goal
 
 abbrev pub invariant-loop-node : goal.invariant-loop-node
 invariant-loop-node l = record {

@@ -1,7 +1,7 @@
 use Rattle.std.proofs.Common.{arith}
 use Rattle.vt_rank.proofs.PathsAndCircles.{no_circle}
 use Rattle.vt_rank.proofs.RankSearch.{all_ranked}
-use Rattle.vt_rank.proofs.ranking.rank.Goals as goal
+use Rattle.vt_rank.proofs.ranking.rank_with_rows.Goals as goal
 
 pub loop-node-init : goal.loop-node-init
 loop-node-init c = record {
