@@ -1,6 +1,6 @@
 //! Costs under a cap.
 
-ghost use Rattle.std.specs.Prelude.{◌≡◌, ℕ, List, ◌<◌, ◌≤◌, IfOk, IfErr, IfSome, IfNone, slice_index};
+ghost use Rattle.std.specs.Prelude.{◌≡◌, ℕ, List, ◌<◌, ◌≤◌, ◌^◌, IfOk, IfErr, IfSome, IfNone, length, slice_index};
 ghost use Rattle.vt_rank.specs.Paths.{AreRanks};
 ghost use Rattle.vt_rank.specs.declared.graph.Graph.{Graph as Network};
 ghost use Rattle.vt_rank.specs.Costs.{group_total, AreCosts, AreCostsUpTo, IsWithin, IsFirstOverCap, CostsAreTotals};
@@ -14,8 +14,10 @@ use crate::table::{cost_of_nodes, fill, no_costs};
 /// over it. A step costs one, a group the sum of its nodes' costs, and `Item::Most` the cost of the costliest
 /// of its groups, or 0 without groups. `ranks` are those of this graph.
 ///
-/// Does not allocate. Uses about six kilobytes of stack on x86-64. Visits each node once. Reads each item once, with the nodes of its
-/// group, the groups of `Item::Most` once in all, and at the end each group once more.
+/// Does not allocate. Uses about three kilobytes of stack on x86-64, and is not inlined, so that they are free again when it
+/// returns. Visits each node once. Reads each item once, with the nodes of its group, the groups of `Item::Most` once in all, and
+/// at the end each group once more.
+#[inline(never)]
 pub fn costs(graph: &Graph, ranks: &Ranks, cap: u32) -> Result<Costs, OverBudget>
     requires { AreRanks graph.now ranks.now }
     ensures costs { IfOk result (AreCosts graph.now) }
@@ -31,14 +33,15 @@ pub fn costs(graph: &Graph, ranks: &Ranks, cap: u32) -> Result<Costs, OverBudget
     for rank in 0..256usize {
         fill(graph, ranks, rank as u8, limit, &mut table, &mut most);
     }
-    let costs = match nodes_within(&table, cap) {
-        Ok(costs) => costs,
-        Err(node) => return Err(OverBudget::Node(node)),
-    };
-    match group_over(graph, &table, cap) {
-        Some(group) => Err(OverBudget::Group(group)),
-        None => Ok(Costs { costs }),
+    if let Some(node) = node_over(&table, cap) {
+        return Err(OverBudget::Node(node));
     }
+    if let Some(group) = group_over(graph, &table, cap) {
+        return Err(OverBudget::Group(group));
+    }
+    let mut costs = Costs { costs: [0; 256] };
+    copy_costs(&table, &mut costs.costs);
+    Ok(costs)
 }
 
 /// The cost of each node, but at most `limit`. `ranks` are those of this graph.
@@ -57,21 +60,29 @@ pub fn costs_up_to(graph: &Graph, ranks: &Ranks, limit: u64) -> [u64; 256]
     table
 }
 
-// Returns the costs of all nodes, or the least node over the cap.
-fn nodes_within(table: &[u64; 256], cap: u32) -> Result<[u32; 256], u8>
-    ensures costs { IfOk result (λ costs. (n : ℕ) → n < 256 → slice_index costs n ≡ slice_index table.now n) }
-    ensures within { IfOk result (λ _. (n : ℕ) → n < 256 → slice_index table.now n ≤ cap) }
-    ensures over { IfErr result (λ n. cap < slice_index table.now n) }
-    ensures least { IfErr result (λ n. (m : ℕ) → m < n → slice_index table.now m ≤ cap) }
+// Returns the least node over the cap.
+fn node_over(table: &[u64; 256], cap: u32) -> Option<u8>
+    ensures over { IfSome result (λ n. cap < slice_index table.now n) }
+    ensures least { IfSome result (λ n. (m : ℕ) → m < n → slice_index table.now m ≤ cap) }
+    ensures none { IfNone result ((n : ℕ) → n < 256 → slice_index table.now n ≤ cap) }
 {
-    let mut costs = [0; 256];
     for node in 0..256usize {
         if table[node] > u64::from(cap) {
-            return Err(node as u8);
+            return Some(node as u8);
         }
+    }
+    None
+}
+
+// Copies costs that fit 32 bits.
+fn copy_costs(table: &[u64; 256], costs: &mut [u32; 256])
+    requires { (n : ℕ) → n < 256 → slice_index table.now n < 2 ^ 32 }
+    ensures size { length costs.new ≡ 256 }
+    ensures copies { (n : ℕ) → n < 256 → slice_index costs.new n ≡ slice_index table.now n }
+{
+    for node in 0..256usize {
         costs[node] = table[node] as u32;
     }
-    Ok(costs)
 }
 
 // Returns the first group over the cap.
