@@ -29,34 +29,46 @@ pub fn find_depths<S: Store>(store: &S, depths: &mut [u8], most: u8) -> Result<(
     ensures err { IfErr result (λ chain. IsTooDeep most (inclusions_of (S.contents store.now)) chain.items) }
 {
     depths.fill(UNSET);
+    let mut chain = ArrayVec::new();
     for index in 0..depths.len() {
-        depth_at(store, depths, index, most)?;
+        if depth_at(store, depths, index, most, &mut chain).is_none() {
+            return Err(chain);
+        }
     }
     Ok(())
 }
 
-/// Finds the depth of the object at an index, or a chain of `most` + 1 inclusions that begins with it.
+/// Finds the depth of the object at an index, or returns none and writes a chain of `most` + 1 inclusions that begins with
+/// it. The chain is written where the search began: a copy at each level of the recursion would take more stack than all
+/// else in it.
 #[cycle(depth)]
 #[inline(never)]
-fn depth_at<S: Store>(store: &S, depths: &mut [u8], index: usize, most: u8) -> Result<u8, Chain>
+fn depth_at<S: Store>(
+    store: &S,
+    depths: &mut [u8],
+    index: usize,
+    most: u8,
+    chain: &mut Chain,
+) -> Option<u8>
     requires found { AreDepthsSoFar (ids_of (S.contents store.now)) (inclusions_of (S.contents store.now)) depths.old }
     requires closed { IsClosed (ids_of (S.contents store.now)) (inclusions_of (S.contents store.now)) }
     requires index { index < length depths.old }
     requires most { most ≤ 32 }
     ensures found { AreDepthsSoFar (ids_of (S.contents store.now)) (inclusions_of (S.contents store.now)) depths.new }
     ensures keeps { KeepsDepths depths.old depths.new }
-    ensures within { IfOk result (λ depth. depth ≤ most) }
-    ensures ok { IfOk result (λ depth. slice_index depths.new index ≡ depth) }
-    ensures err { IfErr result (λ chain. (id : ℕ) → IsIdAt (ids_of (S.contents store.now)) index id → BeginsChain (inclusions_of (S.contents store.now)) id (most + 1) chain.items) }
+    ensures within { IfSome result (λ depth. depth ≤ most) }
+    ensures some { IfSome result (λ depth. slice_index depths.new index ≡ depth) }
+    ensures none { IfNone result ((id : ℕ) → IsIdAt (ids_of (S.contents store.now)) index id → BeginsChain (inclusions_of (S.contents store.now)) id (most + 1) chain.new.items) }
 {
     let depth = depths[index];
     if depth == UNSET {
-        return depth_of_entry(store, depths, index, most);
+        return depth_of_entry(store, depths, index, most, chain);
     }
     if depth > most {
-        return Err(chain_from(store, depths, index, most + 1));
+        write_chain(store, depths, index, most + 1, chain);
+        return None;
     }
-    Ok(depth)
+    Some(depth)
 }
 
 /// Finds the depth of the object at an index from the depths of its inclusions.
@@ -66,32 +78,33 @@ fn depth_of_entry<S: Store>(
     depths: &mut [u8],
     index: usize,
     most: u8,
-) -> Result<u8, Chain>
+    chain: &mut Chain,
+) -> Option<u8>
     requires found { AreDepthsSoFar (ids_of (S.contents store.now)) (inclusions_of (S.contents store.now)) depths.old }
     requires closed { IsClosed (ids_of (S.contents store.now)) (inclusions_of (S.contents store.now)) }
     requires index { index < length depths.old }
     requires most { most ≤ 32 }
     ensures found { AreDepthsSoFar (ids_of (S.contents store.now)) (inclusions_of (S.contents store.now)) depths.new }
     ensures keeps { KeepsDepths depths.old depths.new }
-    ensures within { IfOk result (λ depth. depth ≤ most) }
-    ensures ok { IfOk result (λ depth. slice_index depths.new index ≡ depth) }
-    ensures err { IfErr result (λ chain. (id : ℕ) → IsIdAt (ids_of (S.contents store.now)) index id → BeginsChain (inclusions_of (S.contents store.now)) id (most + 1) chain.items) }
+    ensures within { IfSome result (λ depth. depth ≤ most) }
+    ensures some { IfSome result (λ depth. slice_index depths.new index ≡ depth) }
+    ensures none { IfNone result ((id : ℕ) → IsIdAt (ids_of (S.contents store.now)) index id → BeginsChain (inclusions_of (S.contents store.now)) id (most + 1) chain.new.items) }
 {
     let (id, object) = entry(store, index);
-    match deepest(store, depths, id, object, most) {
-        Ok(depth) => {
+    match deepest(store, depths, id, object, most, chain) {
+        Some(depth) => {
             depths[index] = depth;
-            Ok(depth)
+            Some(depth)
         }
-        Err(mut chain) => {
+        None => {
             chain.insert(0, id);
-            Err(chain)
+            None
         }
     }
 }
 
-/// One more than the greatest depth of an object's inclusions, or a chain of `most` inclusions that begins with one of
-/// them.
+/// One more than the greatest depth of an object's inclusions, or none and a chain of `most` inclusions that begins with
+/// one of them.
 #[cycle(depth)]
 fn deepest<S: Store>(
     store: &S,
@@ -99,29 +112,30 @@ fn deepest<S: Store>(
     id: ObjectId,
     object: &Object<Vec<u8>>,
     most: u8,
-) -> Result<u8, Chain>
+    chain: &mut Chain,
+) -> Option<u8>
     requires object { finite.get (S.contents store.now) id ≡ Some (seen object.now) }
     requires found { AreDepthsSoFar (ids_of (S.contents store.now)) (inclusions_of (S.contents store.now)) depths.old }
     requires closed { IsClosed (ids_of (S.contents store.now)) (inclusions_of (S.contents store.now)) }
     requires most { most ≤ 32 }
     ensures found { AreDepthsSoFar (ids_of (S.contents store.now)) (inclusions_of (S.contents store.now)) depths.new }
     ensures keeps { KeepsDepths depths.old depths.new }
-    ensures within { IfOk result (λ depth. depth ≤ most) }
-    ensures ok { IfOk result (IsDepth (ids_of (S.contents store.now)) (inclusions_of (S.contents store.now)) depths.new id) }
-    ensures err { IfErr result (λ chain. IncludesChain (inclusions_of (S.contents store.now)) id most chain.items) }
+    ensures within { IfSome result (λ depth. depth ≤ most) }
+    ensures some { IfSome result (IsDepth (ids_of (S.contents store.now)) (inclusions_of (S.contents store.now)) depths.new id) }
+    ensures none { IfNone result (IncludesChain (inclusions_of (S.contents store.now)) id most chain.new.items) }
 {
     let mut deepest = 0;
     for slot in slots(object) {
         if includes(&slot) {
-            let depth = depth_of_included(store, depths, slot.id, most)?;
+            let depth = depth_of_included(store, depths, slot.id, most, chain)?;
             deepest = deepest.max(depth + 1);
         }
     }
-    Ok(deepest)
+    Some(deepest)
 }
 
-/// Finds the depth of an included ID, less than `most`, or a chain of `most` inclusions that begins with it. Most depths
-/// are known already; one not yet found is 255, above every `most`.
+/// Finds the depth of an included ID, less than `most`, or none and a chain of `most` inclusions that begins with it. Most
+/// depths are known already; one not yet found is 255, above every `most`.
 #[cycle(depth)]
 #[inline]
 fn depth_of_included<S: Store>(
@@ -129,28 +143,29 @@ fn depth_of_included<S: Store>(
     depths: &mut [u8],
     id: ObjectId,
     most: u8,
-) -> Result<u8, Chain>
+    chain: &mut Chain,
+) -> Option<u8>
     requires there { (index : ℕ) × IsIdAt (ids_of (S.contents store.now)) index id }
     requires found { AreDepthsSoFar (ids_of (S.contents store.now)) (inclusions_of (S.contents store.now)) depths.old }
     requires closed { IsClosed (ids_of (S.contents store.now)) (inclusions_of (S.contents store.now)) }
     requires most { most ≤ 32 }
     ensures found { AreDepthsSoFar (ids_of (S.contents store.now)) (inclusions_of (S.contents store.now)) depths.new }
     ensures keeps { KeepsDepths depths.old depths.new }
-    ensures within { IfOk result (λ depth. depth < most) }
-    ensures ok { IfOk result (λ depth. IsAtDepth (ids_of (S.contents store.now)) depths.new id depth) }
-    ensures err { IfErr result (λ chain. BeginsChain (inclusions_of (S.contents store.now)) id most chain.items) }
+    ensures within { IfSome result (λ depth. depth < most) }
+    ensures some { IfSome result (λ depth. IsAtDepth (ids_of (S.contents store.now)) depths.new id depth) }
+    ensures none { IfNone result (BeginsChain (inclusions_of (S.contents store.now)) id most chain.new.items) }
 {
     let index = index_of(store, id);
     let depth = depths[index];
     if depth < most {
-        return Ok(depth);
+        return Some(depth);
     }
     if most == 0 {
-        let mut chain = ArrayVec::new();
+        chain.clear();
         chain.push(id);
-        return Err(chain);
+        return None;
     }
-    depth_at(store, depths, index, most - 1)
+    depth_at(store, depths, index, most - 1, chain)
 }
 
 /// The index of an ID in the store.
@@ -176,24 +191,25 @@ pub fn entry<S: Store>(store: &S, index: usize) -> (ObjectId, &Object<Vec<u8>>)
     }
 }
 
-/// The chain of `count` inclusions that begins with the object at an index, whose depth is at least `count`.
-fn chain_from<S: Store>(store: &S, depths: &[u8], index: usize, count: u8) -> Chain
+/// Writes the chain of `count` inclusions that begins with the object at an index, whose depth is at least `count`. It is
+/// not inlined, since its frame would be in each level of the recursion.
+#[inline(never)]
+fn write_chain<S: Store>(store: &S, depths: &[u8], index: usize, count: u8, chain: &mut Chain)
     requires found { AreDepthsSoFar (ids_of (S.contents store.now)) (inclusions_of (S.contents store.now)) depths.now }
     requires closed { IsClosed (ids_of (S.contents store.now)) (inclusions_of (S.contents store.now)) }
     requires index { index < length depths.now }
     requires is_found { slice_index depths.now index ≢ unset }
     requires deep { count ≤ slice_index depths.now index }
     requires count { count ≤ 33 }
-    ensures { (id : ℕ) → IsIdAt (ids_of (S.contents store.now)) index id → BeginsChain (inclusions_of (S.contents store.now)) id count result.items }
+    ensures { (id : ℕ) → IsIdAt (ids_of (S.contents store.now)) index id → BeginsChain (inclusions_of (S.contents store.now)) id count chain.new.items }
 {
-    let mut chain = ArrayVec::new();
     let mut index = index;
+    chain.clear();
     chain.push(entry(store, index).0);
     for step in 0..count {
         index = next(store, depths, index, count - 1 - step);
         chain.push(entry(store, index).0);
     }
-    chain
 }
 
 /// The index of an inclusion of the object at an index, with at least this depth.

@@ -34,21 +34,21 @@ deepest-loop-slot-preserved-then-includes g t c =
       subst (λ (n : ℕ). IsSearch (ids_of m) (inclusions_of m) c.args.depths.now c.depth_of_included.new.depths c.args.id n c.args.most c.next.new.self) (sym (c.max-deepest.ensures ∙ max_is c.loop-slot.deepest (c.in_ok-depth.depth + 1)))
           (search_goes_on (ids_of m) (inclusions_of m) c.args.depths.now c.loop-slot.depths c.depth_of_included.new.depths c.args.id c.loop-slot.deepest c.args.most c.in-Some.slot
           c.next.new.self _ c.requires.most (sym c.includes.ensures ∙ c.if-includes.true) c.depth_of_included.ensures.found c.depth_of_included.ensures.keeps
-          c.in_ok-depth.ensures.ok lt
+          c.in_ok-depth.ensures.some lt
           (subst (IsSearch (ids_of m) (inclusions_of m) c.args.depths.now c.loop-slot.depths c.args.id c.loop-slot.deepest c.args.most) c.in-Some.ensures.steps c.loop-slot.invariant.2)),
     )
 
-pub depth_of_entry-returns-in-Ok-clause-found : goal.depth_of_entry-returns-in-Ok-clause-found
-depth_of_entry-returns-in-Ok-clause-found g t c =
+pub depth_of_entry-returns-in-Some-clause-found : goal.depth_of_entry-returns-in-Some-clause-found
+depth_of_entry-returns-in-Some-clause-found g t c =
     let m = g.S.Store.contents c.args.store.now in
-    let le = c.in-Ok.ensures.within in
+    let le = c.in-Some.ensures.within in
     let most = c.requires.most in
-    put_depth (ids_of m) (inclusions_of m) c.deepest.new.depths (once m) c.deepest.ensures.found c.args.index _ c.in-Ok.depth c.entry-id.ensures.stands (omega (arith, le, most)) c.in-Ok.ensures.ok
+    put_depth (ids_of m) (inclusions_of m) c.deepest.new.depths (once m) c.deepest.ensures.found c.args.index _ c.in-Some.depth c.entry-id.ensures.stands (omega (arith, le, most)) c.in-Some.ensures.some
 
-pub depth_of_entry-returns-in-Ok-clause-keeps : goal.depth_of_entry-returns-in-Ok-clause-keeps
-depth_of_entry-returns-in-Ok-clause-keeps g t c =
+pub depth_of_entry-returns-in-Some-clause-keeps : goal.depth_of_entry-returns-in-Some-clause-keeps
+depth_of_entry-returns-in-Some-clause-keeps g t c =
     let m = g.S.Store.contents c.args.store.now in
-    let le = c.in-Ok.ensures.within in
+    let le = c.in-Some.ensures.within in
     let most = c.requires.most in
     KeepsDepths-trans c.args.depths.now c.deepest.new.depths _ c.deepest.ensures.keeps
-    (put_keeps (ids_of m) (inclusions_of m) c.deepest.new.depths (once m) c.deepest.ensures.found c.args.index _ c.in-Ok.depth c.entry-id.ensures.stands (omega (arith, le, most)) c.in-Ok.ensures.ok)
+    (put_keeps (ids_of m) (inclusions_of m) c.deepest.new.depths (once m) c.deepest.ensures.found c.args.index _ c.in-Some.depth c.entry-id.ensures.stands (omega (arith, le, most)) c.in-Some.ensures.some)

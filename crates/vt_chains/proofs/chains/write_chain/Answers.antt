@@ -2,7 +2,7 @@ use Rattle.std.proofs.Common.{◌+◌, sym, subst, arith}
 use Rattle.vt_chains.specs.Depths.{ids_of, inclusions_of}
 use Rattle.vt_chains.proofs.IdIndices.{within}
 use Rattle.vt_chains.proofs.DepthSearch.{IsGrowing, growing_more}
-use Rattle.vt_chains.proofs.chains.chain_from.Goals as goal
+use Rattle.vt_chains.proofs.chains.write_chain.Goals as goal
 
 pub loop-step-preserved : goal.loop-step-preserved
 loop-step-preserved g c =

@@ -1,6 +1,6 @@
 use Rattle.vt_chains.specs.Depths.{ids_of, inclusions_of}
 use Rattle.vt_chains.proofs.DepthSearch.{IsGrowing}
-use Rattle.vt_chains.proofs.chains.chain_from.Given as goal
+use Rattle.vt_chains.proofs.chains.write_chain.Given as goal
 
 abbrev pub invariant-loop-step : goal.invariant-loop-step
 invariant-loop-step g l =
