@@ -2,12 +2,14 @@
 
 ghost use Rattle.std.specs.Prelude.{◌≡◌, ◌≤◌, OnOk, IfOk, IfErr};
 ghost use Rattle.vt_stores.specs.Stores.{AreStored, by_rising_id};
-ghost use Rattle.vt_rank.specs.Costs.{AreCosts};
+ghost use Rattle.vt_rank.specs.Costs.{IsFirstOverCap};
+ghost use Rattle.vt_rank.specs.Graphs.{lists};
 ghost use Rattle.vt_rank.specs.Paths.{AreRanks, HasNoCircle};
 ghost use Rattle.vt_stores.specs.Shapes.{shape_of};
-ghost use Rattle.vt_verify.specs.Budgets.{MacroCostsAreTotals};
+ghost use Rattle.vt_verify.specs.Budgets.{AreBudgets, MacroCostsAreTotals};
 ghost use Rattle.vt_chains.specs.Depths.{HasDepths};
-ghost use Rattle.vt_verify.specs.TriggerGraphs.{IsTriggerGraph};
+ghost use Rattle.vt_verify.specs.Orders.{IsByRank};
+ghost use Rattle.vt_verify.specs.TriggerGraphs.{AreListings, IsTriggerGraph};
 ghost use Rattle.vt_verify.specs.Updates.{updated};
 ghost use Rattle.vt_verify.specs.Rules.{IsAcceptable, IsVerified, IsRefused, IsWantOfMemory, HoldBefore, ReferencesAreThere, ChainsAreShort, MacrosAreWhole, TargetsAreThere, AttributesAreThere, TriggersAreNoCircle, BudgetsAreWithin};
 ghost use Rattle.vt_chains.specs.Limits.{terminal};
@@ -26,7 +28,7 @@ use std::alloc::Global;
 use vt_chains::{Limits, TERMINAL_LIMITS, find_depths};
 use vt_objects::{Kind, ObjectId, SortedStore, Store};
 use vt_pool::Pool;
-use vt_rank::{Costs, OverBudget, Ranks, costs, rank};
+use vt_rank::{OverBudget, Ranks, costs, rank_on_heap};
 
 /// Verifies a pool. A refusal reports the first rule that the pool breaks, and its first culprit, or some chain or
 /// circle.
@@ -82,11 +84,7 @@ fn accept(alloc: Global, objects: SortedStore) -> Result<Accepted, Refusal>
     let depths = check_inclusions(alloc, &objects, TERMINAL_LIMITS)?;
     check_macros(&objects)?;
     check_targets(&objects)?;
-    let triggers = TriggerGraph::of_objects(alloc, &objects)?;
-    let ranks = check_circles(&objects, &triggers)?;
-    let costs = check_costs(&objects, &triggers, &ranks, TERMINAL_LIMITS)?;
-    let order = by_rank(alloc, &objects, &triggers, &ranks)?;
-    let budgets = Budgets::of_triggers(alloc, triggers, &costs)?;
+    let (budgets, order) = budgets_and_order(alloc, &objects)?;
     Ok(Accepted {
         objects,
         depths,
@@ -229,43 +227,92 @@ fn refuse_target(objects: &SortedStore) -> Result<(), Refusal>
     }
 }
 
-fn check_circles(objects: &SortedStore, triggers: &TriggerGraph) -> Result<Ranks, Refusal>
+/// Tests the rules of triggers and costs. Returns the budgets of the events, and the macros in the order of their ranks. It is
+/// not inlined: the ranks and costs would be in the frame of `accept`, and so on the stack during the search for chains.
+#[inline(never)]
+fn budgets_and_order(alloc: Global, objects: &SortedStore) -> Result<(Budgets, Vec<u8>), Refusal>
+    requires stored { AreStored objects.now }
+    requires before { HoldBefore terminal objects.now TriggersAreNoCircle }
+    ensures ok { OnOk result (IsAcceptable terminal objects.now) }
+    ensures totals { OnOk result (MacroCostsAreTotals (shape_of objects.now)) }
+    ensures budgets { IfOk result (λ made. AreBudgets (shape_of objects.now) made.0.events.keys made.0.steps.items) }
+    ensures listings { IfOk result (λ made. AreListings (shape_of objects.now) (made.0.events.keys, lists made.0.groups)) }
+    ensures order { IfOk result (λ made. IsByRank (shape_of objects.now) made.1.items) }
+    ensures refused { IfErr result (IsRefused terminal objects.now) }
+{
+    let triggers = TriggerGraph::of_objects(alloc, objects)?;
+    let ranks = check_circles(alloc, objects, &triggers)?;
+    let order = by_rank(alloc, objects, &triggers, &ranks)?;
+    let budgets = check_costs(alloc, objects, triggers, &ranks, TERMINAL_LIMITS)?;
+    Ok((budgets, order))
+}
+
+/// Ranks the macros, or refuses a circle. It is not inlined, so that its stack is free again when costs are computed.
+#[inline(never)]
+fn check_circles(
+    alloc: Global,
+    objects: &SortedStore,
+    triggers: &TriggerGraph,
+) -> Result<Ranks, Refusal>
     requires before { HoldBefore terminal objects.now TriggersAreNoCircle }
     requires triggers { IsTriggerGraph (shape_of objects.now) triggers.now.events.keys triggers.now.graph }
     ensures ok { OnOk result (HoldBefore terminal objects.now BudgetsAreWithin) }
     ensures ranks { IfOk result (AreRanks triggers.now.graph) }
     ensures refused { IfErr result (IsRefused terminal objects.now) }
-    ensures no_memory { IfErr result (λ refusal. IsWantOfMemory refusal → ⊥) }
 {
-    match rank(&triggers.graph) {
+    let ranked = rank_on_heap(alloc, &triggers.graph)?;
+    match ranked {
         Ok(ranks) => Ok(ranks),
         Err(circle) => Err(Refusal::MacroCircle { path: circle.path }),
     }
 }
 
+/// Finds the budgets of the events from the costs of the macros, or refuses what is over the limit. It is not inlined, so that
+/// the table of costs is on the stack no longer than it is needed.
+#[inline(never)]
 fn check_costs(
+    alloc: Global,
     objects: &SortedStore,
-    triggers: &TriggerGraph,
+    triggers: TriggerGraph,
     ranks: &Ranks,
     limits: Limits,
-) -> Result<Costs, Refusal>
+) -> Result<Budgets, Refusal>
+    requires stored { AreStored objects.now }
+    requires before { HoldBefore limits objects.now BudgetsAreWithin }
+    requires triggers { IsTriggerGraph (shape_of objects.now) triggers.events.keys triggers.graph }
+    requires ranks { AreRanks triggers.graph ranks.now }
+    ensures ok { OnOk result (IsAcceptable limits objects.now) }
+    ensures totals { OnOk result (MacroCostsAreTotals (shape_of objects.now)) }
+    ensures budgets { IfOk result (λ budgets. AreBudgets (shape_of objects.now) budgets.events.keys budgets.steps.items) }
+    ensures listings { IfOk result (λ budgets. AreListings (shape_of objects.now) (budgets.events.keys, lists budgets.groups)) }
+    ensures refused { IfErr result (IsRefused limits objects.now) }
+{
+    match &costs(&triggers.graph, ranks, limits.steps) {
+        Ok(costs) => Ok(Budgets::of_triggers(alloc, triggers, costs)?),
+        Err(over) => Err(over_budget(objects, &triggers, *over, limits)),
+    }
+}
+
+/// The refusal of a macro that costs too much, or of the object of an event that does.
+fn over_budget(
+    objects: &SortedStore,
+    triggers: &TriggerGraph,
+    over: OverBudget,
+    limits: Limits,
+) -> Refusal
     requires stored { AreStored objects.now }
     requires before { HoldBefore limits objects.now BudgetsAreWithin }
     requires triggers { IsTriggerGraph (shape_of objects.now) triggers.now.events.keys triggers.now.graph }
-    requires ranks { AreRanks triggers.now.graph ranks.now }
-    ensures ok { OnOk result (IsAcceptable limits objects.now) }
-    ensures costs { IfOk result (AreCosts triggers.now.graph) }
-    ensures totals { IfOk result (λ _. MacroCostsAreTotals (shape_of objects.now)) }
-    ensures refused { IfErr result (IsRefused limits objects.now) }
-    ensures no_memory { IfErr result (λ refusal. IsWantOfMemory refusal → ⊥) }
+    requires over { IsFirstOverCap triggers.now.graph limits.steps over }
+    ensures refused { IsRefused limits objects.now result }
+    ensures no_memory { IsWantOfMemory result → ⊥ }
 {
-    match costs(&triggers.graph, ranks, limits.steps) {
-        Ok(costs) => Ok(costs),
-        Err(OverBudget::Node(id)) => Err(Refusal::OverBudget {
+    match over {
+        OverBudget::Node(id) => Refusal::OverBudget {
             id: ObjectId::from_raw(u16::from(id)),
-        }),
-        Err(OverBudget::Group(group)) => Err(Refusal::OverBudget {
+        },
+        OverBudget::Group(group) => Refusal::OverBudget {
             id: triggers.events[group].id,
-        }),
+        },
     }
 }

@@ -2,7 +2,6 @@ use Rattle.std.proofs.Common.{List, map, ap, ◌∙◌}
 use Rattle.vt_rank.specs.Graphs.{lists}
 use Rattle.vt_verify.specs.declared.listing.Listing.{Listing}
 use Rattle.vt_verify.specs.Triggers.{listed}
-use Rattle.vt_verify.specs.TriggerGraphs.{Groups}
 use Rattle.vt_verify.proofs.lemmas.graphs.SameTriggers.{listings_are}
 use Rattle.vt_verify.proofs.triggers.TriggerGraph.into_listings.Goals as goal
 
