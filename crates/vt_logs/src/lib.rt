@@ -19,4 +19,5 @@ pub use counts::Counts;
 pub use fault::ReplayFault;
 pub use log::{replay, replay_with_notes};
 pub use notes::{FaultyLine, Hint, Notes, RefusedActions};
+pub use progress::Progress;
 pub use streams::{Sink, Source, Stream};

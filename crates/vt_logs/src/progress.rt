@@ -152,7 +152,7 @@ impl Progress {
     }
 
     /// Takes the line of the pending bytes and `part`. No bytes are pending then.
-    fn end_line<W: Sink>(
+    pub fn end_line<W: Sink>(
         &mut self,
         part: &[u8],
         terminal: &mut Terminal,

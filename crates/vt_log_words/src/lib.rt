@@ -1,0 +1,13 @@
+//! The words of the program `segyolant_log`, and the options that they give.
+//!
+//! `Options::parse` reads the words, and returns the `Options` of a subcommand or a `UsageError`. docs/LOGS.md has the subcommands.
+#![tactic(auto)]
+
+mod options;
+mod refusal;
+mod words;
+
+pub use options::{
+    Format, OperatorOptions, Options, PoolsOptions, StartSet, TerminalOptions, TestOptions,
+};
+pub use refusal::UsageError;

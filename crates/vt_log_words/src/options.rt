@@ -1,0 +1,238 @@
+//! The options that the words give.
+
+use crate::refusal::UsageError;
+use crate::words::command;
+use clap::ArgMatches;
+use hex::FromHex;
+use std::alloc::{AllocError, Global};
+use std::convert::AsStr;
+
+/// The options that the words give, by the subcommand.
+#[derive(Drop)]
+pub enum Options<'a> {
+    /// `pools`.
+    Pools(PoolsOptions<'a>),
+    /// `operator`.
+    Operator(OperatorOptions<'a>),
+    /// `test`.
+    Test(TestOptions<'a>),
+}
+
+/// The form of the output.
+#[derive(Clone, Copy, Debug, PartialEq, Eq)]
+pub enum Format {
+    /// Lines for people.
+    Text,
+    /// Lines of JSON.
+    Json,
+}
+
+/// The options of `pools`.
+#[derive(Drop)]
+pub struct PoolsOptions<'a> {
+    /// The file of the log.
+    pub log: &'a str,
+    /// The folder for the pools, or `None` to write none.
+    pub folder: Option<&'a str>,
+    /// The files of names.
+    pub names: Vec<&'a str>,
+    /// The form of the output.
+    pub format: Format,
+}
+
+/// The options of `operator`.
+#[derive(Clone, Copy, Debug, PartialEq, Eq)]
+pub struct OperatorOptions<'a> {
+    /// The file of the log.
+    pub log: &'a str,
+    /// The address of the recorded terminal.
+    pub own: u8,
+}
+
+/// The options of `test`.
+#[derive(Drop)]
+pub struct TestOptions<'a> {
+    /// The files of the logs.
+    pub logs: Vec<&'a str>,
+    /// Whether each log is written anew, with the expectations that it meets.
+    pub blesses: bool,
+    /// The terminal.
+    pub terminal: TerminalOptions<'a>,
+}
+
+/// The terminal that replays a log.
+#[derive(Clone, Copy, Debug, PartialEq, Eq)]
+pub struct TerminalOptions<'a> {
+    /// Its address, at most 253.
+    pub own: u8,
+    /// Its NAME.
+    pub name: u64,
+    /// The working set that is there from the start.
+    pub set: Option<StartSet<'a>>,
+}
+
+/// A working set that is there from the start of a log.
+#[derive(Clone, Copy, Debug, PartialEq, Eq)]
+pub struct StartSet<'a> {
+    /// The file of its pool.
+    pub pool: &'a str,
+    /// Its address, at most 253, and not that of the terminal.
+    pub owner: u8,
+}
+
+/// The terminal's address, unless another is given.
+const OWN_ADDRESS: u8 = 0x26;
+
+/// The terminal's NAME, unless another is given.
+const OWN_NAME: u64 = 0x2000_1D00_0000_0001;
+
+/// The address of the pool's working set, unless another is given.
+const OWNER: u8 = 0x80;
+
+impl<'a> Options<'a> {
+    /// Reads the words, of which the first is the program's name.
+    pub fn parse<S: AsStr>(alloc: Global, words: &'a [S]) -> Result<Options<'a>, UsageError<'a>> {
+        let matches = command(alloc)?.try_get_matches_from(words)?;
+        let options = match matches.subcommand() {
+            Some(("operator", matches)) => Options::Operator(operator_options(matches)?),
+            Some(("test", matches)) => Options::Test(test_options(alloc, matches)?),
+            Some((_, matches)) => Options::Pools(pools_options(alloc, matches)?),
+            // clap refuses these words; its contract does not say so.
+            None => return Err(UsageError::NoSubcommand),
+        };
+        if options.inputs() > 1 {
+            return Err(UsageError::InputTwice);
+        }
+        Ok(options)
+    }
+
+    /// How many of the files are the standard input.
+    fn inputs(&self) -> usize {
+        match self {
+            Options::Pools(options) => {
+                let names = inputs_among(options.names.as_slice());
+                inputs_among(&[options.log]).saturating_add(names)
+            }
+            Options::Operator(options) => inputs_among(&[options.log]),
+            Options::Test(options) => {
+                let pool = options
+                    .terminal
+                    .set
+                    .map_or(0, |set| inputs_among(&[set.pool]));
+                inputs_among(options.logs.as_slice()).saturating_add(pool)
+            }
+        }
+    }
+}
+
+/// How many of the paths are that of the standard input.
+fn inputs_among(paths: &[&str]) -> usize {
+    paths.iter().filter(|path| **path == "-").count()
+}
+
+fn pools_options<'a>(
+    alloc: Global,
+    matches: &ArgMatches<'a>,
+) -> Result<PoolsOptions<'a>, AllocError> {
+    Ok(PoolsOptions {
+        log: log_of(matches),
+        folder: matches.get_str("out"),
+        names: all_of(alloc, matches, "names")?,
+        format: format_of(matches),
+    })
+}
+
+fn operator_options<'a>(matches: &ArgMatches<'a>) -> Result<OperatorOptions<'a>, UsageError<'a>> {
+    Ok(OperatorOptions {
+        log: log_of(matches),
+        own: own_of(matches)?,
+    })
+}
+
+fn test_options<'a>(
+    alloc: Global,
+    matches: &ArgMatches<'a>,
+) -> Result<TestOptions<'a>, UsageError<'a>> {
+    let logs = all_of(alloc, matches, "LOG")?;
+    let blesses = matches.get_flag("bless");
+    if blesses && inputs_among(logs.as_slice()) > 0 {
+        return Err(UsageError::BlessedInput);
+    }
+    Ok(TestOptions {
+        logs,
+        blesses,
+        terminal: terminal_options(matches)?,
+    })
+}
+
+fn terminal_options<'a>(matches: &ArgMatches<'a>) -> Result<TerminalOptions<'a>, UsageError<'a>> {
+    let own = own_of(matches)?;
+    Ok(TerminalOptions {
+        own,
+        name: name_of(matches)?,
+        set: set_of(matches, own)?,
+    })
+}
+
+/// The NAME that the value of `--name` gives, or else the usual one.
+fn name_of<'a>(matches: &ArgMatches<'a>) -> Result<u64, UsageError<'a>> {
+    match matches.get_str("name") {
+        None => Ok(OWN_NAME),
+        Some(value) => match <[u8; 8]>::from_hex(value) {
+            Ok(bytes) => Ok(u64::from_be_bytes(bytes)),
+            Err(_) => Err(UsageError::Name(value)),
+        },
+    }
+}
+
+/// The working set that `--pool` and `--owner` give.
+fn set_of<'a>(matches: &ArgMatches<'a>, own: u8) -> Result<Option<StartSet<'a>>, UsageError<'a>> {
+    match (matches.get_str("pool"), matches.get_str("owner")) {
+        (None, None) => Ok(None),
+        (None, Some(_)) => Err(UsageError::OwnerAlone),
+        (Some(_), None) if own == OWNER => Err(UsageError::Owner("80")),
+        (Some(pool), None) => Ok(Some(StartSet { pool, owner: OWNER })),
+        (Some(pool), Some(value)) => match address(value) {
+            Some(owner) if owner != own => Ok(Some(StartSet { pool, owner })),
+            _ => Err(UsageError::Owner(value)),
+        },
+    }
+}
+
+/// The path of the log, which `clap` demands.
+fn log_of<'a>(matches: &ArgMatches<'a>) -> &'a str {
+    matches.get_str("LOG").unwrap_or("-")
+}
+
+fn format_of(matches: &ArgMatches<'_>) -> Format {
+    match matches.get_str("format") {
+        Some("json") => Format::Json,
+        _ => Format::Text,
+    }
+}
+
+/// The address that the value of `--own` gives, or else the usual one.
+fn own_of<'a>(matches: &ArgMatches<'a>) -> Result<u8, UsageError<'a>> {
+    match matches.get_str("own") {
+        None => Ok(OWN_ADDRESS),
+        Some(value) => address(value).ok_or(UsageError::Own(value)),
+    }
+}
+
+/// The address that two hex digits write, if a node may have it.
+fn address(text: &str) -> Option<u8> {
+    let [address] = <[u8; 1]>::from_hex(text).ok()?;
+    (address <= 0xFD).then_some(address)
+}
+
+/// All values of an option.
+fn all_of<'a>(
+    alloc: Global,
+    matches: &ArgMatches<'a>,
+    option: &str,
+) -> Result<Vec<&'a str>, AllocError> {
+    match matches.get_strs(option) {
+        Some(values) => Vec::from_slice(alloc, values),
+        None => Ok(Vec::new(alloc)),
+    }
+}

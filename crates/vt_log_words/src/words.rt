@@ -1,0 +1,160 @@
+//! The command line of the program, for `clap`.
+
+use clap::{Arg, ArgAction, Command};
+use std::alloc::{AllocError, Global};
+
+/// The text of help after the subcommands.
+const AFTER_HELP: &str = "\
+Status: 0 nothing found, 1 something found, 2 not judged (words, file or memory)
+
+  segyolant_log pools field.log --out pools --names my.h      every uploaded pool as a file, and what is wrong with it
+  segyolant_log operator field.log > replay.log               the log with what the operator did
+  segyolant_log test suite.log                                whether each line prints what the lines #< behind it say
+  segyolant_log test suite.log --bless                        writes these lines
+
+A log is as candump -L writes it, or candump -ta; the names of interfaces may be padded. - is the standard input.
+
+docs/LOGS.md has examples.";
+
+/// The text of help after the options of `pools`.
+const AFTER_POOLS: &str = "\
+A line for each upload and update, from the first piece to its end, and below a refused pool every fault, as segyolant check has them:
+
+  lines 3 to 14: pool of 80 to 26, 74 bytes in 11 pieces: accepted 7 objects -> pools/80-1.iop
+  line 40: transfer of 80 to 26 broken off: 1785 bytes of parameter group E700, packet 7 is missing
+
+Packets that came twice or were sent again do no harm. Status: 0 all pools are accepted, 1 some are not, or a transfer or an upload
+did not end, 2 not judged.";
+
+/// The text of help after the options of `operator`.
+const AFTER_OPERATOR: &str = "\
+Lines of the log with ! press, ! release, ! select, ! number and ! text before the terminal's messages that tell of them. Operator
+lines that the log has already are left out. The choice of a working set cannot be seen in a log.
+
+  segyolant_log operator field.log --own 26 > replay.log
+  vt_replay replay.log";
+
+/// The text of help after the options of `test`.
+const AFTER_TEST: &str = "\
+A line #< TEXT is an expectation: the line of the log before it has to print TEXT, in a replay as that of vt_replay. To every other
+reader of logs it is a comment. The expectations before any other line are those of the first screen.
+
+  (2.400000) can0 14E72680#A0640000FFFFFFFF
+  #< 14E68026#A064000000FFFFFF
+
+Status: 0 each line prints what is expected of it, 1 some line prints something else, 2 not judged.";
+
+/// The command line.
+pub(crate) fn command<'a>(alloc: Global) -> Result<Command<'a>, AllocError> {
+    Command::new(alloc, "segyolant_log")
+        .version("0.1.0")
+        .about(
+            "Tells what recorded logs of an ISOBUS hold: the pools that were uploaded, and what the operator did",
+        )
+        .after_help(AFTER_HELP)
+        .subcommand_required(true)
+        .arg_required_else_help(true)
+        .subcommand(pools(alloc)?)?
+        .subcommand(operator(alloc)?)?
+        .subcommand(test(alloc)?)
+}
+
+fn pools<'a>(alloc: Global) -> Result<Command<'a>, AllocError> {
+    Command::new(alloc, "pools")
+        .about("Prints every upload and update of an object pool, and what a terminal says of it")
+        .after_help(AFTER_POOLS)
+        .arg(log(alloc))?
+        .arg(
+            Arg::new(alloc, "out")
+                .long("out")
+                .value_name("FOLDER")
+                .help(
+                    "A folder for the pools, which is made if it is not there [default: write none]",
+                )
+                .action(ArgAction::Set),
+        )?
+        .arg(
+            Arg::new(alloc, "names")
+                .long("names")
+                .value_name("FILE")
+                .help("A file of names: lines ID,NAME or #define NAME ID; may be given again")
+                .action(ArgAction::Append),
+        )?
+        .arg(
+            Arg::new(alloc, "format")
+                .long("format")
+                .value_name("FORMAT")
+                .help("Lines for people, or lines of JSON [default: text]")
+                .action(ArgAction::Set)
+                .value_parser(FORMATS),
+        )
+}
+
+fn operator<'a>(alloc: Global) -> Result<Command<'a>, AllocError> {
+    Command::new(alloc, "operator")
+        .about("Prints a log with the operator's lines, as the recorded terminal told of them")
+        .after_help(AFTER_OPERATOR)
+        .arg(log(alloc))?
+        .arg(own(alloc))
+}
+
+fn test<'a>(alloc: Global) -> Result<Command<'a>, AllocError> {
+    Command::new(alloc, "test")
+        .about("Replays logs, and compares what each line prints with the expectations in the log")
+        .after_help(AFTER_TEST)
+        .arg(
+            Arg::new(alloc, "LOG")
+                .help("The files of the logs")
+                .action(ArgAction::Append)
+                .num_args(1..)
+                .required(true),
+        )?
+        .arg(
+            Arg::new(alloc, "bless")
+                .long("bless")
+                .help("Write each log anew, with the expectations that it meets")
+                .action(ArgAction::SetTrue),
+        )?
+        .arg(own(alloc))?
+        .arg(
+            Arg::new(alloc, "name")
+                .long("name")
+                .value_name("N")
+                .help("The terminal's NAME, 16 hex digits [default: 20001D0000000001]")
+                .action(ArgAction::Set),
+        )?
+        .arg(
+            Arg::new(alloc, "pool")
+                .long("pool")
+                .value_name("FILE")
+                .help("An object pool that is there from the start")
+                .action(ArgAction::Set),
+        )?
+        .arg(
+            Arg::new(alloc, "owner")
+                .long("owner")
+                .value_name("AA")
+                .help(
+                    "The address of the pool's working set, two hex digits up to FD [default: 80]",
+                )
+                .action(ArgAction::Set),
+        )
+}
+
+fn own<'a>(alloc: Global) -> Arg<'a> {
+    Arg::new(alloc, "own")
+        .long("own")
+        .value_name("AA")
+        .help("The terminal's address, two hex digits up to FD [default: 26]")
+        .action(ArgAction::Set)
+}
+
+/// The formats of output.
+const FORMATS: &[&str] = &["text", "json"];
+
+fn log<'a>(alloc: Global) -> Arg<'a> {
+    Arg::new(alloc, "LOG")
+        .help("The file of the log; - is the standard input")
+        .action(ArgAction::Set)
+        .required(true)
+}

@@ -1,0 +1,3 @@
+-- The definitions used in the contracts of vt_recorded.
+pub mod PlainForms
+pub mod Readings

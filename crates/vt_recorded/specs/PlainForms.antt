@@ -1,0 +1,62 @@
+-- The plain form of a line: what `candump -L` writes for a frame that another way of recording wrote (docs/PROFILE.md, "Lines of
+-- other recorders").
+use Rattle.std.specs.Prelude.{ℕ, zero, suc, ◌==◌, ◌&&◌, not, Bool, false, if◌then◌else◌, unwrap_or, List, [], ◌∷◌, ◌++◌, length, take, drop, codes, position}
+
+-- where the first word of a text begins, and how long the word at the front of a text is: words stand between spaces
+unfoldable pub word_start : List ℕ → ℕ
+word_start text = unwrap_or (position (λ byte. not (byte == 32)) text) (length text)
+
+unfoldable pub word_length : List ℕ → ℕ
+word_length text = unwrap_or (position (λ byte. byte == 32) text) (length text)
+
+-- a text without the spaces at its front
+abbrev pub unpadded : List ℕ → List ℕ
+unpadded text = drop (word_start text) text
+
+-- the first word of a text, and the text after it
+unfoldable pub word : List ℕ → List ℕ
+word text = take (word_length (unpadded text)) (unpadded text)
+
+unfoldable pub after_word : List ℕ → List ℕ
+after_word text = drop (word_length (unpadded text)) (unpadded text)
+
+abbrev pub second_word : List ℕ → List ℕ
+second_word text = word (after_word text)
+
+abbrev pub third_word : List ℕ → List ℕ
+third_word text = word (after_word (after_word text))
+
+abbrev pub fourth_word : List ℕ → List ℕ
+fourth_word text = word (after_word (after_word (after_word text)))
+
+abbrev pub after_fourth_word : List ℕ → List ℕ
+after_fourth_word text = after_word (after_word (after_word (after_word text)))
+
+abbrev pub starts_with_byte : ℕ → List ℕ → Bool
+starts_with_byte byte [] = false
+starts_with_byte byte (first ∷ rest) = first == byte
+
+-- a byte of data: two characters that are no quotation
+abbrev pub is_pair : List ℕ → Bool
+is_pair text = length text == 2 && not (starts_with_byte 39 text)
+
+-- up to so many bytes of data, each a word of two characters, without the spaces between them
+unfoldable pub pairs : ℕ → List ℕ → List ℕ
+pairs zero text = []
+pairs (suc most) text = if is_pair (word text) then word text ++ pairs most (after_word text) else []
+
+-- the data of a frame: its bytes, or R for a remote frame
+unfoldable pub data_form : List ℕ → List ℕ
+data_form text = if starts_with_byte 114 (word text) then codes "R" else pairs 8 text
+
+-- The words behind the time and the interface: an ID, the number of bytes in brackets, and the bytes, as candump writes them; or a
+-- frame, and perhaps the direction.
+unfoldable pub frame_form : List ℕ → List ℕ → List ℕ → List ℕ
+frame_form third fourth rest =
+    if starts_with_byte 91 fourth then third ++ codes "#" ++ data_form rest
+    else if length fourth == 0 then third
+    else third ++ codes " " ++ fourth
+
+-- the plain form of a line that begins with a time
+abbrev pub plain_form : List ℕ → List ℕ
+plain_form line = word line ++ codes " " ++ second_word line ++ codes " " ++ frame_form (third_word line) (fourth_word line) (after_fourth_word line)

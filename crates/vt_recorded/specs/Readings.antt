@@ -1,0 +1,22 @@
+-- The reading of a line that some recorder wrote.
+use Rattle.std.specs.Prelude.{◌≡◌, Bool, true, false, ℕ, List, if◌then◌else◌, is_ok, Result, Ok, Err}
+use Rattle.vt_can.specs.declared.lines.line.LineFault.{LineFault}
+use Rattle.vt_can.specs.declared.lines.line.LineFault.TheVariants.{Time, Shape, Hex, Length, Operator}
+use Rattle.vt_can.specs.lines.Line.{ReadsAs}
+use Rattle.vt_can.specs.lines.Readings.{ParsedLine}
+use Rattle.vt_recorded.specs.PlainForms.{plain_form}
+
+-- whether a line may be in the form of another recorder: its fault is of the time or of the shape
+abbrev pub is_of_form : Result ParsedLine LineFault → Bool
+is_of_form (Ok line) = true
+is_of_form (Err Time) = false
+is_of_form (Err Shape) = false
+is_of_form (Err Hex) = true
+is_of_form (Err Length) = true
+is_of_form (Err Operator) = true
+
+-- The reading of a line as it stands; where it is not of that form, the reading of its plain form, if this has no fault.
+pub data IsReadingOf (line : List ℕ) : Result ParsedLine LineFault → Type 0 where
+  as_it_stands : (reading : Result ParsedLine LineFault) → ReadsAs line reading → is_of_form reading ≡ true → IsReadingOf line reading
+  in_plain_form : (first second : Result ParsedLine LineFault) → ReadsAs line first → is_of_form first ≡ false → ReadsAs (plain_form line) second
+      → IsReadingOf line (if is_ok second then second else first)

@@ -1,0 +1,12 @@
+//! Lines of logs as other recorders write them.
+//!
+//! `Reader` reads a line as `vt_can::parse_line` does. If the line does not have that form, it reads the line's plain form: single spaces
+//! in place of several, as where `candump` pads the names of interfaces, and bytes joined, as where it writes `18EEFF80   [8]  01 02`.
+//!
+//! docs/PROFILE.md, "Lines of other recorders", has the forms.
+#![tactic(auto)]
+
+mod plain;
+mod reader;
+
+pub use reader::Reader;
