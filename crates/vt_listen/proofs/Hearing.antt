@@ -1,5 +1,5 @@
 -- What a frame says in each channel, and the transfers that it ends.
-use Rattle.std.proofs.Common.{◌≡◌, ◌<◌, ℕ, zero, suc, ◌/◌, ◌%◌, ◌^◌, nat_lt, eqb, cond, Bool, true, false, Option, Some, None, List, [], ◌∷◌, ◌++◌, refl, sym, ap, ◌∙◌, subst, ⊎_elim, append-nil, lit<, arith}
+use Rattle.std.proofs.Common.{◌≡◌, ◌<◌, ℕ, zero, suc, ◌^◌, eqb, cond, Bool, true, false, Option, Some, None, List, [], ◌∷◌, ◌++◌, refl, sym, ap, ◌∙◌, subst, ⊎_elim, append-nil, lit<, arith}
 use Rattle.std.specs.List.{Contains, cons_option}
 use Rattle.std.specs.Ordering.{nat_cmp}
 use Rattle.std.specs.BTreeMap.{get}
@@ -15,7 +15,7 @@ use Rattle.vt_listen.specs.declared.transfer.Transfer.{Transfer}
 use Rattle.vt_listen.specs.declared.listener.Ends.{Ends}
 use Rattle.vt_listen.specs.declared.listener.Listener.{Listener}
 use Rattle.vt_listen.specs.Parts.{is_extended, part_in}
-use Rattle.vt_listen.specs.Channels.{channel_of, own_channel, other_channel, sent, refused, said_to, said, parts_in}
+use Rattle.vt_listen.specs.Channels.{channel_of, sent, refused, said_to, said, parts_in}
 use Rattle.vt_listen.specs.declared.sent_message.SentMessage.{SentMessage}
 use Rattle.vt_listen.specs.Transfers.{IsOpen, Completes}
 use Rattle.vt_listen.specs.Listeners as listeners
@@ -24,7 +24,8 @@ use Rattle.vt_listen.specs.Steps.{channel_between, swapped, said_between, broken
 use Rattle.vt_listen.proofs.Requests.{requested_once}
 use Rattle.vt_listen.proofs.Packets.{first_missing_once}
 use Rattle.vt_listen.proofs.Entries.{open_of}
-use Rattle.vt_listen.proofs.Maps.{Transfers, Takes, said_alone, back_apart}
+use Rattle.vt_listen.proofs.Channels.{same_channel, back_apart, small_source, small_destination}
+use Rattle.vt_listen.proofs.Maps.{Transfers, Takes, said_alone}
 
 -- a frame says a part, from one end to the other
 pub record IsFrameOf (frame : Frame) (ends : Ends) (part : Part) : Type 0 where
@@ -43,36 +44,6 @@ said_is frame ends part of channel =
     ∙ ap (λ o. said_with channel ends.destination o (is_extended (pgn_of (parts_of frame.id))) (source_of frame)) of.part_is
     ∙ ap (λ e. said_with channel ends.destination (Some part) e (source_of frame)) (sym of.extended_is)
     ∙ ap (λ s. said_with channel ends.destination (Some part) ends.is_extended s) (sym of.source_is)
-
-pub says_nothing_to_all : (frame : Frame) → destination_of (parts_of frame.id) ≡ None → (channel : ℕ) → said channel frame ≡ None
-says_nothing_to_all frame none channel = ap (said_to channel frame) none
-
-none_either : (b d : Bool) → ◌≡◌ {A = Option Part} (cond b None (cond d None None)) None
-none_either true d = refl
-none_either false true = refl
-none_either false false = refl
-
-said_to_none : (frame : Frame) → part_in frame ≡ None → (channel : ℕ) (destination : Option ℕ) → said_to channel frame destination ≡ None
-said_to_none frame none channel None = refl
-said_to_none frame none channel (Some destination) =
-    ap (λ o. said_with channel destination o (is_extended (pgn_of (parts_of frame.id))) (source_of frame)) none
-    ∙ none_either (eqb channel (own_channel frame destination)) (eqb channel (other_channel frame destination))
-
-pub says_nothing : (frame : Frame) → part_in frame ≡ None → (channel : ℕ) → said channel frame ≡ None
-says_nothing frame none channel = said_to_none frame none channel (destination_of (parts_of frame.id))
-
--- two channels are the same
-pub record IsSameChannel (extended : Bool) (source destination : ℕ) (extended' : Bool) (source' destination' : ℕ) : Type 0 where
-  pub extended_is : extended ≡ extended'
-  pub source_is : source ≡ source'
-  pub destination_is : destination ≡ destination'
-
-pub same_channel : (extended extended' : Bool) (source destination source' destination' : ℕ) → source < 2 ^ 8 → destination < 2 ^ 8 → source' < 2 ^ 8 → destination' < 2 ^ 8
-    → channel_of extended source destination ≡ channel_of extended' source' destination' → IsSameChannel extended source destination extended' source' destination'
-same_channel true true source destination source' destination' a b c d is = record { extended_is = refl; source_is = omega arith; destination_is = omega arith }
-same_channel true false source destination source' destination' a b c d is = absurd (omega arith)
-same_channel false true source destination source' destination' a b c d is = absurd (omega arith)
-same_channel false false source destination source' destination' a b c d is = record { extended_is = refl; source_is = omega arith; destination_is = omega arith }
 
 -- what is told at the entry of a channel
 pub record IsTold (ends : Ends) (o : Option Part) (entry : Option Transfer) (broken : Broken) : Type 0 where
@@ -158,25 +129,16 @@ broken_from frames frame ends o listener heard small small' says broken has =
     } in
     subst (IsBrokenBy frames frame) told.is made
 
-in_some : (b : Bool) (x y : ℕ) → cond b (Some x) None ≡ Some y → x ≡ y
-in_some true x y is = cc
-in_some false x y is = absurd (let e = is in cc)
-
-small_remainder : (n : ℕ) → n % 2 ^ 8 < 2 ^ 8
-small_remainder n = omega arith
-
 -- what is told of the other channel, which there is if the ends are two
 abbrev told_back : Ends → Option Part → Listener → Bool → List Broken
 told_back ends o listener one = cond one [] (told_by (swapped ends) o (get nat_cmp listener.transfers (channel_between (swapped ends))))
 
 module _ (frames : List Frame) (frame : Frame) (ends : Ends) (part : Part) (of : IsFrameOf frame ends part) (listener : Listener) (heard : HasHeard frames listener) where
-  small_source : ends.source < 2 ^ 8
-  small_source = let P : ℕ → Type 0 = λ n. n < 2 ^ 8 in subst P (sym of.source_is) (small_remainder frame.id)
+  small_here : ends.source < 2 ^ 8
+  small_here = let P : ℕ → Type 0 = λ n. n < 2 ^ 8 in subst P (sym of.source_is) (small_source frame)
 
-  small_destination : ends.destination < 2 ^ 8
-  small_destination =
-      let P : ℕ → Type 0 = λ n. n < 2 ^ 8 in
-      subst P (in_some (nat_lt (frame.id / 2 ^ 16 % 2 ^ 8) 240) (frame.id / 2 ^ 8 % 2 ^ 8) ends.destination of.destination_is) (small_remainder (frame.id / 2 ^ 8))
+  small_there : ends.destination < 2 ^ 8
+  small_there = small_destination frame ends.destination of.destination_is
 
   said_own : said (channel_between ends) frame ≡ sent (Some part)
   said_own =
@@ -194,12 +156,12 @@ module _ (frames : List Frame) (frame : Frame) (ends : Ends) (part : Part) (of :
   only_told : (broken : Broken) → Contains (told_in_both ends part listener) broken → IsBrokenBy frames frame broken
   only_told broken has =
       ⊎_elim
-      (λ at_own. broken_from frames frame ends (sent (Some part)) listener heard small_source small_destination said_own broken at_own)
+      (λ at_own. broken_from frames frame ends (sent (Some part)) listener heard small_here small_there said_own broken at_own)
       (λ at_other. ⊎_elim
       (λ (same : ends.source ≡ ends.destination).
       absurd (none_contained broken (subst (λ b. Contains (told_back ends (refused (Some part)) listener b) broken) (eq-eqb ends.source ends.destination same) at_other)))
       (λ (apart : ends.source ≡ ends.destination → ⊥).
-      broken_from frames frame (swapped ends) (refused (Some part)) listener heard small_destination small_source (said_other apart) broken
+      broken_from frames frame (swapped ends) (refused (Some part)) listener heard small_there small_here (said_other apart) broken
       (subst (λ b. Contains (told_back ends (refused (Some part)) listener b) broken) (ne_eqb ends.source ends.destination apart) at_other))
       (cases_eq ends.source ends.destination))
       (Contains-append_cases (told_by ends (sent (Some part)) (get nat_cmp listener.transfers (channel_between ends)))
@@ -232,13 +194,13 @@ module _ (frames : List Frame) (frame : Frame) (ends : Ends) (part : Part) (of :
       let second = told_back ends (refused (Some part)) listener (eqb ends.source ends.destination) in
       ⊎_elim
       (λ (own : channel ≡ channel_between ends).
-      Contains-append_left first second broken (told_in ends (sent (Some part)) small_source small_destination said_own broken by own))
+      Contains-append_left first second broken (told_in ends (sent (Some part)) small_here small_there said_own broken by own))
       (λ (apart : channel ≡ channel_between ends → ⊥). ⊎_elim
       (λ (other : channel ≡ channel_between (swapped ends)).
       let two : ends.source ≡ ends.destination → ⊥ = λ same. apart (other ∙ one_channel same) in
       Contains-append_right first second broken
       (subst (λ b. Contains (told_back ends (refused (Some part)) listener b) broken) (sym (ne_eqb ends.source ends.destination two))
-      (told_in (swapped ends) (refused (Some part)) small_destination small_source (said_other two) broken by other)))
+      (told_in (swapped ends) (refused (Some part)) small_there small_here (said_other two) broken by other)))
       (λ (apart' : channel ≡ channel_between (swapped ends) → ⊥).
       let P : Option Part → Type 0 = λ o. listeners.Ends broken.pgn o in
       absurd (subst P (says_none channel apart apart') by.ended))

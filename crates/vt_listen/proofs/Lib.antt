@@ -1,6 +1,8 @@
-pub mod Requests
-pub mod Packets
+-- The lemmas of vt_listen.
 pub mod Bytes
+pub mod Channels
 pub mod Entries
-pub mod Maps
 pub mod Hearing
+pub mod Maps
+pub mod Packets
+pub mod Requests

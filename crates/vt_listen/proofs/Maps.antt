@@ -1,5 +1,5 @@
 -- The transfers of a listener after the entry of a channel was put or removed.
-use Rattle.std.proofs.Common.{◌≡◌, ℕ, eqb, cond, Bool, true, false, Option, Some, None, List, ◌∷◌, refl, sym, ap, ◌∙◌, subst, ⊎_elim, arith}
+use Rattle.std.proofs.Common.{◌≡◌, ℕ, eqb, cond, Bool, true, false, Option, Some, None, List, ◌∷◌, refl, sym, ap, ◌∙◌, subst, ⊎_elim}
 use Rattle.std.specs.List.{cons_option}
 use Rattle.std.specs.Ordering.{nat_cmp, is_eq}
 use Rattle.std.specs.BTreeMap.{BTreeMap, get, UpdatesBy, Updates}
@@ -10,7 +10,8 @@ use Rattle.vt_listen.specs.declared.part.Part.TheVariants.{Abort}
 use Rattle.vt_can.specs.Assigned.{VT_TO_ECU}
 use Rattle.vt_listen.specs.declared.transfer.Transfer.{Transfer}
 use Rattle.vt_listen.specs.declared.listener.Ends.{Ends}
-use Rattle.vt_listen.specs.Channels.{channel_of, sent, refused}
+use Rattle.vt_listen.proofs.Channels.{back_apart}
+use Rattle.vt_listen.specs.Channels.{sent, refused}
 use Rattle.vt_listen.specs.Listeners.{IsEntryOf}
 use Rattle.vt_listen.specs.Steps.{said_only, said_between, channel_between, swapped}
 
@@ -104,10 +105,6 @@ takes_both own other apart o p m between n first second channel parts has =
     let P : List Part → Type 0 = λ l. IsEntryOf l (get nat_cmp n channel) in
     subst P (same_parts (eqb channel own) (eqb channel other) o p parts (λ a b. apart (sym (eqb-true channel own a) ∙ eqb-true channel other b)))
     (second channel _ (first channel parts has))
-
-pub back_apart : (extended : Bool) (source destination : ℕ) → (source ≡ destination → ⊥) → channel_of extended source destination ≡ channel_of extended destination source → ⊥
-back_apart true source destination apart same = apart (omega arith)
-back_apart false source destination apart same = apart (omega arith)
 
 -- an abort by one of two ends
 pub takes_abort : (ends : Ends) (pgn : ℕ) → (ends.source ≡ ends.destination → ⊥) → (m between n : Transfers)

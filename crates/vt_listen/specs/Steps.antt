@@ -1,6 +1,6 @@
 -- The steps of a listener: what a part between two ends makes of the entries of their channels, and what is told. Every list of
 -- parts has the latest first.
-use Rattle.std.specs.Prelude.{◌≡◌, ◌≤◌, ◌<◌, ℕ, ◌+◌, ◌==◌, if◌then◌else◌, Option, Some, None, List, [], ◌∷◌, ◌++◌, IsSome}
+use Rattle.std.specs.Prelude.{◌≡◌, ◌≤◌, ◌<◌, ℕ, ◌+◌, ◌/◌, ◌%◌, ◌^◌, ◌==◌, if◌then◌else◌, Option, Some, None, List, [], ◌∷◌, ◌++◌, IsSome}
 use Rattle.std.specs.List.{cons_option}
 use Rattle.std.specs.Ordering.{nat_cmp}
 use Rattle.std.specs.BTreeMap.{get}
@@ -52,6 +52,16 @@ abbrev pub broken_of : Ends → Transfer → Broken
 broken_of ends transfer = record {
   source = ends.source;
   destination = ends.destination;
+  pgn = transfer.pgn;
+  size = transfer.size;
+  missing = transfer.missing;
+}
+
+-- the open transfer of a channel, which has the source in its lowest byte and the destination in the next
+abbrev pub unended_of : ℕ → Transfer → Broken
+unended_of channel transfer = record {
+  source = channel % 2 ^ 8;
+  destination = channel / 2 ^ 8 % 2 ^ 8;
   pgn = transfer.pgn;
   size = transfer.size;
   missing = transfer.missing;

@@ -12,8 +12,6 @@ mod channel;
 mod listener;
 mod part;
 mod sent_message;
-#[cfg(test)]
-mod tests;
 mod transfer;
 
 pub use broken::Broken;

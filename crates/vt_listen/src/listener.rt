@@ -1,6 +1,6 @@
 //! Hears frames and puts messages together.
 
-ghost use Rattle.std.specs.Prelude.{◌≡◌, ◌≢◌, ℕ, Some, List, [], ◌∷◌, ◌++◌, OnOk, IfOk};
+ghost use Rattle.std.specs.Prelude.{◌≡◌, ◌≢◌, ℕ, Some, List, [], ◌∷◌, ◌++◌, map, OnOk, IfOk};
 ghost use Rattle.std.specs.Ordering.{nat_cmp};
 ghost use Rattle.std.specs.BTreeMap.{get};
 ghost use Rattle.vt_can.specs.declared.frames.frame.Frame.{Frame as CanFrame};
@@ -8,7 +8,7 @@ ghost use Rattle.vt_listen.specs.declared.broken.Broken.{Broken as BrokenTransfe
 ghost use Rattle.vt_listen.specs.declared.part.Part.{Part as SaidPart};
 ghost use Rattle.vt_listen.specs.declared.part.Part.TheVariants as said;
 ghost use Rattle.vt_listen.specs.Listeners.{HasHeard, IsAnswer, AreBrokenBy, IsEntryOf};
-ghost use Rattle.vt_listen.specs.Steps.{channel_between, swapped, said_between, said_only, TakesIn, broken_of, told_by, told_in_both, IsMadeWhole};
+ghost use Rattle.vt_listen.specs.Steps.{channel_between, swapped, said_between, said_only, TakesIn, broken_of, unended_of, told_by, told_in_both, IsMadeWhole};
 
 use crate::broken::Broken;
 use crate::channel::channel_of;
@@ -73,6 +73,17 @@ impl Listener {
             Part::Abort { pgn } => self.abort(ends, pgn, broken)?,
         }
         Ok(None)
+    }
+
+    /// Appends to `broken` the transfers that are still open, by rising identifiers of their packets. After `OutOfMemory` the first
+    /// of them are appended.
+    pub fn unended(&self, broken: &mut Vec<Broken>) -> Result<(), AllocError>
+        ensures { OnOk result (broken.new.items ≡ broken.old.items ++ map (λ entry. unended_of entry.0 entry.1) self.now.transfers.entries) }
+    {
+        for (channel, transfer) in self.transfers.iter() {
+            broken.push(unended_of(*channel, transfer))?;
+        }
+        Ok(())
     }
 
     /// Opens the transfer of a message. An empty message has none.
@@ -165,6 +176,19 @@ impl Listener {
             }
         }
         Ok(())
+    }
+}
+
+/// The open transfer of a channel.
+fn unended_of(channel: u32, transfer: &Transfer) -> Broken
+    ensures { result ≡ unended_of channel transfer.now }
+{
+    Broken {
+        source: (channel & 0xFF) as u8,
+        destination: (channel >> 8 & 0xFF) as u8,
+        pgn: transfer.pgn,
+        size: transfer.size,
+        missing: transfer.missing,
     }
 }
 

@@ -12,8 +12,9 @@ use Rattle.vt_listen.specs.Parts.{is_extended}
 use Rattle.vt_listen.specs.Channels.{said, parts_in}
 use Rattle.vt_listen.specs.Listeners.{IsEntryOf}
 use Rattle.vt_listen.specs.Steps.{channel_between, said_between, told_in_both}
+use Rattle.vt_listen.proofs.Channels.{says_nothing}
 use Rattle.vt_listen.proofs.Maps.{takes_nothing}
-use Rattle.vt_listen.proofs.Hearing.{IsFrameOf, says_nothing, none_broken, hears, answers, are_told, told_at_request, told_at_packet, told_at_offset, said_is}
+use Rattle.vt_listen.proofs.Hearing.{IsFrameOf, none_broken, hears, answers, are_told, told_at_request, told_at_packet, told_at_offset, said_is}
 use Rattle.vt_listen.proofs.listener.Listener.hear.Goals as goal
 use Rattle.vt_listen.proofs.listener.Listener.hear.Goals.{After-is_extended, in-Request+in_ok-open-in-Request, in-Offset+in_ok-move_to-in-Offset, in-Abort+in_ok-abort-in-Abort}
 
