@@ -1,6 +1,6 @@
 -- The cases of the plain forms.
-use Rattle.std.proofs.Common.{◌≡◌, ◌==◌, ◌<◌, ◌-◌, ℕ, zero, suc, true, false, List, [], ◌∷◌, ◌++◌, length, take, drop, codes, refl, sym, arith, ap, ◌∙◌}
-use Rattle.vt_recorded.specs.PlainForms.{word_start, word_length, unpadded, word, after_word, starts_with_byte, is_pair, pairs, data_form, frame_form}
+use Rattle.std.proofs.Common.{◌≡◌, ◌==◌, ◌<◌, ◌-◌, ℕ, zero, suc, true, false, List, [], ◌++◌, length, take, drop, codes, refl, sym, arith, ap}
+use Rattle.vt_recorded.specs.PlainForms.{word_length, unpadded, word, after_word, starts_with_byte, is_pair, pairs, data_form, frame_form}
 
 pub word_is : (text : List ℕ) → word text ≡ take (word_length (unpadded text)) (unpadded text)
 unfolding word

@@ -1,4 +1,4 @@
-use Rattle.std.proofs.Common.{rules, arith}
+use Rattle.std.proofs.Common.{arith}
 use Rattle.std.proofs.lemmas.Grind.{common_steps}
 use Rattle.vt_recorded.proofs.Forms.{remote_form, bytes_form}
 use Rattle.vt_recorded.proofs.plain.put_data.Goals as goal

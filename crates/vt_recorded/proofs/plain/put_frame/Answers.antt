@@ -1,4 +1,4 @@
-use Rattle.std.proofs.Common.{rules, arith}
+use Rattle.std.proofs.Common.{arith}
 use Rattle.std.proofs.lemmas.Grind.{common_steps}
 use Rattle.vt_recorded.specs.PlainForms.{word, after_word}
 use Rattle.vt_recorded.proofs.Forms.{bracket_form, bare_form, directed_form}

@@ -1,8 +1,8 @@
-use Rattle.std.proofs.Common.{◌≡◌, true, false, sym, ◌∙◌, ap, subst, List, ℕ, ◌++◌, Ok, Err}
+use Rattle.std.proofs.Common.{◌≡◌, sym, ◌∙◌, ap, subst, ◌++◌, Ok, Err}
 use Rattle.vt_can.specs.lines.Line.{ReadsAs}
 use Rattle.vt_can.specs.lines.Readings.{reading_of, parsed}
 use Rattle.vt_recorded.specs.PlainForms.{plain_form}
-use Rattle.vt_recorded.specs.Readings.{is_of_form, IsReadingOf, as_it_stands, in_plain_form}
+use Rattle.vt_recorded.specs.Readings.{as_it_stands, in_plain_form}
 use Rattle.vt_recorded.proofs.reader.Reader.read.Goals as goal
 
 pub returns-then-is_of_form : goal.returns-then-is_of_form
