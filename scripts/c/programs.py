@@ -49,7 +49,7 @@ class Programs:
             'arena_64k-sanitized': ([f'{ROOT}/scripts/c/arena_64k.c', 'arena.c'], ['-O1', '-DARENA_BYTES=65536', *SANITIZERS]),
             'check': (['check.c', 'heap.c'], ['-O2']),
             'check-sanitized': (['check.c', 'heap.c'], ['-O1', *SANITIZERS]),
-            'stack': ([f'{ROOT}/scripts/c/stack.c', 'lines.c', 'heap.c'], ['-O2', '-pthread']),
+            'stack': ([f'{ROOT}/scripts/c/stack.c', 'lines.c', 'heap.c'], ['-O2', '-pthread', '-Wl,-z,now']),
         }
         if name not in self.made:
             sources, flags = recipes[name]

@@ -1,12 +1,10 @@
 """Tests of the stack: the most bytes that a call of the library takes."""
 from c.logs import deep_log, deep_pool, timeouts_log, upload_log
 from c.programs import EXAMPLES, run
-from c.results import NotYet, expect, read
+from c.results import expect, read
 
 # The most bytes of the stack: of making, preloading and ending a terminal, and of an input.
 STACKS = {'init': 16384, 'preload': 16384, 'done': 16384, 'hear': 98304, 'act': 98304, 'tick': 98304}
-# The goals that are not reached yet, and the most bytes until then.
-NOT_YET = {'preload': 45056}
 
 
 def measure(program, folder, text, pool=None):
@@ -46,10 +44,7 @@ def measured_stacks(program, folder):
 
 
 def check_stack(most, name):
-    limit = NOT_YET.get(name, STACKS[name])
-    expect(most[name] <= limit, f'{most[name]} bytes, and the limit is {limit}')
-    if most[name] > STACKS[name]:
-        raise NotYet(f'{most[name]} bytes, and the goal is {STACKS[name]}')
+    expect(most[name] <= STACKS[name], f'{most[name]} bytes, and the limit is {STACKS[name]}')
     return f'{most[name]} bytes of {STACKS[name]}'
 
 

@@ -1,0 +1,5 @@
+mod FirstLine
+mod KeptLines
+mod LinesToCome
+mod NoDifference
+mod TakenLine

@@ -1,0 +1,12 @@
+//! Lines that print something else than is expected.
+
+/// A line that prints something else than is expected.
+#[derive(Debug, Drop)]
+pub struct Difference {
+    /// The number of the line, from 1; 0 for the first screen.
+    pub line: u64,
+    /// The text that is expected.
+    pub expected: Vec<u8>,
+    /// The text that was printed.
+    pub printed: Vec<u8>,
+}
