@@ -1,7 +1,8 @@
 /* The three functions of vt_heap.h over one fixed block of ARENA_BYTES, for machines without malloc.
  *
  * The block is cut into pieces that lie one after the other. A request takes the first free piece that is large enough, and gives
- * back what it does not need. Free neighbours are joined. One thread may use it.
+ * back what it does not need. A piece grows where it lies if the piece after it is free and large enough. Free neighbours are joined.
+ * One thread may use it.
  */
 #include "arena.h"
 #include "vt_heap.h"
@@ -117,21 +118,32 @@ static void join(struct piece *piece)
     }
 }
 
+/* The size of a piece that holds so many bytes, its header with it. */
+static uint64_t whole_size(uint64_t size)
+{
+    return ((size + 15) & ~(uint64_t)15) + HEADER;
+}
+
+/* Takes a piece into use. */
+static void take_piece(struct piece *piece)
+{
+    used += piece->size;
+    peak = used > peak ? used : peak;
+    piece->size |= IN_USE;
+}
+
 /* Takes memory, or returns null. */
 static void *take(uint64_t size)
 {
     if (size > ARENA_BYTES) {
         return NULL;
     }
-    uint64_t whole = ((size + 15) & ~(uint64_t)15) + HEADER;
-    struct piece *piece = free_piece(whole);
+    struct piece *piece = free_piece(whole_size(size));
     if (piece == NULL) {
         return NULL;
     }
-    cut(piece, whole);
-    used += piece->size;
-    peak = used > peak ? used : peak;
-    piece->size |= IN_USE;
+    cut(piece, whole_size(size));
+    take_piece(piece);
     return (unsigned char *)piece + HEADER;
 }
 
@@ -143,8 +155,27 @@ struct vt_memory rattle_alloc(uint64_t size, uint64_t align)
     return memory;
 }
 
+/* Makes a piece larger where it lies, if the free piece after it has the room. */
+static bool grows(struct piece *piece, uint64_t whole)
+{
+    struct piece *next = after(piece);
+    if (next == NULL || is_in_use(next) || size_of(piece) + next->size < whole) {
+        return false;
+    }
+    used -= size_of(piece);
+    set_size(piece, size_of(piece) + next->size);
+    cut(piece, whole);
+    take_piece(piece);
+    return true;
+}
+
 struct vt_memory rattle_realloc(void *at, uint64_t kept, uint64_t size, uint64_t align)
 {
+    struct piece *piece = piece_at((unsigned char *)at - HEADER);
+    if (size <= ARENA_BYTES && size > kept && grows(piece, whole_size(size))) {
+        struct vt_memory same = {true, (uint64_t)(uintptr_t)at};
+        return same;
+    }
     struct vt_memory memory = rattle_alloc(size, align);
     if (memory.ok) {
         memcpy((void *)(uintptr_t)memory.at, at, kept < size ? kept : size);

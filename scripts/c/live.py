@@ -210,8 +210,8 @@ def test_live(tests, programs):
     bridge = [sys.executable, f'{ROOT}/scripts/bridge.py', with_messages_apart(child, programs.folder)]
     tests.run('live', in_time, check_live, [programs.get('live'), '--pipe'], replay, programs.folder, False)
     tests.run('live-sanitized', in_time, check_live, [programs.get('live-sanitized'), '--pipe'], replay, programs.folder, False)
-    small = compiled(programs.folder, 'live-small', [*LIVE, 'arena.c'], '-O2', '-DARENA_BYTES=40960')
-    tests.run('live in 40 KB', in_time, check_live_refusals, small)
+    small = compiled(programs.folder, 'live-small', [*LIVE, 'arena.c'], '-O2', '-DARENA_BYTES=36864')
+    tests.run('live in 36 KB', in_time, check_live_refusals, small)
     tests.run('live loss', in_time, check_loss, [programs.get('live'), '--pipe'])
     tests.run('live quiet', in_time, check_quiet, [programs.get('live'), '--pipe'])
     tests.run(f'bridge over {os.path.basename(child)}', in_time, check_bridge, bridge, replay, programs.folder)

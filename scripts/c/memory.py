@@ -18,7 +18,7 @@ end of the small pool: 0
   14E6FF26#FE80E803FFFF00FF
 screen 80 mask 1000
 container 100 10 5 50x20
-pieces taken before the first refusal: 584
+pieces taken before the first refusal: 1170
 refused again: 1000 of 1000, no byte more in use
 get memory: 0
   14E68026#C00301FFFFFFFFFF
@@ -26,7 +26,7 @@ hide the container: 0
   14E68026#A064000000FFFFFF
 screen 80 mask 1000
 end of the large pool: 0
-  14E68026#12010102040502FF
+  14E68026#1201FFFFFFFF04FF
 show the container: 0
   14E68026#A064000100FFFFFF
 screen 80 mask 1000
