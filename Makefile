@@ -39,10 +39,12 @@ examples:
 wrong-bodies:
 	@bash scripts/wrong_bodies.sh $(CRATES)
 
-# Proves the programs and leaves them at crates/vt_replay/out/vt_replay and crates/segyolant/out/segyolant.
+# Proves the programs and leaves them at crates/vt_replay/out/vt_replay, crates/segyolant/out/segyolant and
+# crates/segyolant_log/out/segyolant_log.
 build:
 	cd crates/vt_replay && rt run -- --version
 	cd crates/segyolant && rt run -- --version
+	cd crates/segyolant_log && rt run -- --version
 
 # Times the proved program on a million lines, read and ignored, answered with a new screen each, and answered with
 # macros, and pools written and read.

@@ -6,15 +6,16 @@ cd "$(dirname "$0")/.."
 # The files that a program of the gate runs on.
 files_of() {
     case $1 in
-        vt_examples) (cd examples && ls -- *.log fault-*.iop refusal-*.iop pool.iop sprayer.iop) ;;
+        vt_examples) (cd examples && ls -- hide.log seeder.log sprayer.log fault-*.iop refusal-*.iop pool.iop sprayer.iop) ;;
         vt_replay) echo seeder.log ;;
         vt_sample) echo sprayer.iop ;;
         vt_pool_examples) (cd examples && ls -- *.iop *.h hide.log seeder.log) ;;
         segyolant) echo sprayer.iop sprayer.h ;;
+        segyolant_log) echo field.log sprayer.h ;;
     esac
 }
 
-for crate in vt_examples vt_replay vt_sample vt_pool_examples segyolant; do
+for crate in vt_examples vt_replay vt_sample vt_pool_examples segyolant segyolant_log; do
     data=crates/$crate/data
     mkdir -p "$data"
     for file in $(files_of "$crate"); do

@@ -1,0 +1,52 @@
+//! Tells what recorded logs of an ISOBUS hold.
+//!
+//! docs/LOGS.md has the words and the statuses.
+#![tactic(auto)]
+
+use std::fmt;
+use std::io::{self, BufWriter, Error, ErrorKind, Write};
+use std::process::ExitCode;
+use vt_log_tool::{Files, Status, run};
+
+fn main(rt: HostRuntime) -> io::Result<ExitCode> {
+    let status = match run_words(&rt) {
+        Ok(status) => status,
+        Err(error) => {
+            let _ = writeln!(rt.stderr(), "segyolant_log: {}", Cause { error: &error });
+            Status::NotJudged
+        }
+    };
+    Ok(ExitCode::from(status.code()))
+}
+
+/// Runs the program on the words of the command line, with the streams of the system.
+fn run_words(rt: &HostRuntime) -> io::Result<Status> {
+    let alloc = rt.alloc();
+    let mut errors = rt.stderr();
+    let words: Vec<String> = match std::env::args(rt) {
+        Ok(words) => words.collect(alloc)?,
+        Err(error) if error.kind() == ErrorKind::InvalidData => {
+            let _ = writeln!(errors, "error: a word is not UTF-8");
+            return Ok(Status::NotJudged);
+        }
+        Err(error) => return Err(error),
+    };
+    let mut out = BufWriter::new(alloc, io::writer(rt))?;
+    let mut files = Files::new(rt);
+    run(alloc, words.as_slice(), &mut files, &mut out, &mut errors)
+}
+
+/// Why a run ended early: files that cannot be read are named by `run`, so memory or the output is left.
+#[derive(Clone, Copy, Drop)]
+struct Cause<'a> {
+    error: &'a Error,
+}
+
+impl fmt::Display for Cause<'_> {
+    fn fmt<W: fmt::Write>(&self, f: &mut fmt::Formatter<W>) -> fmt::Result {
+        match self.error.kind() {
+            ErrorKind::OutOfMemory => write!(f, "out of memory"),
+            _ => write!(f, "the output could not be written: {}", self.error),
+        }
+    }
+}

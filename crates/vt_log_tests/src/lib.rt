@@ -1,0 +1,13 @@
+//! Tests of what logs tell: lines of other recorders, messages put together by listeners, and runs of vt_log_tool.
+#![tactic(auto)]
+
+#[cfg(test)]
+mod lines;
+#[cfg(test)]
+mod listener;
+#[cfg(test)]
+mod runs;
+#[cfg(test)]
+mod shelf;
+#[cfg(test)]
+mod want_of_memory;

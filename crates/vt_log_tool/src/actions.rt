@@ -1,0 +1,73 @@
+//! The operator's actions that messages of a terminal tell of.
+
+use byteorder::{ByteOrder, LittleEndian};
+use std::io::{self, Write};
+use vt_can::Action;
+use vt_commands::function::{BUTTON_ACTIVATION, NUMERIC_VALUE, SOFT_KEY_ACTIVATION, STRING_VALUE};
+
+/// VT Select Input Object: the operator has selected an input, or left it.
+const SELECT_INPUT: u8 = 0x03;
+
+/// The state of a key or a button that was released.
+const RELEASED: u8 = 0;
+
+/// The state of a key or a button that was pressed.
+const PRESSED: u8 = 1;
+
+/// The action that a message of a terminal tells of, if it is one that an operator line can say: no text with a newline or a carriage
+/// return, and no object 65535.
+pub(crate) fn action_in(message: &[u8]) -> Option<Action<'_>> {
+    match message {
+        [
+            SOFT_KEY_ACTIVATION | BUTTON_ACTIVATION,
+            state,
+            low,
+            high,
+            _,
+            _,
+            _,
+            _,
+        ] => { key_action(*state, id(*low, *high)?) }
+        [SELECT_INPUT, low, high, 1, ..] => Some(Action::Select(id(*low, *high)?)),
+        [NUMERIC_VALUE, low, high, _, value @ ..] if value.len() == 4 => {
+            Some(Action::Number(id(*low, *high)?, LittleEndian::read_u32(value)))
+        }
+        [STRING_VALUE, low, high, length, text @ ..] => {
+            let text = text.get(..usize::from(*length))?;
+            let is_line = !text.iter().any(|byte| matches!(byte, b'\n' | b'\r'));
+            is_line.then_some(Action::Text(id(*low, *high)?, text))
+        }
+        _ => None,
+    }
+}
+
+/// The action of a key or a button.
+fn key_action<'a>(state: u8, id: u16) -> Option<Action<'a>> {
+    match state {
+        PRESSED => Some(Action::Press(id)),
+        RELEASED => Some(Action::Release(id)),
+        _ => None,
+    }
+}
+
+/// The ID of an object, which is not NULL.
+fn id(low: u8, high: u8) -> Option<u16> {
+    let id = u16::from_le_bytes([low, high]);
+    (id != u16::MAX).then_some(id)
+}
+
+/// Writes the line of an action.
+pub(crate) fn put_action<W: Write>(action: Action<'_>, out: &mut W) -> io::Result<()> {
+    match action {
+        Action::Press(id) => writeln!(out, "! press {id}"),
+        Action::Release(id) => writeln!(out, "! release {id}"),
+        Action::Select(id) => writeln!(out, "! select {id}"),
+        Action::Number(id, number) => writeln!(out, "! number {id} {number}"),
+        Action::Text(id, text) => {
+            write!(out, "! text {id} ")?;
+            out.write_all(text)?;
+            out.write_all(b"\n")
+        }
+        Action::Set(address) => writeln!(out, "! set {address:02X}"),
+    }
+}

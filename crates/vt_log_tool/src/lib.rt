@@ -1,0 +1,18 @@
+//! The program `segyolant_log` as a function of words, files and writers.
+//!
+//! `run` runs it on its words, and returns the `Status` with which it ends. docs/LOGS.md has the subcommands.
+#![tactic(auto)]
+
+mod actions;
+mod lines;
+mod operator;
+mod pools;
+mod program;
+mod report;
+mod requests;
+mod sets;
+mod test;
+mod verdict;
+
+pub use program::{Status, run};
+pub use vt_files::{Files, Open, Save};

@@ -1,0 +1,145 @@
+//! The subcommand `operator`.
+
+use crate::actions::{action_in, put_action};
+use crate::lines::text_of;
+use crate::program::Status;
+use std::alloc::{AllocError, Global};
+use std::io::{self, Write};
+use vt_can::assigned::{TP_CM, TP_RTS, VT_TO_ECU};
+use vt_can::{Frame, Line, LineFault, parse_line, write_line};
+use vt_files::{Open, read_file};
+use vt_listen::{Broken, Listener};
+use vt_log_words::OperatorOptions;
+use vt_recorded::Reader;
+
+/// Prints the log with the operator's lines, each before the message that tells of it.
+pub(crate) fn run_operator<F: Open, W: Write, E: Write>(
+    alloc: Global,
+    options: OperatorOptions<'_>,
+    files: &mut F,
+    out: &mut W,
+    errors: &mut E,
+) -> io::Result<Status> {
+    let Some(log) = read_file(alloc, options.log, files, errors)? else {
+        return Ok(Status::NotJudged);
+    };
+    let log = text_of(&log);
+    let told = Recording::told_in(alloc, log, options.own)?;
+    put_lines(alloc, log, told.as_slice(), out)?;
+    Ok(Status::Clean)
+}
+
+/// The operator's line that a message tells of, and the line of the log before which it stands: that of the message's first frame.
+#[derive(Drop)]
+struct Told {
+    before: usize,
+    line: Vec<u8>,
+}
+
+/// What is heard of a recorded terminal.
+#[derive(Drop)]
+struct Recording {
+    alloc: Global,
+    own: u8,
+    listener: Listener,
+    broken: Vec<Broken>,
+    /// The line of the last request to each address.
+    requests: [usize; 256],
+    told: Vec<Told>,
+}
+
+impl Recording {
+    /// What the messages of the terminal at an address tell of its operator, by rising lines.
+    fn told_in(alloc: Global, log: &[u8], own: u8) -> Result<Vec<Told>, AllocError> {
+        let mut recording = Recording {
+            alloc,
+            own,
+            listener: Listener::new(alloc),
+            broken: Vec::new(alloc),
+            requests: [0; 256],
+            told: Vec::new(alloc),
+        };
+        let mut reader = Reader::new(alloc);
+        for (number, line) in log.split(|byte| *byte == b'\n').enumerate() {
+            if let Ok(Line::Frame { frame, .. }) = reader.read(line)? {
+                recording.hear(number, &frame)?;
+            }
+        }
+        let mut told = recording.told;
+        told.sort_by_key(|told| told.before)?;
+        Ok(told)
+    }
+
+    /// Hears the frame of a line.
+    fn hear(&mut self, number: usize, frame: &Frame) -> Result<(), AllocError> {
+        if frame.id.source() != self.own {
+            return Ok(());
+        }
+        let Some(destination) = frame.id.destination() else {
+            return Ok(());
+        };
+        match frame.id.pgn() {
+            VT_TO_ECU => self.tell(number, frame.bytes.as_slice()),
+            pgn => {
+                if pgn == TP_CM && frame.bytes.first() == Some(&TP_RTS) {
+                    self.requests[usize::from(destination)] = number;
+                }
+                self.broken.clear();
+                match self.listener.hear(frame, &mut self.broken)? {
+                    Some(sent) if sent.pgn == VT_TO_ECU => {
+                        self.tell(self.requests[usize::from(destination)], &sent.bytes)
+                    }
+                    _ => Ok(()),
+                }
+            }
+        }
+    }
+
+    /// Keeps the operator's line that a message tells of, if it tells of one.
+    fn tell(&mut self, before: usize, message: &[u8]) -> Result<(), AllocError> {
+        let Some(action) = action_in(message) else {
+            return Ok(());
+        };
+        let mut line = Vec::new(self.alloc);
+        put_action(action, &mut line).map_err(|_| AllocError)?;
+        self.told.push(Told { before, line })?;
+        Ok(())
+    }
+}
+
+/// Writes the lines of a log without its operator lines, and before each the operator's lines that it tells of.
+fn put_lines<W: Write>(alloc: Global, log: &[u8], told: &[Told], out: &mut W) -> io::Result<()> {
+    let mut reader = Reader::new(alloc);
+    let mut rest = told;
+    for (number, line) in log.split(|byte| *byte == b'\n').enumerate() {
+        let count = rest.partition_point(|told| told.before <= number);
+        let (ready, later) = rest.split_at(count);
+        for told in ready {
+            out.write_all(&told.line)?;
+        }
+        rest = later;
+        put_line(&mut reader, line, out)?;
+    }
+    Ok(())
+}
+
+/// The least time that no log line has, in microseconds.
+const END_OF_TIME: u64 = 1_000_000_000_000_000_000;
+
+/// Writes a line, unless it is one of the operator. A frame of another recorder is written as `candump -L` does.
+fn put_line<W: Write>(reader: &mut Reader, line: &[u8], out: &mut W) -> io::Result<()> {
+    match parse_line(line) {
+        Ok(Line::Operator(_)) | Err(LineFault::Operator) => return Ok(()),
+        Err(LineFault::Time | LineFault::Shape) => {
+            if let Ok(Line::Frame { time, frame }) = reader.read(line)? {
+                if time < END_OF_TIME {
+                    out.write_all(&write_line(time, &frame))?;
+                    return out.write_all(b"\n");
+                }
+            }
+        }
+        _ => {}
+    }
+    out.write_all(line)?;
+    out.write_all(b"\n")
+}

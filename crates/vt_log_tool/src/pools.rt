@@ -1,0 +1,251 @@
+//! The subcommand `pools`.
+
+use crate::lines::text_of;
+use crate::program::Status;
+use crate::report::{UploadEnd, put_broken, put_finding, put_request, put_unended, put_upload};
+use crate::requests::Request;
+use crate::sets::Sets;
+use crate::verdict::Verdict;
+use std::alloc::Global;
+use std::io::{self, Write};
+use vt_can::assigned::ECU_TO_VT;
+use vt_can::{Frame, Line};
+use vt_files::{Open, Save, make_folder, read_file, read_names, save_file};
+use vt_findings_text::{Item, Names, Source};
+use vt_inspect::inspect;
+use vt_listen::{Broken, Listener};
+use vt_log_words::{Format, PoolsOptions};
+use vt_recorded::Reader;
+use vt_uploads::{Message, Upload, Uploads};
+
+/// Prints every upload of a log, and what a terminal says of it.
+pub(crate) fn run_pools<F: Open + Save, W: Write, E: Write>(
+    alloc: Global,
+    options: &PoolsOptions<'_>,
+    files: &mut F,
+    out: &mut W,
+    errors: &mut E,
+) -> io::Result<Status> {
+    let Some(names) = read_names(alloc, options.names.as_slice(), files, errors)? else {
+        return Ok(Status::NotJudged);
+    };
+    let Some(log) = read_file(alloc, options.log, files, errors)? else {
+        return Ok(Status::NotJudged);
+    };
+    let folder = options.folder.map(|folder| folder.trim_end_matches('/'));
+    if let Some(folder) = folder {
+        if !make_folder(folder, files, errors)? {
+            return Ok(Status::NotJudged);
+        }
+    }
+    let report = Report {
+        alloc,
+        folder,
+        names: &names,
+        format: options.format,
+    };
+    report.tell_log(text_of(&log), files, out, errors)
+}
+
+/// What is heard of uploads in a log.
+#[derive(Drop)]
+struct Hearing {
+    listener: Listener,
+    uploads: Uploads,
+    broken: Vec<Broken>,
+    sets: Sets,
+}
+
+/// How the pools of a log are told.
+#[derive(Clone, Copy, Drop)]
+struct Report<'a> {
+    alloc: Global,
+    folder: Option<&'a str>,
+    names: &'a Names,
+    format: Format,
+}
+
+impl Report<'_> {
+    /// Tells each upload of a log, each request about pools, and each transfer and upload that did not end.
+    fn tell_log<F: Save, W: Write, E: Write>(
+        &self,
+        log: &[u8],
+        files: &mut F,
+        out: &mut W,
+        errors: &mut E,
+    ) -> io::Result<Status> {
+        let mut hearing = Hearing {
+            listener: Listener::new(self.alloc),
+            uploads: Uploads::new(self.alloc),
+            broken: Vec::new(self.alloc),
+            sets: Sets::new(self.alloc),
+        };
+        let mut reader = Reader::new(self.alloc);
+        let mut status = Status::Clean;
+        let mut number = 0u64;
+        for line in log.split(|byte| *byte == b'\n') {
+            number = number.saturating_add(1);
+            if let Ok(Line::Frame { frame, .. }) = reader.read(line)? {
+                let found = self.tell_frame(number, &frame, &mut hearing, files, out, errors)?;
+                status = status.and(found);
+            }
+        }
+        let found = self.tell_unended(&mut hearing, out)?;
+        Ok(status.and(found))
+    }
+
+    /// Tells what the frame of a line brings about.
+    fn tell_frame<F: Save, W: Write, E: Write>(
+        &self,
+        line: u64,
+        frame: &Frame,
+        hearing: &mut Hearing,
+        files: &mut F,
+        out: &mut W,
+        errors: &mut E,
+    ) -> io::Result<Status> {
+        if frame.id.pgn() == ECU_TO_VT {
+            let Some(destination) = frame.id.destination() else {
+                return Ok(Status::Clean);
+            };
+            let message = Message {
+                line,
+                source: frame.id.source(),
+                destination,
+                bytes: frame.bytes.as_slice(),
+            };
+            return self.tell_message(message, hearing, files, out, errors);
+        }
+        hearing.broken.clear();
+        let sent = hearing.listener.hear(frame, &mut hearing.broken)?;
+        let found = self.tell_broken(line, hearing.broken.as_slice(), out)?;
+        match sent {
+            Some(sent) if sent.pgn == ECU_TO_VT => {
+                let message = Message {
+                    line,
+                    source: sent.source,
+                    destination: sent.destination,
+                    bytes: &sent.bytes,
+                };
+                Ok(found.and(self.tell_message(message, hearing, files, out, errors)?))
+            }
+            _ => Ok(found),
+        }
+    }
+
+    /// Tells the transfers that a line ends before they are whole.
+    fn tell_broken<W: Write>(
+        &self,
+        line: u64,
+        broken: &[Broken],
+        out: &mut W,
+    ) -> io::Result<Status> {
+        let mut status = Status::Clean;
+        for broken in broken {
+            status = Status::Found;
+            put_broken(self.alloc, Some(line), *broken, self.format, out)?;
+        }
+        Ok(status)
+    }
+
+    /// Tells what a message to a terminal brings about.
+    fn tell_message<F: Save, W: Write, E: Write>(
+        &self,
+        message: Message<'_>,
+        hearing: &mut Hearing,
+        files: &mut F,
+        out: &mut W,
+        errors: &mut E,
+    ) -> io::Result<Status> {
+        if let Some(request) = Request::in_message(message.bytes) {
+            if matches!(request, Request::DeletePool) {
+                hearing.sets.delete(message.source, message.destination);
+            }
+            put_request(self.alloc, message, request, self.format, out)?;
+        }
+        match hearing.uploads.take(message)? {
+            Some(upload) => {
+                let sets = &mut hearing.sets;
+                self.tell_upload(message.line, &upload, sets, files, out, errors)
+            }
+            None => Ok(Status::Clean),
+        }
+    }
+
+    /// Tells an upload that has ended, and writes its pool.
+    fn tell_upload<F: Save, W: Write, E: Write>(
+        &self,
+        line: u64,
+        upload: &Upload,
+        sets: &mut Sets,
+        files: &mut F,
+        out: &mut W,
+        errors: &mut E,
+    ) -> io::Result<Status> {
+        let alloc = self.alloc;
+        let objects = sets.objects(upload.source, upload.destination);
+        let is_update = objects.is_some();
+        let verdict = Verdict::of_upload(alloc, &upload.bytes, objects)?;
+        let number = sets.next_number(upload.source)?;
+        let name = format!(in alloc; "{:02X}-{number}.iop", upload.source)?;
+        let path = match self.folder {
+            Some(folder) => format!(in alloc; "{folder}/{name}")?,
+            None => name,
+        };
+        let end = UploadEnd { line, is_update };
+        let file = self.folder.map(|_| path.as_str());
+        put_upload(alloc, end, upload, &verdict, file, self.format, out)?;
+        if !is_update && !matches!(verdict, Verdict::Accepted(_)) {
+            self.put_findings(path.as_str(), &upload.bytes, out)?;
+        }
+        if self.folder.is_some() && !save_file(path.as_str(), &upload.bytes, files, errors)? {
+            return Ok(Status::NotJudged);
+        }
+        match verdict {
+            Verdict::Accepted(objects) => {
+                sets.put(upload.source, upload.destination, objects)?;
+                Ok(Status::Clean)
+            }
+            Verdict::Faulty(_) | Verdict::Refused(_) => Ok(Status::Found),
+        }
+    }
+
+    /// Writes every fault of a pool, as `segyolant check` does.
+    fn put_findings<W: Write>(&self, path: &str, bytes: &[u8], out: &mut W) -> io::Result<()> {
+        let inspection = inspect(self.alloc, bytes)?;
+        let source = Source {
+            path,
+            inspection: &inspection,
+            names: self.names,
+        };
+        for finding in inspection.findings.iter() {
+            put_finding(
+                self.alloc,
+                &source,
+                Item::Finding(finding),
+                self.format,
+                out,
+            )?;
+        }
+        for note in inspection.notes.iter() {
+            put_finding(self.alloc, &source, Item::Note(*note), self.format, out)?;
+        }
+        Ok(())
+    }
+
+    /// Tells the transfers and uploads that are not ended.
+    fn tell_unended<W: Write>(&self, hearing: &mut Hearing, out: &mut W) -> io::Result<Status> {
+        let mut status = Status::Clean;
+        hearing.broken.clear();
+        hearing.listener.unended(&mut hearing.broken)?;
+        for broken in hearing.broken.iter() {
+            status = Status::Found;
+            put_broken(self.alloc, None, *broken, self.format, out)?;
+        }
+        for upload in hearing.uploads.unended() {
+            status = Status::Found;
+            put_unended(self.alloc, upload, self.format, out)?;
+        }
+        Ok(status)
+    }
+}

@@ -1,0 +1,204 @@
+//! The lines of a report on the pools of a log, for people or as JSON.
+
+use crate::requests::Request;
+use crate::verdict::Verdict;
+use serde_json::json;
+use std::alloc::Global;
+use std::io::{self, Write};
+use vt_findings_json::item_json;
+use vt_findings_text::{Item, Source};
+use vt_listen::Broken;
+use vt_log_words::Format;
+use vt_uploads::{Message, Upload};
+
+/// Where an upload has ended, and whether it was an update.
+#[derive(Clone, Copy, Debug)]
+pub(crate) struct UploadEnd {
+    /// The line of its end.
+    pub(crate) line: u64,
+    pub(crate) is_update: bool,
+}
+
+/// Writes the line of an upload, with the file of its pool if it is written.
+pub(crate) fn put_upload<W: Write>(
+    alloc: Global,
+    end: UploadEnd,
+    upload: &Upload,
+    verdict: &Verdict,
+    path: Option<&str>,
+    format: Format,
+    out: &mut W,
+) -> io::Result<()> {
+    let UploadEnd {
+        line: last_line,
+        ..
+    } = end;
+    let kind = if end.is_update { "update" } else { "pool" };
+    let size = upload.bytes.len();
+    if format == Format::Text {
+        let Upload {
+            first_line,
+            source,
+            destination,
+            pieces,
+            ..
+        } = upload;
+        write!(
+            out,
+            "lines {first_line} to {last_line}: {kind} of {source:02X} to {destination:02X}, {size} bytes in {pieces} pieces: {verdict}"
+        )?;
+        if let Some(path) = path {
+            write!(out, " -> {path}")?;
+        }
+        return writeln!(out);
+    }
+    let source = format!(in alloc; "{:02X}", upload.source)?;
+    let destination = format!(in alloc; "{:02X}", upload.destination)?;
+    let text = format!(in alloc; "{verdict}")?;
+    let line = json!(in alloc; {
+        "bytes": size as u64,
+        "destination": destination.as_str(),
+        "file": path.unwrap_or(""),
+        "first_line": upload.first_line,
+        "is_accepted": matches!(verdict, Verdict::Accepted(_)),
+        "kind": kind,
+        "last_line": last_line,
+        "pieces": upload.pieces,
+        "source": source.as_str(),
+        "verdict": text.as_str()
+    })?;
+    writeln!(out, "{}", line.to_string(alloc)?)
+}
+
+/// Writes the line of a fault of a pool.
+pub(crate) fn put_finding<W: Write>(
+    alloc: Global,
+    source: &Source<'_>,
+    item: Item<'_>,
+    format: Format,
+    out: &mut W,
+) -> io::Result<()> {
+    let message = source.message(alloc, item)?;
+    match format {
+        Format::Text => writeln!(out, "  {message}"),
+        Format::Json => writeln!(out, "{}", item_json(alloc, source, &message, item)?),
+    }
+}
+
+/// Writes the line of a transfer that is not whole: one that ended at a line, or one that is open at the end of the log.
+pub(crate) fn put_broken<W: Write>(
+    alloc: Global,
+    line: Option<u64>,
+    broken: Broken,
+    format: Format,
+    out: &mut W,
+) -> io::Result<()> {
+    let Broken {
+        source,
+        destination,
+        pgn,
+        size,
+        missing,
+    } = broken;
+    if format == Format::Text {
+        match line {
+            Some(line) => write!(
+                out,
+                "line {line}: transfer of {source:02X} to {destination:02X} broken off"
+            )?,
+            None => write!(
+                out,
+                "at the end: transfer of {source:02X} to {destination:02X} not whole"
+            )?,
+        }
+        return writeln!(
+            out,
+            ": {size} bytes of parameter group {pgn:04X}, packet {missing} is missing"
+        );
+    }
+    let kind = if line.is_some() {
+        "broken"
+    } else {
+        "not whole"
+    };
+    let source = format!(in alloc; "{source:02X}")?;
+    let destination = format!(in alloc; "{destination:02X}")?;
+    let group = format!(in alloc; "{pgn:04X}")?;
+    let line = json!(in alloc; {
+        "bytes": size,
+        "destination": destination.as_str(),
+        "group": group.as_str(),
+        "kind": kind,
+        "last_line": line.unwrap_or(0),
+        "missing": missing,
+        "source": source.as_str()
+    })?;
+    writeln!(out, "{}", line.to_string(alloc)?)
+}
+
+/// Writes the line of a request about pools.
+pub(crate) fn put_request<W: Write>(
+    alloc: Global,
+    message: Message<'_>,
+    request: Request<'_>,
+    format: Format,
+    out: &mut W,
+) -> io::Result<()> {
+    let Message {
+        line,
+        source,
+        destination,
+        ..
+    } = message;
+    if format == Format::Text {
+        return writeln!(
+            out,
+            "line {line}: {source:02X} {request} at {destination:02X}"
+        );
+    }
+    let source = format!(in alloc; "{source:02X}")?;
+    let destination = format!(in alloc; "{destination:02X}")?;
+    let text = format!(in alloc; "{request}")?;
+    let line = json!(in alloc; {
+        "destination": destination.as_str(),
+        "kind": "request",
+        "last_line": line,
+        "request": text.as_str(),
+        "source": source.as_str()
+    })?;
+    writeln!(out, "{}", line.to_string(alloc)?)
+}
+
+/// Writes the line of an upload that is not ended.
+pub(crate) fn put_unended<W: Write>(
+    alloc: Global,
+    upload: &Upload,
+    format: Format,
+    out: &mut W,
+) -> io::Result<()> {
+    let Upload {
+        first_line,
+        source,
+        destination,
+        pieces,
+        ..
+    } = upload;
+    let size = upload.bytes.len();
+    if format == Format::Text {
+        return writeln!(
+            out,
+            "line {first_line} on: pool of {source:02X} to {destination:02X}, {size} bytes in {pieces} pieces: its end is not in the log"
+        );
+    }
+    let source = format!(in alloc; "{source:02X}")?;
+    let destination = format!(in alloc; "{destination:02X}")?;
+    let line = json!(in alloc; {
+        "bytes": size as u64,
+        "destination": destination.as_str(),
+        "first_line": upload.first_line,
+        "kind": "unended",
+        "pieces": upload.pieces,
+        "source": source.as_str()
+    })?;
+    writeln!(out, "{}", line.to_string(alloc)?)
+}
