@@ -56,7 +56,7 @@ def main():
     else:
         with tempfile.TemporaryDirectory() as folder:
             test_all(tests, folder, words.cases)
-    print(f'{tests.passed} passed, {tests.failed} failed, {tests.not_yet} not yet, {tests.passed_over} passed over')
+    print(f'{tests.passed} passed, {tests.failed} failed, {tests.passed_over} passed over')
     sys.exit(1 if tests.failed else 0)
 
 

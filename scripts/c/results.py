@@ -1,4 +1,4 @@
-"""The results of tests: what they expect, and how many passed, failed, are not yet reached and are passed over."""
+"""The results of tests: what they expect, and how many passed, failed and are passed over."""
 import os
 import shutil
 
@@ -11,15 +11,11 @@ class Failed(Exception):
     """Why a test failed."""
 
 
-class NotYet(Exception):
-    """A goal that is not reached."""
-
-
 class Tests:
     """The counts of the tests so far."""
 
     def __init__(self, only):
-        self.only, self.passed, self.failed, self.not_yet, self.passed_over = only, 0, 0, 0, 0
+        self.only, self.passed, self.failed, self.passed_over = only, 0, 0, 0
 
     def run(self, name, function, *words, quiet=False):
         """Runs a test. It may return a note."""
@@ -30,9 +26,6 @@ class Tests:
         except PassedOver as why:
             self.passed_over += 1
             print(f'passed over: {name}: {why}', flush=True)
-        except NotYet as why:
-            self.not_yet += 1
-            print(f'not yet: {name}: {why}', flush=True)
         except Failed as why:
             self.failed += 1
             print(f'FAILED: {name}: {why}', flush=True)
