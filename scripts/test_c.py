@@ -5,8 +5,7 @@ crates/vt_check/out/libvt_check.a, examples/cpp and bindings/rust. The tests are
     test_c.py [--cases FOLDER ...] [--only WORD]
 
 It compiles with gcc into a temporary folder. `rt lib` makes each library, in its crate. What needs a tool that is not on the machine
-is passed over by name. A goal that is not reached is told as `not yet`, and fails nothing. The last line is `N passed, M failed, K not
-yet, L passed over`, and the status is 1 where something failed.
+is passed over by name. The last line is `N passed, M failed, L passed over`, and the status is 1 where something failed.
 
 --cases names folders of runs of vt_replay, each a folder with the files args, log, pool, stdout and status (and perhaps stages: a run
 without the stage `final` is passed over). --only runs the tests whose names have the word.
