@@ -1,10 +1,10 @@
 //! Verifies pools: tests the rules of a pool in their order.
 
-ghost use Rattle.std.specs.Prelude.{◌≡◌, ◌≤◌, OnOk, IfOk, IfErr};
+ghost use Rattle.std.specs.Prelude.{◌≡◌, ◌≤◌, OnOk, IfOk, IfErr, slice_index};
 ghost use Rattle.vt_stores.specs.Stores.{AreStored, by_rising_id};
 ghost use Rattle.vt_rank.specs.Costs.{IsFirstOverCap};
-ghost use Rattle.vt_rank.specs.Graphs.{lists};
-ghost use Rattle.vt_rank.specs.Paths.{AreRanks, HasNoCircle};
+ghost use Rattle.vt_rank.specs.Graphs.{lists, triggered};
+ghost use Rattle.vt_rank.specs.Paths.{AreRanks, HasNoCircle, IsCircle, IsDistinct, IsLeastOnCircles};
 ghost use Rattle.vt_stores.specs.Shapes.{shape_of};
 ghost use Rattle.vt_verify.specs.Budgets.{AreBudgets, MacroCostsAreTotals};
 ghost use Rattle.vt_chains.specs.Depths.{HasDepths};
@@ -28,7 +28,7 @@ use std::alloc::Global;
 use vt_chains::{Limits, TERMINAL_LIMITS, find_depths};
 use vt_objects::{Kind, ObjectId, SortedStore, Store};
 use vt_pool::Pool;
-use vt_rank::{OverBudget, Ranks, costs, rank_on_heap};
+use vt_rank::{Circle, OverBudget, Ranks, costs, rank_on_heap};
 
 /// Verifies a pool. A refusal reports the first rule that the pool breaks, and its first culprit, or some chain or
 /// circle.
@@ -261,6 +261,27 @@ fn check_circles(
     ensures refused { IfErr result (IsRefused terminal objects.now) }
 {
     let ranked = rank_on_heap(alloc, &triggers.graph)?;
+    ranks_or_refusal(objects, triggers, ranked)
+}
+
+/// The ranks of the macros, or the refusal of their circle.
+fn ranks_or_refusal(
+    objects: &SortedStore,
+    triggers: &TriggerGraph,
+    ranked: Result<Ranks, Circle>,
+) -> Result<Ranks, Refusal>
+    requires before { HoldBefore terminal objects.now TriggersAreNoCircle }
+    requires triggers { IsTriggerGraph (shape_of objects.now) triggers.now.events.keys triggers.now.graph }
+    requires falls { IfOk ranked (AreRanks triggers.now.graph) }
+    requires none { OnOk ranked (HasNoCircle (triggered triggers.now.graph)) }
+    requires circle { IfErr ranked (λ c. IsCircle (triggered triggers.now.graph) c.path.items) }
+    requires once { IfErr ranked (λ c. IsDistinct c.path.items) }
+    requires least { IfErr ranked (λ c. IsLeastOnCircles (triggered triggers.now.graph) (slice_index c.path.items 0)) }
+    ensures ok { OnOk result (HoldBefore terminal objects.now BudgetsAreWithin) }
+    ensures ranks { IfOk result (AreRanks triggers.now.graph) }
+    ensures refused { IfErr result (IsRefused terminal objects.now) }
+    ensures no_memory { IfErr result (λ refusal. IsWantOfMemory refusal → ⊥) }
+{
     match ranked {
         Ok(ranks) => Ok(ranks),
         Err(circle) => Err(Refusal::MacroCircle { path: circle.path }),
