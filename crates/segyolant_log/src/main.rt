@@ -32,7 +32,7 @@ fn run_words(rt: &HostRuntime) -> io::Result<Status> {
         Err(error) => return Err(error),
     };
     let mut out = BufWriter::new(alloc, io::writer(rt))?;
-    let mut files = Files::new(rt);
+    let mut files = Files::new(rt, "segyolant_log");
     run(alloc, words.as_slice(), &mut files, &mut out, &mut errors)
 }
 

@@ -3,15 +3,21 @@
 use std::fs::{self, File};
 use std::io::{self, Error, ErrorKind, Read, Stdin};
 
+/// A program that reads and writes files, by its name.
+pub trait Program {
+    /// The name with which its messages about files begin.
+    fn name(&self) -> &'static str;
+}
+
 /// Opens files by their paths.
-pub trait Open {
+pub trait Open: Program {
     type Reader: Read + Drop;
 
     fn open(&mut self, path: &str) -> io::Result<Self::Reader>;
 }
 
 /// Writes files by their paths.
-pub trait Save {
+pub trait Save: Program {
     /// Writes a file. What was in it is replaced.
     fn save(&mut self, path: &str, bytes: &[u8]) -> io::Result<()>;
 
@@ -23,6 +29,7 @@ pub trait Save {
 #[derive(Drop)]
 pub struct Files<'a> {
     rt: &'a HostRuntime,
+    program: &'static str,
 }
 
 /// An open file, or the standard input.
@@ -35,9 +42,9 @@ pub enum Opened {
 }
 
 impl<'a> Files<'a> {
-    /// Returns the files of the system, by its runtime.
-    pub fn new(rt: &'a HostRuntime) -> Files<'a> {
-        Files { rt }
+    /// Returns the files of the system, by its runtime, for a program of this name.
+    pub fn new(rt: &'a HostRuntime, program: &'static str) -> Files<'a> {
+        Files { rt, program }
     }
 }
 
@@ -47,6 +54,12 @@ impl Read for Opened {
             Opened::File(file) => file.read(buf),
             Opened::Input(input) => input.read(buf),
         }
+    }
+}
+
+impl Program for Files<'_> {
+    fn name(&self) -> &'static str {
+        self.program
     }
 }
 

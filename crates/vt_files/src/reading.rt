@@ -21,7 +21,7 @@ pub fn read_file<F: Open, E: Write>(
         Ok(_) => Ok(Some(bytes)),
         Err(error) if error.kind() == ErrorKind::OutOfMemory => Err(error),
         Err(error) => {
-            let _ = writeln!(errors, "segyolant: {path}: {error}");
+            let _ = writeln!(errors, "{}: {path}: {error}", files.name());
             Ok(None)
         }
     }

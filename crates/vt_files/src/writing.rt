@@ -10,7 +10,8 @@ pub fn save_file<F: Save, E: Write>(
     files: &mut F,
     errors: &mut E,
 ) -> io::Result<bool> {
-    is_done(files.save(path, bytes), path, errors)
+    let saved = files.save(path, bytes);
+    is_done(saved, files.name(), path, errors)
 }
 
 /// Makes a folder unless it is there, and returns whether it is there then; if not, `errors` says why.
@@ -19,18 +20,24 @@ pub fn make_folder<F: Save, E: Write>(
     files: &mut F,
     errors: &mut E,
 ) -> io::Result<bool> {
-    is_done(files.make_folder(path), path, errors)
+    let made = files.make_folder(path);
+    is_done(made, files.name(), path, errors)
 }
 
 /// Whether a file or a folder is written; if not, `errors` says why. Want of memory stays an error.
-fn is_done<E: Write>(written: io::Result<()>, path: &str, errors: &mut E) -> io::Result<bool> {
+fn is_done<E: Write>(
+    written: io::Result<()>,
+    program: &str,
+    path: &str,
+    errors: &mut E,
+) -> io::Result<bool> {
     match written {
         Ok(()) => Ok(true),
         Err(error) if error.kind() == ErrorKind::OutOfMemory => Err(error),
         Err(error) => {
             let _ = writeln!(
                 errors,
-                "segyolant: {path}: cannot be written: {error}{}",
+                "{program}: {path}: cannot be written: {error}{}",
                 cure_of(&error)
             );
             Ok(false)

@@ -12,4 +12,4 @@ mod program;
 mod why;
 
 pub use program::{Look, Status, run};
-pub use vt_files::{Files, Open, Opened, Save};
+pub use vt_files::{Files, Open, Opened, Program, Save};

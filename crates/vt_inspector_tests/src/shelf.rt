@@ -2,7 +2,7 @@
 
 use std::alloc::Global;
 use std::io::{self, Error, ErrorKind, Write};
-use vt_inspector::{Open, Save};
+use vt_inspector::{Open, Program, Save};
 use vt_testing::{MASK, POOL, WORKING_SET};
 
 /// A pool with each warning but ExtraKeys. The record of the Container 100 comes twice.
@@ -132,6 +132,12 @@ impl Shelf {
         Shelf {
             written: Vec::new(alloc),
         }
+    }
+}
+
+impl Program for Shelf {
+    fn name(&self) -> &'static str {
+        "segyolant"
     }
 }
 

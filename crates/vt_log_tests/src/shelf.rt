@@ -2,7 +2,7 @@
 
 use std::alloc::Global;
 use std::io::{self, Error, ErrorKind, Write};
-use vt_log_tool::{Open, Save};
+use vt_log_tool::{Open, Program, Save};
 use vt_testing::POOL;
 
 /// The upload of a pool, and a key that its operator pressed and released.
@@ -93,6 +93,12 @@ impl Shelf {
         Shelf {
             written: Vec::new(alloc),
         }
+    }
+}
+
+impl Program for Shelf {
+    fn name(&self) -> &'static str {
+        "segyolant_log"
     }
 }
 

@@ -15,4 +15,4 @@ mod test;
 mod verdict;
 
 pub use program::{Status, run};
-pub use vt_files::{Files, Open, Save};
+pub use vt_files::{Files, Open, Program, Save};

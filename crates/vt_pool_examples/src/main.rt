@@ -207,7 +207,7 @@ fn run_words<W: Write>(rt: &HostRuntime, words: &[&str], out: &mut W) -> io::Res
     }
     writeln!(out)?;
     let alloc = rt.alloc();
-    let mut files = Files::new(rt);
+    let mut files = Files::new(rt, "segyolant");
     let status = run(alloc, words, Look::Plain, &mut files, out, &mut messages)?;
     out.write_all(&messages)?;
     writeln!(out, "status {}", status.code())
