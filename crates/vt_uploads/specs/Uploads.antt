@@ -1,7 +1,7 @@
 -- Uploads by the messages that were taken. Every list of messages has the latest first.
 use Rattle.std.specs.Prelude.{◌≡◌, ℕ, true, false, Option, Some, None, List, []}
 use Rattle.std.specs.Ordering.{nat_cmp}
-use Rattle.std.specs.BTreeMap.{get}
+use Rattle.std.specs.BTreeMap.{get, values}
 use Rattle.vt_can.specs.Assigned.{END_OF_POOL}
 use Rattle.vt_uploads.specs.declared.upload.Upload.{Upload}
 use Rattle.vt_uploads.specs.declared.uploads.Uploads.{Uploads}
@@ -11,6 +11,10 @@ use Rattle.vt_uploads.specs.Pieces.{Told, has_function, pieces}
 abbrev pub bytes_of : Option Upload → List ℕ
 bytes_of None = []
 bytes_of (Some upload) = upload.bytes.items
+
+-- the uploads that are not ended
+abbrev pub unended : Uploads → List Upload
+unended uploads = values uploads.unended
 
 -- the uploads after these messages: those of each identifier have the bytes of their pieces
 abbrev pub HasTaken : List Told → Uploads → Type 0

@@ -21,7 +21,7 @@ pub struct Uploads {
 }
 
 impl Uploads {
-    ghost use Rattle.vt_uploads.specs.Uploads.{bytes_of, HasTaken, IsEnded};
+    ghost use Rattle.vt_uploads.specs.Uploads.{bytes_of, unended, HasTaken, IsEnded};
 
     /// No uploads. Does not allocate.
     pub fn new(alloc: Global) -> Uploads
@@ -55,8 +55,10 @@ impl Uploads {
         }
     }
 
-    /// The uploads that are not ended.
-    pub fn unended(&self) -> Values<'_, u32, Upload> {
+    /// The uploads that are not ended, with their bytes so far, by rising addresses of the terminals, then of the implements.
+    pub fn unended(&self) -> Values<'_, u32, Upload>
+        ensures { result ≡ unended self.now }
+    {
         self.unended.values()
     }
 
