@@ -1,0 +1,11 @@
+mod Ended
+mod InputsSent
+mod Matching
+mod NothingTold
+mod Oldest
+mod OneMoreLine
+mod OnTopics
+mod OpenInOrder
+mod Overdue
+mod SaidAt
+mod ToldOfTopics

@@ -1,0 +1,31 @@
+//! The numbers of answers, by sort.
+
+/// How many messages were compared, and how many were not.
+#[derive(Clone, Copy, Debug, Default, PartialEq, Eq)]
+pub struct Tally {
+    /// Answers that equal their questions.
+    pub same: u64,
+    /// Answers with other bytes than their questions.
+    pub differ: u64,
+    /// Questions without an answer in time.
+    pub ours_alone: u64,
+    /// Answers without a question.
+    pub theirs_alone: u64,
+    /// Frames of both terminals that were not compared: transport control and packets, claims, other parameter groups.
+    pub not_compared: u64,
+}
+
+impl Tally {
+    /// How many pairs of messages, and messages alone, were compared.
+    pub fn compared(&self) -> u64 {
+        self.same
+            .saturating_add(self.differ)
+            .saturating_add(self.ours_alone)
+            .saturating_add(self.theirs_alone)
+    }
+}
+
+/// Counts one more, up to the highest number.
+pub(crate) fn count(number: &mut u64) {
+    *number = number.saturating_add(1);
+}

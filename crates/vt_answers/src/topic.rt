@@ -1,0 +1,73 @@
+//! What the messages of a terminal are about.
+
+ghost use Rattle.std.specs.Prelude.{◌≡◌};
+ghost use Rattle.vt_answers.specs.Topics as topics;
+
+use byteorder::{ByteOrder, LittleEndian};
+use vt_can::Frame;
+use vt_can::assigned::VT_TO_ECU;
+use vt_commands::function;
+
+/// What a message of a terminal is about.
+#[derive(Clone, Copy, Debug, PartialEq, Eq)]
+pub struct Topic {
+    /// The address to which the message goes, 255 for all.
+    pub destination: u8,
+    /// The function: the first byte of the message.
+    pub function: u8,
+    /// The object that the reply to a command names. `None` for another message, and for a function whose reply names none.
+    pub object: Option<u16>,
+}
+
+/// The topic of a frame, or `None` for a frame that is no message of a terminal.
+pub(crate) fn topic_of(frame: &Frame) -> Option<Topic>
+    ensures { result ≡ topics.topic_of frame.now }
+{
+    if frame.id.pgn() != VT_TO_ECU {
+        return None;
+    }
+    let destination = frame.id.destination()?;
+    let bytes = frame.bytes.as_slice();
+    let function = *bytes.first()?;
+    Some(Topic {
+        destination,
+        function,
+        object: object_in(function, bytes),
+    })
+}
+
+/// The object that a reply names.
+fn object_in(function: u8, bytes: &[u8]) -> Option<u16>
+    ensures { result ≡ topics.object_in function bytes.now }
+{
+    let place = object_place(function)?;
+    let id = bytes.get(place..place + 2)?;
+    Some(LittleEndian::read_u16(id))
+}
+
+/// The place of the object in the replies to a function.
+fn object_place(function: u8) -> Option<usize>
+    ensures { result ≡ topics.object_place function }
+{
+    match function {
+        function::CHANGE_STRING_VALUE => Some(3),
+        function::HIDE_SHOW
+        | function::ENABLE_DISABLE
+        | function::CHANGE_CHILD_LOCATION
+        | function::CHANGE_SIZE
+        | function::CHANGE_BACKGROUND_COLOUR
+        | function::CHANGE_NUMERIC_VALUE
+        | function::CHANGE_END_POINT
+        | function::CHANGE_FONT_ATTRIBUTES
+        | function::CHANGE_LINE_ATTRIBUTES
+        | function::CHANGE_FILL_ATTRIBUTES
+        | function::CHANGE_ACTIVE_MASK
+        | function::CHANGE_SOFT_KEY_MASK
+        | function::CHANGE_ATTRIBUTE
+        | function::CHANGE_PRIORITY
+        | function::CHANGE_LIST_ITEM
+        | function::CHANGE_CHILD_POSITION
+        | function::EXECUTE_MACRO => Some(1),
+        _ => None,
+    }
+}
