@@ -1,0 +1,4 @@
+mod NumberedLines
+mod OutputLines
+mod TracedInputs
+mod TracedLines

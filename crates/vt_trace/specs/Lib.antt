@@ -1,0 +1,3 @@
+-- The definitions used in the contracts of vt_trace.
+pub mod Replies
+pub mod Traces

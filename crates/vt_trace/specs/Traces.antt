@@ -1,0 +1,129 @@
+-- The trace of a line of a log: a head, the terminal's outputs, and the changes of its screen.
+use Rattle.std.specs.Prelude.{◌≡◌, ◌⊎◌, ◌==◌, ◌||◌, ℕ, nat_lt, Bool, false, not, nat_eq, if◌then◌else◌, List, [], ◌++◌, codes, map, Ok}
+use Rattle.std.specs.List.{All, AllZip, AllPass, flat_map, starts_with}
+use Rattle.vt_can.specs.lines.Readings.{ParsedLine, FrameAt, OperatorAction, CommentLine}
+use Rattle.vt_can.specs.lines.WrittenForms.{frame_text}
+use Rattle.vt_logs.specs.LineEffects.{IsInputOfLine}
+use Rattle.vt_logs.specs.Texts.{LineReading, newline, refusal_name}
+use Rattle.vt_server.specs.Judgements.{IsJudgedRight}
+use Rattle.vt_server.specs.Outputs.{outputs_of}
+use Rattle.vt_server.specs.Steps.{JudgedInput, step}
+use Rattle.vt_server.specs.Terminals.{State}
+use Rattle.vt_server.specs.declared.output.Output.{Output}
+use Rattle.vt_server.specs.declared.output.Output.TheVariants as outputs
+
+-- ---- lines
+
+abbrev pub HasNoNewline : List ℕ → Type 0
+HasNoNewline text = AllPass (λ byte. not (byte == 10)) text
+
+abbrev pub is_control : ℕ → Bool
+is_control byte = nat_lt byte 32 || byte == 127
+
+-- a dot for a control character
+abbrev pub shown_byte : ℕ → ℕ
+shown_byte byte = if is_control byte then 46 else byte
+
+-- a text with a dot for each control character
+abbrev pub one_line : List ℕ → List ℕ
+one_line text = map shown_byte text
+
+-- lines as one text
+abbrev pub joined : List (List ℕ) → List ℕ
+joined lines = flat_map (λ line. line) lines
+
+-- A text has gained a part with a property.
+pub record Gains (Is : List ℕ → Type 0) (old new : List ℕ) : Type 0 where
+  pub part : List ℕ
+  pub part_is : Is part
+  pub whole : new ≡ old ++ part
+
+-- ---- the outputs
+
+-- an output as a replay prints it, without its newline
+abbrev pub output_line : Output → List ℕ
+output_line (outputs.Frame frame) = frame_text frame
+output_line (outputs.Refused fault) = codes "operator " ++ refusal_name fault
+
+-- The line of an output: four spaces, the output as a replay prints it, two spaces, and a sentence without a newline.
+pub record IsOutputLine (output : Output) (line : List ℕ) : Type 0 where
+  pub sentence : List ℕ
+  pub one_line : HasNoNewline sentence
+  pub whole : line ≡ codes "    " ++ output_line output ++ codes "  " ++ sentence ++ newline
+
+-- the lines of outputs, in their order
+pub record AreOutputLines (sent : List Output) (text : List ℕ) : Type 0 where
+  pub lines : List (List ℕ)
+  pub each : AllZip IsOutputLine sent lines
+  pub whole : text ≡ joined lines
+
+-- ---- the changes
+
+-- the front of a line that has gone, or of one that has come
+abbrev pub IsMark : List ℕ → Type 0
+IsMark mark = (mark ≡ codes "  - ") ⊎ (mark ≡ codes "  + ")
+
+-- a line of the screen that has gone or come
+pub record IsChange (line : List ℕ) : Type 0 where
+  pub mark : List ℕ
+  pub shown : List ℕ
+  pub marked : IsMark mark
+  pub one_line : HasNoNewline shown
+  pub whole : line ≡ mark ++ shown ++ newline
+
+pub record AreChanges (text : List ℕ) : Type 0 where
+  pub lines : List (List ℕ)
+  pub each : All IsChange lines
+  pub whole : text ≡ joined lines
+
+-- ---- the head
+
+-- The first line of a trace. It does not begin with four spaces, so it is no line of an output.
+pub record IsHead (head : List ℕ) : Type 0 where
+  pub words : List ℕ
+  pub one_line : HasNoNewline words
+  pub unindented : starts_with nat_eq head (codes "    ") ≡ false
+  pub whole : head ≡ words ++ newline
+
+-- A comment has no head, and any other line has one.
+abbrev pub IsHeadOf : LineReading → List ℕ → Type 0
+IsHeadOf (Ok CommentLine) head = head ≡ []
+IsHeadOf _ head = IsHead head
+
+-- ---- a line
+
+-- The terminal takes the input of a line, with right judgements of pools, and sends these outputs.
+pub record SendsByInput (from : State) (line : ParsedLine) (to : State) (sent : List Output) : Type 0 where
+  pub event : JudgedInput
+  pub of_line : IsInputOfLine line event
+  pub judged : IsJudgedRight from event
+  pub state : to ≡ (step from event).after
+  pub outputs : sent ≡ outputs_of (step from event).sent
+
+-- The terminal takes a line. One that is no input changes nothing, and nothing is sent.
+abbrev pub Sends : State → LineReading → State → List Output → Type 0
+Sends from (Ok (FrameAt time frame)) to sent = SendsByInput from (FrameAt time frame) to sent
+Sends from (Ok (OperatorAction action)) to sent = SendsByInput from (OperatorAction action) to sent
+Sends from _ to sent = (to ≡ from) × (sent ≡ [])
+
+-- The terminal takes the input of a line, and its outputs and the changes of its screen are told.
+pub record TracesInput (from : State) (line : ParsedLine) (to : State) (added : List ℕ) : Type 0 where
+  pub sent : List Output
+  pub answers : List ℕ
+  pub changes : List ℕ
+  pub takes : SendsByInput from line to sent
+  pub answers_are : AreOutputLines sent answers
+  pub changes_are : AreChanges changes
+  pub whole : added ≡ answers ++ changes
+
+-- A line is taken, and its trace is a head, the lines of the terminal's outputs, and the changes of the screen.
+pub record TracesLine (from : State) (reading : LineReading) (to : State) (added : List ℕ) : Type 0 where
+  pub sent : List Output
+  pub head : List ℕ
+  pub answers : List ℕ
+  pub changes : List ℕ
+  pub takes : Sends from reading to sent
+  pub head_is : IsHeadOf reading head
+  pub answers_are : AreOutputLines sent answers
+  pub changes_are : AreChanges changes
+  pub whole : added ≡ head ++ answers ++ changes

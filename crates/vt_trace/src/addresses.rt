@@ -1,0 +1,115 @@
+//! Address claims, requests, working sets and parameter groups in words.
+
+use crate::shown::{Count, HexBytes};
+use byteorder::{ByteOrder, LittleEndian};
+use std::fmt;
+use vt_can::assigned::{
+    ADDRESS_CLAIMED, ECU_TO_VT, NULL_ADDRESS, VT_TO_ECU, WORKING_SET_MASTER, WORKING_SET_MEMBER,
+};
+
+/// A claim of an address by a NAME, or of none.
+#[derive(Clone, Copy, Drop)]
+pub(crate) struct ClaimSentence<'a> {
+    pub(crate) source: u8,
+    pub(crate) bytes: &'a [u8],
+}
+
+impl fmt::Display for ClaimSentence<'_> {
+    fn fmt<W: fmt::Write>(&self, f: &mut fmt::Formatter<W>) -> fmt::Result {
+        let claim = match self.source {
+            NULL_ADDRESS => "Cannot Claim",
+            _ => "Address Claimed",
+        };
+        write!(f, "{claim}: {}", NameText(self.bytes))
+    }
+}
+
+/// A request for a parameter group.
+#[derive(Clone, Copy, Drop)]
+pub(crate) struct GroupRequest<'a>(pub(crate) &'a [u8]);
+
+impl fmt::Display for GroupRequest<'_> {
+    fn fmt<W: fmt::Write>(&self, f: &mut fmt::Formatter<W>) -> fmt::Result {
+        if self.0.len() < 3 {
+            return write!(f, "Request: {}", HexBytes(self.0));
+        }
+        let group = ParameterGroup::in_bytes(self.0);
+        match group.name() {
+            Some(name) => write!(f, "Request: {name}"),
+            None => write!(f, "Request: {group}"),
+        }
+    }
+}
+
+/// A Working Set Master message.
+#[derive(Clone, Copy, Drop)]
+pub(crate) struct MasterSentence<'a>(pub(crate) &'a [u8]);
+
+impl fmt::Display for MasterSentence<'_> {
+    fn fmt<W: fmt::Write>(&self, f: &mut fmt::Formatter<W>) -> fmt::Result {
+        match self.0.first() {
+            Some(members) => {
+                let members = u32::from(*members).max(1);
+                write!(f, "Working Set Master: {}", Count(members, "member"))
+            }
+            None => f.write_str("Working Set Master: no bytes"),
+        }
+    }
+}
+
+/// A Working Set Member message.
+#[derive(Clone, Copy, Drop)]
+pub(crate) struct MemberSentence<'a>(pub(crate) &'a [u8]);
+
+impl fmt::Display for MemberSentence<'_> {
+    fn fmt<W: fmt::Write>(&self, f: &mut fmt::Formatter<W>) -> fmt::Result {
+        write!(f, "Working Set Member: {}", NameText(self.0))
+    }
+}
+
+/// The NAME in eight bytes, as a number in hex; the bytes themselves if there are fewer.
+#[derive(Clone, Copy, Drop)]
+struct NameText<'a>(&'a [u8]);
+
+impl fmt::Display for NameText<'_> {
+    fn fmt<W: fmt::Write>(&self, f: &mut fmt::Formatter<W>) -> fmt::Result {
+        if self.0.len() < 8 {
+            return write!(f, "{}", HexBytes(self.0));
+        }
+        write!(f, "NAME {:016X}", LittleEndian::read_u64(self.0))
+    }
+}
+
+/// A parameter group by its number in hex, as `parameter group FEF1`.
+#[derive(Clone, Copy, Drop)]
+pub(crate) struct ParameterGroup(pub(crate) u32);
+
+impl ParameterGroup {
+    /// The parameter group in the first three bytes of a slice; 0 if there are fewer.
+    pub(crate) fn in_bytes(bytes: &[u8]) -> ParameterGroup {
+        match bytes {
+            [low, middle, high, ..] => {
+                ParameterGroup(u32::from_le_bytes([*low, *middle, *high, 0]))
+            }
+            _ => ParameterGroup(0),
+        }
+    }
+
+    /// The name of a parameter group that can be requested, or `None`.
+    fn name(self) -> Option<&'static str> {
+        match self.0 {
+            ADDRESS_CLAIMED => Some("Address Claimed"),
+            WORKING_SET_MASTER => Some("Working Set Master"),
+            WORKING_SET_MEMBER => Some("Working Set Member"),
+            ECU_TO_VT => Some("ECU to VT"),
+            VT_TO_ECU => Some("VT to ECU"),
+            _ => None,
+        }
+    }
+}
+
+impl fmt::Display for ParameterGroup {
+    fn fmt<W: fmt::Write>(&self, f: &mut fmt::Formatter<W>) -> fmt::Result {
+        write!(f, "parameter group {:04X}", self.0)
+    }
+}

@@ -1,0 +1,51 @@
+//! The attributes of Change Attribute by name.
+
+use vt_kinds::Field;
+
+/// The name of a field that Change Attribute writes.
+pub(crate) fn field_name(field: Field) -> &'static str {
+    match field {
+        Field::Colour => "colour",
+        Field::Selectable => "selectable",
+        Field::SoftKeyMask => "soft key mask",
+        Field::Priority => "priority",
+        Field::Acoustic => "acoustic",
+        Field::Width => "width",
+        Field::Height => "height",
+        Field::Border => "border",
+        Field::KeyCode => "key code",
+        Field::Options => "options",
+        Field::Font => "font",
+        Field::Variable => "variable",
+        Field::InputAttributes => "input attributes",
+        Field::Justification => "justification",
+        Field::Min => "min",
+        Field::Max => "max",
+        Field::Offset => "offset",
+        Field::Scale => "scale",
+        Field::Decimals => "decimals",
+        Field::Format => "format",
+        Field::LineAttributes => "line attributes",
+        Field::Direction => "direction",
+        Field::Suppression => "suppression",
+        Field::Fill => "fill",
+        Field::Type => "type",
+        Field::Start => "start",
+        Field::End => "end",
+        Field::NeedleColour => "needle colour",
+        Field::BorderColour => "border colour",
+        Field::ArcColour => "arc colour",
+        Field::Ticks => "ticks",
+        Field::TargetColour => "target colour",
+        Field::TargetVariable => "target variable",
+        Field::Target => "target",
+        Field::BarWidth => "bar width",
+        Field::Transparency => "transparency",
+        Field::Size => "size",
+        Field::Style => "style",
+        Field::LineArt => "line art",
+        Field::Pattern => "pattern",
+        Field::ValidationType => "validation type",
+        Field::Value => "value",
+    }
+}

@@ -1,0 +1,210 @@
+//! The commands of implements in words.
+
+use crate::attributes::field_name;
+use crate::functions::function_name;
+use crate::objects::Objects;
+use crate::shown::{QuotedText, ShownScale};
+use std::fmt;
+use vt_commands::{Command, attribute};
+use vt_kinds::{Kind, ObjectId, ValueType};
+
+/// What is taken off the steps of Change Child Location: the byte 127 is no step.
+const NO_STEP: i16 = 127;
+
+/// A command with its fields, as ``Hide/Show Object: Container 100 `boom`, hide``. The object that the command changes stands first.
+#[derive(Clone, Copy, Drop)]
+pub(crate) struct CommandSentence<'a, 'b> {
+    pub(crate) command: &'b Command<'a>,
+    pub(crate) objects: Objects<'b>,
+}
+
+impl fmt::Display for CommandSentence<'_, '_> {
+    fn fmt<W: fmt::Write>(&self, f: &mut fmt::Formatter<W>) -> fmt::Result {
+        f.write_str(function_name(self.command.function()).unwrap_or("command"))?;
+        if let Some(id) = self.command.object() {
+            write!(f, ": {}", self.objects.object(id))?;
+        }
+        match *self.command {
+            Command::ControlAudio {
+                count,
+                frequency,
+                on,
+                off,
+            } => write!(
+                f,
+                ": count {count}, frequency {frequency} Hz, on {on} ms, off {off} ms"
+            ),
+            Command::SetVolume { volume } => write!(f, ": {volume} %"),
+            Command::DeletePool | Command::ExecuteMacro { .. } => Ok(()),
+            _ => self.write_places(f),
+        }
+    }
+}
+
+impl CommandSentence<'_, '_> {
+    /// Writes the fields of the commands that show, hide, move or place objects.
+    fn write_places<W: fmt::Write>(&self, f: &mut fmt::Formatter<W>) -> fmt::Result {
+        match *self.command {
+            Command::HideShow { state, .. } => write_state(f, state, "hide", "show"),
+            Command::EnableDisable { state, .. } => write_state(f, state, "disable", "enable"),
+            Command::ChangeChildLocation { child, dx, dy, .. } => {
+                let child = self.objects.object(child);
+                let right = i16::from(dx) - NO_STEP;
+                let down = i16::from(dy) - NO_STEP;
+                write!(f, ", child {child}, dx {right}, dy {down}")
+            }
+            Command::ChangeChildPosition { child, x, y, .. } => {
+                write!(f, ", child {}, x {x}, y {y}", self.objects.object(child))
+            }
+            Command::ChangeActiveMask { mask, .. } => {
+                write!(f, ", to {}", self.objects.object(mask))
+            }
+            Command::ChangeSoftKeyMask {
+                mask_type,
+                keys,
+                ..
+            } => {
+                let keys = self.objects.object(keys);
+                write!(f, ", type {mask_type}, to {keys}")
+            }
+            Command::ChangePriority { priority, .. } => write!(f, ", priority {priority}"),
+            Command::ChangeListItem { index, item, .. } => {
+                let item = self.objects.object(item);
+                write!(f, ", index {index}, item {item}")
+            }
+            _ => self.write_values(f),
+        }
+    }
+
+    /// Writes the fields of the commands that set values, sizes and looks.
+    fn write_values<W: fmt::Write>(&self, f: &mut fmt::Formatter<W>) -> fmt::Result {
+        match self.command {
+            Command::ChangeSize { width, height, .. } => {
+                write!(f, ", width {width}, height {height}")
+            }
+            Command::ChangeBackgroundColour { colour, .. } => write!(f, ", colour {colour}"),
+            Command::ChangeNumericValue { id, value } => self.write_number(f, *id, *value),
+            Command::ChangeStringValue { length, text, .. } => {
+                let text = QuotedText(text.as_slice());
+                write!(f, ", length {length}, {text}")
+            }
+            Command::ChangeEndPoint {
+                width,
+                height,
+                direction,
+                ..
+            } => write!(f, ", width {width}, height {height}, direction {direction}"),
+            Command::ChangeAttribute { id, number, value } => {
+                self.write_attribute(f, *id, *number, *value)
+            }
+            _ => self.write_looks(f),
+        }
+    }
+
+    /// Writes the fields of the commands that change fonts, lines and fillings.
+    fn write_looks<W: fmt::Write>(&self, f: &mut fmt::Formatter<W>) -> fmt::Result {
+        match *self.command {
+            Command::ChangeFontAttributes {
+                colour,
+                size,
+                font_type,
+                style,
+                ..
+            } => write!(
+                f,
+                ", colour {colour}, size {size}, type {font_type}, style {style}"
+            ),
+            Command::ChangeLineAttributes {
+                colour,
+                width,
+                line_art,
+                ..
+            } => write!(
+                f,
+                ", colour {colour}, width {width}, line art {line_art:04X}"
+            ),
+            Command::ChangeFillAttributes {
+                fill_type,
+                colour,
+                pattern,
+                ..
+            } => {
+                let pattern = self.objects.object(pattern);
+                write!(f, ", type {fill_type}, colour {colour}, pattern {pattern}")
+            }
+            _ => Ok(()),
+        }
+    }
+
+    /// Writes the value of Change Numeric Value: those of its bytes that the kind of the object looks at, which are an object for an
+    /// Object Pointer.
+    fn write_number<W: fmt::Write>(
+        &self,
+        f: &mut fmt::Formatter<W>,
+        id: ObjectId,
+        value: u32,
+    ) -> fmt::Result {
+        match self.objects.kind(id) {
+            Some(Kind::ObjectPointer) => {
+                let named = self.objects.object(lowest_id(value));
+                write!(f, ", value {named}")
+            }
+            Some(kind) => write!(f, ", value {}", value_bytes(kind).lowest(value)),
+            None => write!(f, ", value {value}"),
+        }
+    }
+
+    /// Writes the attribute of Change Attribute by its number and its name, and the value that it gets.
+    fn write_attribute<W: fmt::Write>(
+        &self,
+        f: &mut fmt::Formatter<W>,
+        id: ObjectId,
+        number: u8,
+        value: u32,
+    ) -> fmt::Result {
+        write!(f, ", attribute {number}")?;
+        let found = match self.objects.kind(id) {
+            Some(kind) => attribute(kind, number),
+            None => None,
+        };
+        let Some(found) = found else {
+            return write!(f, ", value {value}");
+        };
+        write!(f, " ({}), value ", field_name(found.field))?;
+        match found.value_type {
+            ValueType::Reference(_) => write!(f, "{}", self.objects.object(lowest_id(value))),
+            ValueType::SignedLong => write!(f, "{}", value.cast_signed()),
+            ValueType::Scale => write!(f, "{}", ShownScale(value)),
+            value_type => write!(f, "{}", value_type.lowest(value)),
+        }
+    }
+}
+
+/// Writes a state of 0 or 1 in words.
+fn write_state<W: fmt::Write>(
+    f: &mut fmt::Formatter<W>,
+    state: u8,
+    zero: &str,
+    one: &str,
+) -> fmt::Result {
+    match state {
+        0 => write!(f, ", {zero}"),
+        1 => write!(f, ", {one}"),
+        _ => write!(f, ", state {state}"),
+    }
+}
+
+/// The bytes of the value of Change Numeric Value that a kind looks at (docs/PROFILE.md, "Change Numeric Value"): the lowest for an Input
+/// Boolean and an Input List, the two lowest for a Meter and a bar, and else all four.
+fn value_bytes(kind: Kind) -> ValueType {
+    match kind {
+        Kind::InputBoolean | Kind::InputList => ValueType::Byte,
+        Kind::Meter | Kind::LinearBar | Kind::ArchedBar => ValueType::Word,
+        _ => ValueType::Long,
+    }
+}
+
+/// The ID in the two lowest bytes of a value.
+fn lowest_id(value: u32) -> ObjectId {
+    ObjectId::from_raw((value % 65_536) as u16)
+}

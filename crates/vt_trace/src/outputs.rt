@@ -1,0 +1,77 @@
+//! The lines of a terminal's outputs.
+
+ghost use Rattle.std.specs.Prelude.{◌≡◌, OnOk};
+ghost use Rattle.vt_logs.specs.Texts.{refusal_name};
+ghost use Rattle.vt_trace.specs.Traces.{AreOutputLines, Gains, IsOutputLine};
+
+use crate::heads::AddressedSentence;
+use crate::lines::put_line;
+use crate::sentence::Sentence;
+use std::alloc::{AllocError, Global};
+use vt_can::write_frame;
+use vt_findings_text::Names;
+use vt_server::{OperatorFault, OperatorRefusal, Output, Terminal};
+
+/// Appends the lines of a terminal's outputs, in their order.
+pub(crate) fn put_outputs(
+    alloc: Global,
+    outputs: &[Output],
+    terminal: &Terminal,
+    names: &Names,
+    text: &mut Vec<u8>,
+) -> Result<(), AllocError>
+    ensures { OnOk result (Gains (AreOutputLines outputs.now) text.old.items text.new.items) }
+{
+    for output in outputs {
+        put_output(alloc, output, terminal, names, text)?;
+    }
+    Ok(())
+}
+
+/// Appends the line of an output: a frame, or a refusal to the operator.
+fn put_output(
+    alloc: Global,
+    output: &Output,
+    terminal: &Terminal,
+    names: &Names,
+    text: &mut Vec<u8>,
+) -> Result<(), AllocError>
+    ensures { OnOk result (Gains (IsOutputLine output.now) text.old.items text.new.items) }
+{
+    text.extend_from_slice(b"    ")?;
+    match output {
+        Output::Frame(frame) => {
+            let sentence = Sentence {
+                frame,
+                terminal,
+                names,
+            };
+            let words = format!(in alloc; "{}", AddressedSentence(sentence))?;
+            text.extend_from_slice(&write_frame(frame))?;
+            put_line(b"  ", words.as_bytes(), text)
+        }
+        Output::Refused(fault) => {
+            let words = format!(in alloc; "{fault}")?;
+            text.extend_from_slice(b"operator ")?;
+            text.extend_from_slice(refusal_name(*fault).as_bytes())?;
+            put_line(b"  ", words.as_bytes(), text)
+        }
+    }
+}
+
+/// The number and the name of a refusal to the operator, as a replay prints them.
+fn refusal_name(fault: OperatorFault) -> &'static str
+    ensures { result.now ≡ refusal_name fault }
+{
+    match fault {
+        OperatorFault::Refused(OperatorRefusal::NotShown) => "1 NotShown",
+        OperatorFault::Refused(OperatorRefusal::Disabled) => "2 Disabled",
+        OperatorFault::Refused(OperatorRefusal::Range) => "3 Range",
+        OperatorFault::Refused(OperatorRefusal::TooLong) => "4 TooLong",
+        OperatorFault::Refused(OperatorRefusal::WrongKind) => "5 WrongKind",
+        OperatorFault::Refused(OperatorRefusal::NotPressed) => "6 NotPressed",
+        OperatorFault::Refused(OperatorRefusal::Held) => "7 Held",
+        OperatorFault::Busy => "8 Busy",
+        OperatorFault::NoSet => "9 NoSet",
+    }
+}

@@ -1,0 +1,85 @@
+//! The messages of implements in words.
+
+use crate::commands::CommandSentence;
+use crate::functions::{
+    DELETE_VERSION, GET_VERSIONS, LOAD_VERSION, MAINTENANCE, STORE_VERSION, function_name,
+};
+use crate::objects::Objects;
+use crate::shown::{Count, HexBytes, PlainMessage, QuotedText};
+use byteorder::{ByteOrder, LittleEndian};
+use std::fmt;
+use vt_can::assigned::{END_OF_POOL, GET_FONTS, GET_HARDWARE, GET_MEMORY, GET_SOFT_KEYS, TRANSFER};
+use vt_commands::Command;
+use vt_commands::function::{
+    BUTTON_ACTIVATION, EXECUTE_MACRO, HIDE_SHOW, NUMERIC_VALUE, SOFT_KEY_ACTIVATION, STRING_VALUE,
+};
+
+/// A message of an implement to a terminal.
+#[derive(Clone, Copy, Drop)]
+pub(crate) struct RequestSentence<'a> {
+    pub(crate) bytes: &'a [u8],
+    pub(crate) objects: Objects<'a>,
+}
+
+impl fmt::Display for RequestSentence<'_> {
+    fn fmt<W: fmt::Write>(&self, f: &mut fmt::Formatter<W>) -> fmt::Result {
+        if let Some(command) = Command::read(self.bytes) {
+            let command = &command;
+            let objects = self.objects;
+            return write!(f, "{}", CommandSentence { command, objects });
+        }
+        match self.bytes {
+            [TRANSFER, pool @ ..] => {
+                write!(
+                    f,
+                    "Object Pool Transfer: {}",
+                    Count(length_of(pool), "byte")
+                )
+            }
+            [END_OF_POOL, ..] => f.write_str("End of Object Pool"),
+            [MAINTENANCE, ..] => f.write_str("Working Set Maintenance"),
+            [GET_MEMORY, _, memory @ ..] if memory.len() >= 4 => {
+                write!(
+                    f,
+                    "Get Memory: {}",
+                    Count(LittleEndian::read_u32(memory), "byte")
+                )
+            }
+            [GET_SOFT_KEYS, ..] => f.write_str("Get Number of Soft Keys"),
+            [GET_FONTS, ..] => f.write_str("Get Text Font Data"),
+            [GET_HARDWARE, ..] => f.write_str("Get Hardware"),
+            _ => self.write_rest(f),
+        }
+    }
+}
+
+impl RequestSentence<'_> {
+    /// Writes a message about stored pools, an answer to the operator's message, or one without words of its own.
+    fn write_rest<W: fmt::Write>(&self, f: &mut fmt::Formatter<W>) -> fmt::Result {
+        match self.bytes {
+            [GET_VERSIONS, ..] => f.write_str("Get Versions"),
+            [STORE_VERSION, label @ ..] => write!(f, "Store Version: {}", QuotedText(label)),
+            [LOAD_VERSION, label @ ..] => write!(f, "Load Version: {}", QuotedText(label)),
+            [DELETE_VERSION, label @ ..] => write!(f, "Delete Version: {}", QuotedText(label)),
+            [
+                SOFT_KEY_ACTIVATION | BUTTON_ACTIVATION | NUMERIC_VALUE | STRING_VALUE,
+                ..
+            ] => write!(f, "answer to {}", PlainMessage(self.bytes)),
+            [function, ..] if is_command(*function) => {
+                let name = function_name(*function).unwrap_or("command");
+                write!(f, "{name}, cut short: {}", HexBytes(self.bytes))
+            }
+            bytes => write!(f, "{}", PlainMessage(bytes)),
+        }
+    }
+}
+
+/// Whether a function with a name is that of a command.
+fn is_command(function: u8) -> bool {
+    (HIDE_SHOW..=EXECUTE_MACRO).contains(&function) && function_name(function).is_some()
+}
+
+/// The number of bytes of a piece.
+fn length_of(piece: &[u8]) -> u32 {
+    u32::try_from(piece.len()).unwrap_or(u32::MAX)
+}

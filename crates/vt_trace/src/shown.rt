@@ -1,0 +1,99 @@
+//! Bytes, texts and addresses of the bus in words.
+
+use crate::functions::function_name;
+use std::fmt;
+use vt_can::assigned::GLOBAL_ADDRESS;
+use vt_kinds::Scale;
+
+/// Bytes in hex, two digits each, as `A0 64 00`, or `no bytes`.
+#[derive(Clone, Copy, Drop)]
+pub(crate) struct HexBytes<'a>(pub(crate) &'a [u8]);
+
+impl fmt::Display for HexBytes<'_> {
+    fn fmt<W: fmt::Write>(&self, f: &mut fmt::Formatter<W>) -> fmt::Result {
+        if self.0.is_empty() {
+            return f.write_str("no bytes");
+        }
+        for (index, byte) in self.0.iter().enumerate() {
+            let space = if index == 0 { "" } else { " " };
+            write!(f, "{space}{byte:02X}")?;
+        }
+        Ok(())
+    }
+}
+
+/// A text of the bus in quotation marks, with a dot for each byte that is no printable ASCII.
+#[derive(Clone, Copy, Drop)]
+pub(crate) struct QuotedText<'a>(pub(crate) &'a [u8]);
+
+impl fmt::Display for QuotedText<'_> {
+    fn fmt<W: fmt::Write>(&self, f: &mut fmt::Formatter<W>) -> fmt::Result {
+        f.write_str("\"")?;
+        for byte in self.0 {
+            let is_printable = byte.is_ascii_graphic() || *byte == b' ';
+            let shown = if is_printable { *byte } else { b'.' };
+            write!(f, "{}", char::from(shown))?;
+        }
+        f.write_str("\"")
+    }
+}
+
+/// The destination of a frame: an address in hex, or `all`.
+#[derive(Clone, Copy, Drop)]
+pub(crate) struct Destination(pub(crate) Option<u8>);
+
+impl fmt::Display for Destination {
+    fn fmt<W: fmt::Write>(&self, f: &mut fmt::Formatter<W>) -> fmt::Result {
+        match self.0 {
+            None | Some(GLOBAL_ADDRESS) => f.write_str("all"),
+            Some(address) => write!(f, "{address:02X}"),
+        }
+    }
+}
+
+/// A message that has no words of its own: its function by name or by number, and its bytes.
+#[derive(Clone, Copy, Drop)]
+pub(crate) struct PlainMessage<'a>(pub(crate) &'a [u8]);
+
+impl fmt::Display for PlainMessage<'_> {
+    fn fmt<W: fmt::Write>(&self, f: &mut fmt::Formatter<W>) -> fmt::Result {
+        let Some(function) = self.0.first() else {
+            return f.write_str("a message without a function");
+        };
+        match function_name(*function) {
+            Some(name) => write!(f, "{name}: {}", HexBytes(self.0)),
+            None => write!(f, "function {function:02X}: {}", HexBytes(self.0)),
+        }
+    }
+}
+
+/// A number with its noun, which takes an s unless the number is 1.
+#[derive(Clone, Copy, Drop)]
+pub(crate) struct Count<'a>(pub(crate) u32, pub(crate) &'a str);
+
+impl fmt::Display for Count<'_> {
+    fn fmt<W: fmt::Write>(&self, f: &mut fmt::Formatter<W>) -> fmt::Result {
+        let number = self.0;
+        let noun = self.1;
+        let ending = if number == 1 { "" } else { "s" };
+        write!(f, "{number} {noun}{ending}")
+    }
+}
+
+/// A scale by its four bytes, of which the first is the lowest of the number: the factor, as `0.1`, or the bytes where they are
+/// those of no scale, as `bytes 00 00 00 40`.
+#[derive(Clone, Copy, Drop)]
+pub(crate) struct ShownScale(pub(crate) u32);
+
+impl fmt::Display for ShownScale {
+    fn fmt<W: fmt::Write>(&self, f: &mut fmt::Formatter<W>) -> fmt::Result {
+        let bytes = self.0.to_le_bytes();
+        match Scale::from_bytes(bytes) {
+            Some(Scale::One) => f.write_str("1"),
+            Some(Scale::Tenth) => f.write_str("0.1"),
+            Some(Scale::Hundredth) => f.write_str("0.01"),
+            Some(Scale::Thousandth) => f.write_str("0.001"),
+            None => write!(f, "bytes {}", HexBytes(&bytes)),
+        }
+    }
+}

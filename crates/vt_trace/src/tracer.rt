@@ -1,0 +1,168 @@
+//! The trace of a log.
+
+ghost use Rattle.std.specs.Prelude.{◌≡◌, ◌++◌, List, ℕ, IfOk, OnOk};
+ghost use Rattle.vt_can.specs.lines.Readings.{FrameAt, parsed, reading_of};
+ghost use Rattle.vt_logs.specs.LineEffects.{input_line};
+ghost use Rattle.vt_server.specs.States.{state_of};
+ghost use Rattle.vt_trace.specs.Traces.{AreChanges, Gains, TracesInput, TracesLine};
+
+use crate::changes::put_changes;
+use crate::heads::{ActionHead, FrameHead, put_head, skipped_words};
+use crate::outputs::put_outputs;
+use crate::sentence::Sentence;
+use std::alloc::{AllocError, Global};
+use std::mem;
+use vt_can::{Frame, Line, LineFault};
+use vt_findings_text::Names;
+use vt_listen::{Broken, Listener};
+use vt_server::{Input, Output, Terminal};
+
+/// Writes the trace of a log, line by line.
+#[derive(Drop)]
+pub struct Tracer<'a> {
+    alloc: Global,
+    names: &'a Names,
+    // The screen after the last line.
+    screen: Vec<u8>,
+    // The buffer for the next screen.
+    drawn: Vec<u8>,
+    // The terminal's outputs at the last line.
+    outputs: Vec<Output>,
+    // The messages in packets, as far as they have come.
+    listener: Listener,
+    // The transfers that the last line has ended before they were whole.
+    broken: Vec<Broken>,
+}
+
+impl<'a> Tracer<'a> {
+    /// A tracer before the first line, with the screen that the terminal has.
+    pub fn new(
+        alloc: Global,
+        names: &'a Names,
+        terminal: &Terminal,
+    ) -> Result<Tracer<'a>, AllocError> {
+        let mut screen = Vec::new(alloc);
+        terminal.screen(&mut screen)?;
+        Ok(Tracer {
+            alloc,
+            names,
+            screen,
+            drawn: Vec::new(alloc),
+            outputs: Vec::new(alloc),
+            listener: Listener::new(alloc),
+            broken: Vec::new(alloc),
+        })
+    }
+
+    /// Gives a line, as it was read, to the terminal, and appends its trace to a text. After an error the terminal may have taken the
+    /// line or not, and the text is incomplete.
+    pub fn trace_line(
+        &mut self,
+        number: u64,
+        reading: &Result<Line<'_>, LineFault>,
+        terminal: &mut Terminal,
+        text: &mut Vec<u8>,
+    ) -> Result<(), AllocError>
+        ensures { OnOk result ((added : List ℕ) × (text.new.items ≡ text.old.items ++ added)
+            × TracesLine (state_of terminal.old) (reading_of reading.now) (state_of terminal.new) added) }
+    {
+        match reading {
+            Ok(line) => self.trace_read(number, line, terminal, text),
+            Err(fault) => put_head(self.alloc, number, format_args!("faulty: {fault}"), text),
+        }
+    }
+
+    /// Gives a line without a fault to the terminal, and appends its trace.
+    fn trace_read(
+        &mut self,
+        number: u64,
+        line: &Line<'_>,
+        terminal: &mut Terminal,
+        text: &mut Vec<u8>,
+    ) -> Result<(), AllocError>
+        ensures { OnOk result (Gains (TracesLine (state_of terminal.old) (Ok (parsed line.now)) (state_of terminal.new)) text.old.items text.new.items) }
+    {
+        match line {
+            Line::Frame { time, frame } => self.trace_frame(number, *time, frame, terminal, text),
+            Line::Operator(action) => {
+                let action = *action;
+                let names = self.names;
+                put_head(self.alloc, number, ActionHead { action, names }, text)?;
+                self.trace_input(&Input::Operator(action), terminal, text)
+            }
+            Line::Skipped(skipped) => {
+                let words = skipped_words(*skipped);
+                put_head(self.alloc, number, format_args!("skipped: {words}"), text)
+            }
+            Line::Comment => Ok(()),
+        }
+    }
+
+    /// Gives a frame to the terminal, and appends the trace of its line.
+    fn trace_frame(
+        &mut self,
+        number: u64,
+        time: u64,
+        frame: &Frame,
+        terminal: &mut Terminal,
+        text: &mut Vec<u8>,
+    ) -> Result<(), AllocError>
+        ensures { OnOk result (Gains (TracesLine (state_of terminal.old) (Ok (FrameAt time frame.now)) (state_of terminal.new)) text.old.items text.new.items) }
+    {
+        self.broken.clear();
+        let whole = self.listener.hear(frame, &mut self.broken)?;
+        let sentence = Sentence {
+            frame,
+            terminal: &*terminal,
+            names: self.names,
+        };
+        let head = FrameHead {
+            time,
+            sentence,
+            whole: whole.as_ref(),
+        };
+        put_head(self.alloc, number, head, text)?;
+        let frame = copy_of(frame)?;
+        self.trace_input(&Input::Frame { time, frame }, terminal, text)
+    }
+
+    /// Gives an input to the terminal, and appends the lines of its outputs, and the changes of the screen.
+    fn trace_input(
+        &mut self,
+        input: &Input<'_>,
+        terminal: &mut Terminal,
+        text: &mut Vec<u8>,
+    ) -> Result<(), AllocError>
+        ensures { OnOk result (Gains (TracesInput (state_of terminal.old) (input_line input.now) (state_of terminal.new)) text.old.items text.new.items) }
+    {
+        self.outputs.clear();
+        terminal.step(input, &mut self.outputs)?;
+        let names = self.names;
+        put_outputs(self.alloc, &self.outputs, terminal, names, text)?;
+        self.put_new_screen(terminal, text)
+    }
+
+    /// Appends the changes of the screen since the last line.
+    fn put_new_screen(&mut self, terminal: &Terminal, text: &mut Vec<u8>) -> Result<(), AllocError>
+        ensures { OnOk result (Gains AreChanges text.old.items text.new.items) }
+    {
+        if !terminal.redraws() {
+            return Ok(());
+        }
+        self.drawn.clear();
+        terminal.screen(&mut self.drawn)?;
+        if self.drawn == self.screen {
+            return Ok(());
+        }
+        put_changes(self.alloc, &self.screen, &self.drawn, text)?;
+        mem::swap(&mut self.screen, &mut self.drawn);
+        Ok(())
+    }
+}
+
+/// A copy of a frame.
+fn copy_of(frame: &Frame) -> Result<Frame, AllocError>
+    ensures { IfOk result (λ copy. copy ≡ frame.now) }
+{
+    frame.clone()
+}
