@@ -1,0 +1,2 @@
+pub mod OwnCounts
+pub mod Sums

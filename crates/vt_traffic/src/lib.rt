@@ -1,0 +1,23 @@
+//! What a log holds in numbers: frames and bits of each source, transfers, and frames that were recorded twice.
+//!
+//! - `Traffic` takes the frames of a log, one after the other. It counts the `Counts` of each source exactly.
+//! - `Traffic::report` returns a `TrafficReport`: the times of the first and the last frame, the least load of the bus, the `Share` of each
+//!   source, the `Transfers` of both transport protocols, and how many frames were seen twice. Its `Display` is the text of the report.
+//!
+//! docs/PROFILE.md, "Transport messages", has the frames of transfers.
+#![tactic(auto)]
+
+mod counts;
+mod load;
+mod moment;
+mod report;
+mod sightings;
+mod sources;
+mod traffic;
+mod transfers;
+
+pub use counts::Counts;
+pub use moment::Seconds;
+pub use report::{Share, TrafficReport};
+pub use traffic::Traffic;
+pub use transfers::{LongTransfer, Transfers};

@@ -1,0 +1,107 @@
+//! What a log came to, in words.
+
+use crate::counts::Counts;
+use crate::load::Percent;
+use crate::moment::Seconds;
+use crate::transfers::Transfers;
+use std::fmt;
+
+/// How much a source has sent.
+#[derive(Clone, Copy, Debug)]
+pub struct Share {
+    /// The address.
+    pub source: u8,
+    /// How much.
+    pub counts: Counts,
+    /// The least load that this is of a bus of 250 kbit/s, in tenths of a percent. `None` if the first and the last frame of the log have one
+    /// time.
+    pub load: Option<u64>,
+}
+
+/// What a log came to. Its `Display` writes a line for the log, one for its load, one for each source, and those of transfers and of
+/// frames that were seen twice.
+#[derive(Debug, Drop)]
+pub struct TrafficReport {
+    /// The number of the line of the first frame. 0 if there is no frame.
+    pub first_line: u64,
+    /// The number of the line of the last frame. 0 if there is no frame.
+    pub last_line: u64,
+    /// The time of the first frame, in microseconds.
+    pub first_time: u64,
+    /// The latest time, in microseconds.
+    pub last_time: u64,
+    /// How much all sources have sent.
+    pub total: Counts,
+    /// The least load of a bus of 250 kbit/s, in tenths of a percent. `None` if the first and the last frame have one time.
+    pub load: Option<u64>,
+    /// The share of each source, by rising addresses.
+    pub shares: Vec<Share>,
+    /// How the transfers went.
+    pub transfers: Transfers,
+    /// How many frames were the same, by identifier and data, as one at most a millisecond before them: recorded on two interfaces.
+    pub seen_twice: u64,
+}
+
+impl fmt::Display for Share {
+    fn fmt<W: fmt::Write>(&self, f: &mut fmt::Formatter<W>) -> fmt::Result {
+        let source = self.source;
+        let Counts { frames, bytes, .. } = self.counts;
+        write!(f, "{source:02X}: {frames} frames, {bytes} bytes")?;
+        match self.load {
+            Some(load) => write!(f, ", at least {}", Percent(load)),
+            None => Ok(()),
+        }
+    }
+}
+
+impl fmt::Display for Transfers {
+    fn fmt<W: fmt::Write>(&self, f: &mut fmt::Formatter<W>) -> fmt::Result {
+        let Transfers {
+            whole,
+            broken,
+            unended,
+            repeated_packets,
+            longest,
+        } = *self;
+        write!(
+            f,
+            "transfers: {whole} whole, {broken} broken off, {unended} not ended, {repeated_packets} packets again"
+        )?;
+        if let Some(longest) = longest {
+            let time = Seconds(longest.time);
+            let source = longest.source;
+            let destination = longest.destination;
+            let bytes = longest.bytes;
+            let line = longest.line;
+            write!(
+                f,
+                "\nlongest transfer: {time} s for {bytes} bytes of {source:02X} to {destination:02X}, from line {line} on"
+            )?;
+        }
+        Ok(())
+    }
+}
+
+impl fmt::Display for TrafficReport {
+    fn fmt<W: fmt::Write>(&self, f: &mut fmt::Formatter<W>) -> fmt::Result {
+        let Counts { frames, bytes, .. } = self.total;
+        if frames == 0 {
+            return writeln!(f, "no frames");
+        }
+        let first_time = Seconds(self.first_time);
+        let last_time = Seconds(self.last_time);
+        let span = Seconds(self.last_time.saturating_sub(self.first_time));
+        writeln!(
+            f,
+            "{frames} frames, {bytes} bytes, from {first_time} to {last_time}: {span} s"
+        )?;
+        if let Some(load) = self.load {
+            writeln!(f, "bus load at 250 kbit/s: at least {}", Percent(load))?;
+        }
+        for share in self.shares.iter() {
+            writeln!(f, "  {share}")?;
+        }
+        writeln!(f, "{}", self.transfers)?;
+        writeln!(f, "seen twice: {} frames", self.seen_twice)
+    }
+}

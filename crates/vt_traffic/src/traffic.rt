@@ -1,0 +1,119 @@
+//! Counts the frames of a log.
+
+ghost use Rattle.std.specs.Prelude.{◌≡◌, ◌≢◌, ℕ, OnOk, IfOk, length};
+ghost use Rattle.vt_can.specs.frames.Frame.{source_of};
+ghost use Rattle.vt_traffic.specs.Counted.{nothing};
+ghost use Rattle.vt_traffic.specs.Reports.{IsReportOn};
+ghost use Rattle.vt_traffic.specs.Traffics.{counts_from, total_of, CountsFrame};
+
+use crate::counts::Counts;
+use crate::load::load_of;
+use crate::report::TrafficReport;
+use crate::sightings::Sightings;
+use crate::sources::Sources;
+use crate::transfers::TransferCounter;
+use std::alloc::{AllocError, Global};
+use vt_can::Frame;
+
+/// The first and the last frame.
+#[derive(Clone, Copy)]
+struct Span {
+    first_line: u64,
+    last_line: u64,
+    first_time: u64,
+    last_time: u64,
+}
+
+/// What the frames of a log come to.
+///
+/// The memory grows with the number of sources and of open transfers, and with the frames of two milliseconds.
+#[derive(Drop)]
+pub struct Traffic {
+    sources: Sources,
+    span: Option<Span>,
+    transfers: TransferCounter,
+    sightings: Sightings,
+}
+
+impl Traffic {
+    /// No frames. Does not allocate.
+    pub fn new(alloc: Global) -> Traffic
+        ensures sources { (source : ℕ) → counts_from result source ≡ nothing }
+        ensures total { total_of result ≡ nothing }
+    {
+        Traffic {
+            sources: Sources::new(alloc),
+            span: None,
+            transfers: TransferCounter::new(alloc),
+            sightings: Sightings::new(alloc),
+        }
+    }
+
+    /// Counts the frame of a line of the log, at a time in microseconds. A time before that of an earlier frame counts as the latest so
+    /// far. After `OutOfMemory` the counts are of no more use.
+    pub fn take(&mut self, line: u64, time: u64, frame: &Frame) -> Result<(), AllocError>
+        ensures { OnOk result (CountsFrame self.old self.new frame.now) }
+    {
+        self.sources
+            .add_frame(frame.id.source(), frame.bytes.len())?;
+        let span = self.span_with(line, time);
+        self.span = Some(span);
+        self.sightings.take(span.last_time, frame)?;
+        self.transfers.take(line, span.last_time, frame)
+    }
+
+    /// How much a source has sent.
+    pub fn counts_from(&self, source: u8) -> Counts
+        ensures { result ≡ counts_from self.now source }
+    {
+        self.sources.counts_from(source)
+    }
+
+    /// How much all sources have sent.
+    pub fn total(&self) -> Counts
+        ensures { result ≡ total_of self.now }
+    {
+        self.sources.total
+    }
+
+    /// What was counted so far.
+    pub fn report(&self) -> Result<TrafficReport, AllocError>
+        ensures { IfOk result (IsReportOn self.now) }
+    {
+        let span = self.span.unwrap_or(Span {
+            first_line: 0,
+            last_line: 0,
+            first_time: 0,
+            last_time: 0,
+        });
+        let microseconds = span.last_time.saturating_sub(span.first_time);
+        Ok(TrafficReport {
+            first_line: span.first_line,
+            last_line: span.last_line,
+            first_time: span.first_time,
+            last_time: span.last_time,
+            total: self.sources.total,
+            load: load_of(self.sources.total.bits, microseconds),
+            shares: self.sources.shares(microseconds)?,
+            transfers: self.transfers.counted()?,
+            seen_twice: self.sightings.seen_twice(),
+        })
+    }
+
+    /// The span with a frame at its end.
+    fn span_with(&self, line: u64, time: u64) -> Span {
+        match self.span {
+            Some(span) => Span {
+                last_line: line,
+                last_time: span.last_time.max(time),
+                ..span
+            },
+            None => Span {
+                first_line: line,
+                last_line: line,
+                first_time: time,
+                last_time: time,
+            },
+        }
+    }
+}
