@@ -1,0 +1,229 @@
+//! What was reached of a working set, and what never was.
+
+ghost use Rattle.std.specs.Prelude.{◌≡◌, OnOk, IfOk};
+
+use crate::reached::Reached;
+use crate::shown_masks::ShownMasks;
+use std::alloc::{AllocError, Global};
+use std::fmt;
+use vt_findings_text::{Label, Names};
+use vt_objects::{Kind, Kinds, ObjectId};
+
+/// An object of a pool.
+#[derive(Clone, Copy, Debug, PartialEq, Eq)]
+pub struct PoolObject {
+    /// The ID.
+    pub id: ObjectId,
+    /// The kind; where several pools have the ID, that in the last one.
+    pub kind: Kind,
+}
+
+/// What was reached of the pools of a working set, and what never was. Each list is by rising ID.
+#[derive(Debug, Drop)]
+pub struct SetReach {
+    /// The address of the working set.
+    pub address: u8,
+    /// How many commands were answered as done.
+    pub done: u64,
+    /// How many commands were answered with an error.
+    pub refused: u64,
+    /// The masks that were the active mask of the shown set.
+    pub masks_shown: Vec<PoolObject>,
+    /// The other masks.
+    pub masks_never: Vec<PoolObject>,
+    /// The objects that a shown mask or its soft keys drew.
+    pub objects_drawn: Vec<PoolObject>,
+    /// The other objects of the kinds that are drawn, and keys.
+    pub objects_never: Vec<PoolObject>,
+    /// The macros that can have run.
+    pub macros_reached: Vec<PoolObject>,
+    /// The other macros.
+    pub macros_never: Vec<PoolObject>,
+}
+
+impl SetReach {
+    ghost use Rattle.vt_reach.specs.Reports.{TellsOf, TellsMore, KeepsMasks};
+
+    /// What was reached of a set.
+    pub(crate) fn of_set(
+        alloc: Global,
+        address: u8,
+        set: &Reached,
+        shown_masks: &ShownMasks,
+    ) -> Result<SetReach, AllocError>
+        ensures { IfOk result (TellsOf shown_masks.now (address, set.now)) }
+    {
+        let mut reach = SetReach {
+            address,
+            done: set.done,
+            refused: set.refused,
+            masks_shown: Vec::new(alloc),
+            masks_never: Vec::new(alloc),
+            objects_drawn: Vec::new(alloc),
+            objects_never: Vec::new(alloc),
+            macros_reached: Vec::new(alloc),
+            macros_never: Vec::new(alloc),
+        };
+        for (id, kind) in set.kinds.iter() {
+            let was_drawn = set.drawn.contains(id);
+            let was_reached = set.macros.contains(*id);
+            let object = PoolObject {
+                id: *id,
+                kind: *kind,
+            };
+            reach.put_mask(&object, shown_masks)?;
+            reach.put_object(&object, was_drawn)?;
+            reach.put_macro(&object, was_reached)?;
+        }
+        Ok(reach)
+    }
+
+    /// Puts an object among the masks that were shown, or among the others if it is a mask.
+    fn put_mask(&mut self, object: &PoolObject, shown_masks: &ShownMasks) -> Result<(), AllocError>
+        ensures address { self.new.address ≡ self.old.address }
+        ensures told { OnOk result (TellsMore shown_masks.now object.now self.old self.new) }
+    {
+        if shown_masks.contains(self.address, object.id) {
+            self.masks_shown.push(*object)?;
+        } else if Kinds::Masks.contains(object.kind) {
+            self.masks_never.push(*object)?;
+        }
+        Ok(())
+    }
+
+    /// Puts an object among those that were drawn, or among the others if it is of a kind that is drawn.
+    fn put_object(&mut self, object: &PoolObject, was_drawn: bool) -> Result<(), AllocError>
+        ensures address { self.new.address ≡ self.old.address }
+        ensures told { KeepsMasks self.old self.new }
+    {
+        if was_drawn {
+            self.objects_drawn.push(*object)?;
+        } else if is_drawn(object.kind) {
+            self.objects_never.push(*object)?;
+        }
+        Ok(())
+    }
+
+    /// Puts an object among the macros that can have run, or among the others if it is a macro.
+    fn put_macro(&mut self, object: &PoolObject, was_reached: bool) -> Result<(), AllocError>
+        ensures address { self.new.address ≡ self.old.address }
+        ensures told { KeepsMasks self.old self.new }
+    {
+        if was_reached {
+            self.macros_reached.push(*object)?;
+        } else if object.kind == Kind::Macro {
+            self.macros_never.push(*object)?;
+        }
+        Ok(())
+    }
+}
+
+/// Whether objects of a kind are drawn below a mask or a soft key mask. A pointer is not: the object that it points to is.
+fn is_drawn(kind: Kind) -> bool {
+    match kind {
+        Kind::ObjectPointer => false,
+        Kind::Key => true,
+        _ => Kinds::DrawnInWorkingSet.contains(kind),
+    }
+}
+
+/// What was reached of a working set, which its `Display` writes with the names of masks: a line for the commands, and below it one each for
+/// masks, objects and macros.
+#[derive(Clone, Copy, Drop)]
+pub struct ReachText<'a> {
+    /// The working set.
+    pub set: &'a SetReach,
+    /// The names.
+    pub names: &'a Names,
+}
+
+impl fmt::Display for ReachText<'_> {
+    fn fmt<W: fmt::Write>(&self, f: &mut fmt::Formatter<W>) -> fmt::Result {
+        let SetReach {
+            address,
+            done,
+            refused,
+            ..
+        } = self.set;
+        writeln!(
+            f,
+            "working set {address:02X}: {done} commands done, {refused} refused"
+        )?;
+        self.write_masks(f)?;
+        self.write_objects(f)?;
+        self.write_macros(f)
+    }
+}
+
+impl ReachText<'_> {
+    /// Writes the line of the masks.
+    fn write_masks<W: fmt::Write>(&self, f: &mut fmt::Formatter<W>) -> fmt::Result {
+        write!(f, "  masks shown: ")?;
+        self.write_labels(self.set.masks_shown.as_slice(), f)?;
+        if !self.set.masks_never.is_empty() {
+            write!(f, "; never: ")?;
+            self.write_labels(self.set.masks_never.as_slice(), f)?;
+        }
+        writeln!(f)
+    }
+
+    /// Writes the line of the objects.
+    fn write_objects<W: fmt::Write>(&self, f: &mut fmt::Formatter<W>) -> fmt::Result {
+        let drawn = self.set.objects_drawn.len();
+        let all = drawn.saturating_add(self.set.objects_never.len());
+        write!(f, "  objects drawn: {drawn} of {all}")?;
+        write_never(self.set.objects_never.as_slice(), f)?;
+        writeln!(f)
+    }
+
+    /// Writes the line of the macros.
+    fn write_macros<W: fmt::Write>(&self, f: &mut fmt::Formatter<W>) -> fmt::Result {
+        write!(f, "  macros reached:")?;
+        write_ids(self.set.macros_reached.as_slice(), f)?;
+        write_never(self.set.macros_never.as_slice(), f)?;
+        writeln!(f)
+    }
+
+    /// Writes objects with their kinds and names, or `none`.
+    fn write_labels<W: fmt::Write>(
+        &self,
+        objects: &[PoolObject],
+        f: &mut fmt::Formatter<W>,
+    ) -> fmt::Result {
+        if objects.is_empty() {
+            return write!(f, "none");
+        }
+        for (place, object) in objects.iter().enumerate() {
+            if place > 0 {
+                write!(f, ", ")?;
+            }
+            let label = Label {
+                id: object.id,
+                kind: Some(object.kind),
+                name: self.names.get(object.id),
+            };
+            write!(f, "{label}")?;
+        }
+        Ok(())
+    }
+}
+
+/// Writes what was never reached, if there is anything.
+fn write_never<W: fmt::Write>(objects: &[PoolObject], f: &mut fmt::Formatter<W>) -> fmt::Result {
+    if objects.is_empty() {
+        return Ok(());
+    }
+    write!(f, "; never:")?;
+    write_ids(objects, f)
+}
+
+/// Writes the IDs of objects, each behind a space, or ` none`.
+fn write_ids<W: fmt::Write>(objects: &[PoolObject], f: &mut fmt::Formatter<W>) -> fmt::Result {
+    if objects.is_empty() {
+        return write!(f, " none");
+    }
+    for object in objects {
+        write!(f, " {}", object.id.raw())?;
+    }
+    Ok(())
+}
