@@ -6,8 +6,18 @@ mod lines;
 #[cfg(test)]
 mod listener;
 #[cfg(test)]
+mod reach;
+#[cfg(test)]
+mod recordings;
+#[cfg(test)]
+mod replays;
+#[cfg(test)]
 mod runs;
 #[cfg(test)]
 mod shelf;
+#[cfg(test)]
+mod trace;
+#[cfg(test)]
+mod traffic;
 #[cfg(test)]
 mod want_of_memory;

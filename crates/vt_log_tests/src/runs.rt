@@ -15,7 +15,8 @@ pub(crate) struct Run<'a> {
     pub(crate) has_messages: bool,
 }
 
-fn expect_run(rt: &(impl Abort + AllocGlobal), wanted: &Run<'_>) -> Result<(), Fail> {
+/// Expects a run to be as it is wanted.
+pub(crate) fn expect_run(rt: &(impl Abort + AllocGlobal), wanted: &Run<'_>) -> Result<(), Fail> {
     let mut out = Vec::new(rt.alloc());
     let mut errors = Vec::new(rt.alloc());
     let mut files = Shelf::new(rt.alloc());

@@ -1,11 +1,14 @@
 //! The files of the tests, in memory.
 
+use crate::recordings::{
+    ALONE, DIFFERS, INTERFACES, KEYED_POOL, LATE, MISSING, NAMES, OWN, PRESSED, SPACED, STORED,
+};
 use std::alloc::Global;
 use std::io::{self, Error, ErrorKind, Write};
 use vt_log_tool::{Open, Program, Save};
 use vt_testing::POOL;
 
-/// The upload of a pool, and a key that its operator pressed and released.
+/// The upload of a pool.
 pub(crate) const UPLOAD: &[u8] = b"(1.000000) can0 18EEFF80#01000000001D0020
 (1.100000) can0 1CFE0D80#01FFFFFFFFFFFFFF
 (1.200000) can0 14E72680#110000000001E803
@@ -129,6 +132,17 @@ impl Open for Shelf {
             "met.log" => Ok(MET),
             "unmet.log" => Ok(UNMET),
             "empty.log" => Ok(b""),
+            "own.log" => Ok(OWN),
+            "differs.log" => Ok(DIFFERS),
+            "missing.log" => Ok(MISSING),
+            "late.log" => Ok(LATE),
+            "alone.log" => Ok(ALONE),
+            "stored.log" => Ok(STORED),
+            "interfaces.log" => Ok(INTERFACES),
+            "spaced.log" => Ok(SPACED),
+            "pressed.log" => Ok(PRESSED),
+            "keyed" => Ok(KEYED_POOL),
+            "names" => Ok(NAMES),
             "pool" => Ok(POOL),
             "refused" => Ok(REFUSED),
             _ => Err(Error::from(ErrorKind::NotFound)),

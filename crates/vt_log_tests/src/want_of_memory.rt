@@ -20,10 +20,12 @@ fn run_on(alloc: Global, words: &[&str], out: &mut Vec<u8>) -> Result<Option<Sta
 }
 
 /// The words of runs.
-const RUNS: [&[&str]; 3] = [
+const RUNS: [&[&str]; 5] = [
     &["s", "pools", "transfers.log"],
     &["s", "operator", "told.log"],
     &["s", "test", "met.log"],
+    &["s", "trace", "pressed.log", "--pool", "keyed"],
+    &["s", "compare", "missing.log", "--pool", "pool"],
 ];
 
 fn expect_same(rt: &(impl Abort + AllocGlobal), words: &[&str]) -> Result<(), Fail> {

@@ -1,2 +1,1 @@
 -- The definitions used in the contracts of vt_log_tool.
-pub mod Statuses

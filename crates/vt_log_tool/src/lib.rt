@@ -4,15 +4,14 @@
 #![tactic(auto)]
 
 mod actions;
-mod lines;
 mod operator;
 mod pools;
 mod program;
 mod report;
-mod requests;
 mod sets;
 mod test;
 mod verdict;
 
-pub use program::{Status, run};
+pub use program::run;
 pub use vt_files::{Files, Open, Program, Save};
+pub use vt_log_runs::Status;

@@ -1,14 +1,13 @@
 //! The subcommand `operator`.
 
 use crate::actions::{action_in, put_action};
-use crate::lines::text_of;
-use crate::program::Status;
 use std::alloc::{AllocError, Global};
 use std::io::{self, Write};
 use vt_can::assigned::{TP_CM, TP_RTS, VT_TO_ECU};
 use vt_can::{Frame, Line, LineFault, parse_line, write_line};
 use vt_files::{Open, read_file};
 use vt_listen::{Broken, Listener};
+use vt_log_runs::{Status, is_of_interface, text_of};
 use vt_log_words::OperatorOptions;
 use vt_recorded::Reader;
 
@@ -24,8 +23,8 @@ pub(crate) fn run_operator<F: Open, W: Write, E: Write>(
         return Ok(Status::NotJudged);
     };
     let log = text_of(&log);
-    let told = Recording::told_in(alloc, log, options.own)?;
-    put_lines(alloc, log, told.as_slice(), out)?;
+    let told = Recording::told_in(alloc, log, &options)?;
+    put_lines(alloc, log, options.interface, told.as_slice(), out)?;
     Ok(Status::Clean)
 }
 
@@ -50,10 +49,14 @@ struct Recording {
 
 impl Recording {
     /// What the messages of the terminal at an address tell of its operator, by rising lines.
-    fn told_in(alloc: Global, log: &[u8], own: u8) -> Result<Vec<Told>, AllocError> {
+    fn told_in(
+        alloc: Global,
+        log: &[u8],
+        options: &OperatorOptions<'_>,
+    ) -> Result<Vec<Told>, AllocError> {
         let mut recording = Recording {
             alloc,
-            own,
+            own: options.own,
             listener: Listener::new(alloc),
             broken: Vec::new(alloc),
             requests: [0; 256],
@@ -61,6 +64,9 @@ impl Recording {
         };
         let mut reader = Reader::new(alloc);
         for (number, line) in log.split(|byte| *byte == b'\n').enumerate() {
+            if !is_of_interface(line, options.interface) {
+                continue;
+            }
             if let Ok(Line::Frame { frame, .. }) = reader.read(line)? {
                 recording.hear(number, &frame)?;
             }
@@ -107,8 +113,15 @@ impl Recording {
     }
 }
 
-/// Writes the lines of a log without its operator lines, and before each the operator's lines that it tells of.
-fn put_lines<W: Write>(alloc: Global, log: &[u8], told: &[Told], out: &mut W) -> io::Result<()> {
+/// Writes the lines of a log without its operator lines and the frames of other interfaces, and before each the operator's lines that it
+/// tells of.
+fn put_lines<W: Write>(
+    alloc: Global,
+    log: &[u8],
+    interface: Option<&str>,
+    told: &[Told],
+    out: &mut W,
+) -> io::Result<()> {
     let mut reader = Reader::new(alloc);
     let mut rest = told;
     for (number, line) in log.split(|byte| *byte == b'\n').enumerate() {
@@ -118,7 +131,9 @@ fn put_lines<W: Write>(alloc: Global, log: &[u8], told: &[Told], out: &mut W) ->
             out.write_all(&told.line)?;
         }
         rest = later;
-        put_line(&mut reader, line, out)?;
+        if is_of_interface(line, interface) {
+            put_line(&mut reader, line, out)?;
+        }
     }
     Ok(())
 }

@@ -1,9 +1,6 @@
 //! The subcommand `pools`.
 
-use crate::lines::text_of;
-use crate::program::Status;
 use crate::report::{UploadEnd, put_broken, put_finding, put_request, put_unended, put_upload};
-use crate::requests::Request;
 use crate::sets::Sets;
 use crate::verdict::Verdict;
 use std::alloc::Global;
@@ -14,6 +11,7 @@ use vt_files::{Open, Save, make_folder, read_file, read_names, save_file};
 use vt_findings_text::{Item, Names, Source};
 use vt_inspect::inspect;
 use vt_listen::{Broken, Listener};
+use vt_log_runs::{Request, Status, is_of_interface, text_of};
 use vt_log_words::{Format, PoolsOptions};
 use vt_recorded::Reader;
 use vt_uploads::{Message, Upload, Uploads};
@@ -41,6 +39,7 @@ pub(crate) fn run_pools<F: Open + Save, W: Write, E: Write>(
     let report = Report {
         alloc,
         folder,
+        interface: options.interface,
         names: &names,
         format: options.format,
     };
@@ -61,6 +60,7 @@ struct Hearing {
 struct Report<'a> {
     alloc: Global,
     folder: Option<&'a str>,
+    interface: Option<&'a str>,
     names: &'a Names,
     format: Format,
 }
@@ -85,6 +85,9 @@ impl Report<'_> {
         let mut number = 0u64;
         for line in log.split(|byte| *byte == b'\n') {
             number = number.saturating_add(1);
+            if !is_of_interface(line, self.interface) {
+                continue;
+            }
             if let Ok(Line::Frame { frame, .. }) = reader.read(line)? {
                 let found = self.tell_frame(number, &frame, &mut hearing, files, out, errors)?;
                 status = status.and(found);

@@ -1,6 +1,5 @@
 //! The lines of a report on the pools of a log, for people or as JSON.
 
-use crate::requests::Request;
 use crate::verdict::Verdict;
 use serde_json::json;
 use std::alloc::Global;
@@ -8,6 +7,7 @@ use std::io::{self, Write};
 use vt_findings_json::item_json;
 use vt_findings_text::{Item, Source};
 use vt_listen::Broken;
+use vt_log_runs::Request;
 use vt_log_words::Format;
 use vt_uploads::{Message, Upload};
 

@@ -1,16 +1,13 @@
 //! The subcommand `test`.
 
-use crate::program::Status;
 use std::alloc::Global;
 use std::io::{self, Error, ErrorKind, Write};
 use vt_bench::{Difference, bless, differences};
 use vt_files::{Open, Save, read_file, save_file};
-use vt_judge::judge;
-use vt_log_words::{StartSet, TerminalOptions, TestOptions};
+use vt_log_runs::{LoadedSet, Status, new_terminal, read_set};
+use vt_log_words::{TerminalOptions, TestOptions};
 use vt_logs::ReplayFault;
-use vt_names::Name;
 use vt_server::Terminal;
-use vt_verify::Accepted;
 
 /// The most bytes of a log.
 const MOST_BYTES: usize = 1 << 40;
@@ -23,12 +20,9 @@ pub(crate) fn run_test<F: Open + Save, W: Write, E: Write>(
     out: &mut W,
     errors: &mut E,
 ) -> io::Result<Status> {
-    let set = match options.terminal.set {
-        None => None,
-        Some(set) => match read_set(alloc, set, files, errors)? {
-            Some(set) => Some(set),
-            None => return Ok(Status::NotJudged),
-        },
+    let set = match read_set(alloc, options.terminal.set, files, errors)? {
+        Ok(set) => set,
+        Err(status) => return Ok(status),
     };
     let bench = Bench {
         alloc,
@@ -45,37 +39,6 @@ pub(crate) fn run_test<F: Open + Save, W: Write, E: Write>(
         status = status.and(found);
     }
     Ok(status)
-}
-
-/// A pool that is there from the start, and the address of its working set.
-#[derive(Drop)]
-struct LoadedSet {
-    pool: Accepted,
-    owner: u8,
-}
-
-/// Reads the pool of a set, or returns `None` if it is not there or not acceptable, which `errors` says.
-fn read_set<F: Open, E: Write>(
-    alloc: Global,
-    set: StartSet<'_>,
-    files: &mut F,
-    errors: &mut E,
-) -> io::Result<Option<LoadedSet>> {
-    let StartSet { pool: path, owner } = set;
-    let Some(bytes) = read_file(alloc, path, files, errors)? else {
-        return Ok(None);
-    };
-    match judge(alloc, &bytes) {
-        Ok(pool) => Ok(Some(LoadedSet { pool, owner })),
-        Err(refusal) if refusal.wants_memory() => Err(Error::from(ErrorKind::OutOfMemory)),
-        Err(_) => {
-            let _ = writeln!(
-                errors,
-                "segyolant_log: {path}: a terminal refuses this pool; segyolant check says why"
-            );
-            Ok(None)
-        }
-    }
 }
 
 /// How logs are replayed.
@@ -129,21 +92,7 @@ impl Bench<'_> {
 
     /// A terminal before its first input.
     fn new_terminal(&self) -> io::Result<Terminal> {
-        let TerminalOptions { own, name, .. } = self.terminal;
-        if own > 253 {
-            return Err(Error::from(ErrorKind::InvalidInput));
-        }
-        let mut terminal = Terminal::new(self.alloc, own, Name::from_raw(name));
-        if let Some(LoadedSet { pool, owner }) = self.set {
-            let owner = *owner;
-            if owner > 253 || owner == own {
-                return Err(Error::from(ErrorKind::InvalidInput));
-            }
-            if terminal.preload(owner, pool).is_err() {
-                return Err(Error::from(ErrorKind::OutOfMemory));
-            }
-        }
-        Ok(terminal)
+        new_terminal(self.alloc, self.terminal, None, self.set)
     }
 }
 

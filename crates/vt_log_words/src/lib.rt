@@ -8,6 +8,7 @@ mod refusal;
 mod words;
 
 pub use options::{
-    Format, OperatorOptions, Options, PoolsOptions, StartSet, TerminalOptions, TestOptions,
+    CompareOptions, DrawOptions, Format, OperatorOptions, Options, PoolsOptions, ReplayOptions,
+    StartSet, TerminalOptions, TestOptions,
 };
 pub use refusal::UsageError;

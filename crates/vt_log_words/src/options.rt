@@ -14,6 +14,14 @@ pub enum Options<'a> {
     Pools(PoolsOptions<'a>),
     /// `operator`.
     Operator(OperatorOptions<'a>),
+    /// `trace`.
+    Trace(ReplayOptions<'a>),
+    /// `compare`.
+    Compare(CompareOptions<'a>),
+    /// `draw`.
+    Draw(DrawOptions<'a>),
+    /// `stats`.
+    Stats(ReplayOptions<'a>),
     /// `test`.
     Test(TestOptions<'a>),
 }
@@ -32,6 +40,8 @@ pub enum Format {
 pub struct PoolsOptions<'a> {
     /// The file of the log.
     pub log: &'a str,
+    /// The only interface whose frames are taken, or `None` for all.
+    pub interface: Option<&'a str>,
     /// The folder for the pools, or `None` to write none.
     pub folder: Option<&'a str>,
     /// The files of names.
@@ -45,8 +55,43 @@ pub struct PoolsOptions<'a> {
 pub struct OperatorOptions<'a> {
     /// The file of the log.
     pub log: &'a str,
+    /// The only interface whose frames are taken, or `None` for all.
+    pub interface: Option<&'a str>,
     /// The address of the recorded terminal.
     pub own: u8,
+}
+
+/// A log that a terminal replays: the options of `trace` and `stats`, and a part of those of `compare` and `draw`.
+#[derive(Drop)]
+pub struct ReplayOptions<'a> {
+    /// The file of the log.
+    pub log: &'a str,
+    /// The only interface whose frames are taken, or `None` for all.
+    pub interface: Option<&'a str>,
+    /// The files of names.
+    pub names: Vec<&'a str>,
+    /// The terminal.
+    pub terminal: TerminalOptions<'a>,
+}
+
+/// The options of `compare`.
+#[derive(Drop)]
+pub struct CompareOptions<'a> {
+    /// The log, and the terminal that replays it.
+    pub replay: ReplayOptions<'a>,
+    /// How long an answer may take, in milliseconds.
+    pub wait: u32,
+    /// The form of the output.
+    pub format: Format,
+}
+
+/// The options of `draw`.
+#[derive(Drop)]
+pub struct DrawOptions<'a> {
+    /// The log, and the terminal that replays it.
+    pub replay: ReplayOptions<'a>,
+    /// The folder for the pictures.
+    pub folder: &'a str,
 }
 
 /// The options of `test`.
@@ -65,8 +110,8 @@ pub struct TestOptions<'a> {
 pub struct TerminalOptions<'a> {
     /// Its address, at most 253.
     pub own: u8,
-    /// Its NAME.
-    pub name: u64,
+    /// Its NAME, if it is given.
+    pub name: Option<u64>,
     /// The working set that is there from the start.
     pub set: Option<StartSet<'a>>,
 }
@@ -83,8 +128,8 @@ pub struct StartSet<'a> {
 /// The terminal's address, unless another is given.
 const OWN_ADDRESS: u8 = 0x26;
 
-/// The terminal's NAME, unless another is given.
-const OWN_NAME: u64 = 0x2000_1D00_0000_0001;
+/// How long an answer may take, in milliseconds, unless another time is given.
+const WAIT: u32 = 1500;
 
 /// The address of the pool's working set, unless another is given.
 const OWNER: u8 = 0x80;
@@ -95,6 +140,10 @@ impl<'a> Options<'a> {
         let matches = command(alloc)?.try_get_matches_from(words)?;
         let options = match matches.subcommand() {
             Some(("operator", matches)) => Options::Operator(operator_options(matches)?),
+            Some(("trace", matches)) => Options::Trace(replay_options(alloc, matches)?),
+            Some(("compare", matches)) => Options::Compare(compare_options(alloc, matches)?),
+            Some(("draw", matches)) => Options::Draw(draw_options(alloc, matches)?),
+            Some(("stats", matches)) => Options::Stats(replay_options(alloc, matches)?),
             Some(("test", matches)) => Options::Test(test_options(alloc, matches)?),
             Some((_, matches)) => Options::Pools(pools_options(alloc, matches)?),
             // clap refuses these words; its contract does not say so.
@@ -114,14 +163,29 @@ impl<'a> Options<'a> {
                 inputs_among(&[options.log]).saturating_add(names)
             }
             Options::Operator(options) => inputs_among(&[options.log]),
+            Options::Trace(options) | Options::Stats(options) => options.inputs(),
+            Options::Compare(options) => options.replay.inputs(),
+            Options::Draw(options) => options.replay.inputs(),
             Options::Test(options) => {
-                let pool = options
-                    .terminal
-                    .set
-                    .map_or(0, |set| inputs_among(&[set.pool]));
-                inputs_among(options.logs.as_slice()).saturating_add(pool)
+                inputs_among(options.logs.as_slice()).saturating_add(options.terminal.inputs())
             }
         }
+    }
+}
+
+impl ReplayOptions<'_> {
+    /// How many of the files are the standard input.
+    fn inputs(&self) -> usize {
+        inputs_among(&[self.log])
+            .saturating_add(inputs_among(self.names.as_slice()))
+            .saturating_add(self.terminal.inputs())
+    }
+}
+
+impl TerminalOptions<'_> {
+    /// How many of the files are the standard input.
+    fn inputs(&self) -> usize {
+        self.set.map_or(0, |set| inputs_among(&[set.pool]))
     }
 }
 
@@ -136,6 +200,7 @@ fn pools_options<'a>(
 ) -> Result<PoolsOptions<'a>, AllocError> {
     Ok(PoolsOptions {
         log: log_of(matches),
+        interface: matches.get_str("interface"),
         folder: matches.get_str("out"),
         names: all_of(alloc, matches, "names")?,
         format: format_of(matches),
@@ -145,7 +210,45 @@ fn pools_options<'a>(
 fn operator_options<'a>(matches: &ArgMatches<'a>) -> Result<OperatorOptions<'a>, UsageError<'a>> {
     Ok(OperatorOptions {
         log: log_of(matches),
+        interface: matches.get_str("interface"),
         own: own_of(matches)?,
+    })
+}
+
+fn replay_options<'a>(
+    alloc: Global,
+    matches: &ArgMatches<'a>,
+) -> Result<ReplayOptions<'a>, UsageError<'a>> {
+    let names = all_of(alloc, matches, "names")?;
+    Ok(ReplayOptions {
+        log: log_of(matches),
+        interface: matches.get_str("interface"),
+        names,
+        terminal: terminal_options(matches)?,
+    })
+}
+
+fn compare_options<'a>(
+    alloc: Global,
+    matches: &ArgMatches<'a>,
+) -> Result<CompareOptions<'a>, UsageError<'a>> {
+    let replay = replay_options(alloc, matches)?;
+    Ok(CompareOptions {
+        replay,
+        wait: wait_of(matches)?,
+        format: format_of(matches),
+    })
+}
+
+fn draw_options<'a>(
+    alloc: Global,
+    matches: &ArgMatches<'a>,
+) -> Result<DrawOptions<'a>, UsageError<'a>> {
+    let replay = replay_options(alloc, matches)?;
+    Ok(DrawOptions {
+        replay,
+        // clap demands it; its contract does not say so.
+        folder: matches.get_str("out").unwrap_or("."),
     })
 }
 
@@ -174,14 +277,22 @@ fn terminal_options<'a>(matches: &ArgMatches<'a>) -> Result<TerminalOptions<'a>,
     })
 }
 
-/// The NAME that the value of `--name` gives, or else the usual one.
-fn name_of<'a>(matches: &ArgMatches<'a>) -> Result<u64, UsageError<'a>> {
+/// The NAME that the value of `--name` gives, if it is given.
+fn name_of<'a>(matches: &ArgMatches<'a>) -> Result<Option<u64>, UsageError<'a>> {
     match matches.get_str("name") {
-        None => Ok(OWN_NAME),
+        None => Ok(None),
         Some(value) => match <[u8; 8]>::from_hex(value) {
-            Ok(bytes) => Ok(u64::from_be_bytes(bytes)),
+            Ok(bytes) => Ok(Some(u64::from_be_bytes(bytes))),
             Err(_) => Err(UsageError::Name(value)),
         },
+    }
+}
+
+/// The milliseconds that the value of `--wait` gives, or else the usual ones.
+fn wait_of<'a>(matches: &ArgMatches<'a>) -> Result<u32, UsageError<'a>> {
+    match matches.get_str("wait") {
+        None => Ok(WAIT),
+        Some(value) => value.parse::<u32>().map_err(|_| UsageError::Wait(value)),
     }
 }
 

@@ -19,6 +19,8 @@ pub enum UsageError<'a> {
     Owner(&'a str),
     /// The value of `--name` is no NAME.
     Name(&'a str),
+    /// The value of `--wait` is no number of milliseconds.
+    Wait(&'a str),
     /// `--owner` is given without a pool.
     OwnerAlone,
     /// A log from the standard input is to be written anew.
@@ -41,6 +43,7 @@ impl UsageError<'_> {
             UsageError::Own(_)
             | UsageError::Owner(_)
             | UsageError::Name(_)
+            | UsageError::Wait(_)
             | UsageError::OwnerAlone
             | UsageError::BlessedInput
             | UsageError::NoSubcommand
@@ -66,6 +69,10 @@ impl fmt::Display for UsageError<'_> {
                 f,
                 "error: --name {value}: 16 hex digits are wanted, as 20001D0000000001"
             ),
+            UsageError::Wait(value) => writeln!(
+                f,
+                "error: --wait {value}: milliseconds are wanted, as 1500, at most 4294967295"
+            ),
             UsageError::OwnerAlone => writeln!(
                 f,
                 "error: --owner is the address of the pool's working set, so both are wanted, as --pool my.iop --owner 81"
@@ -76,7 +83,7 @@ impl fmt::Display for UsageError<'_> {
             ),
             UsageError::NoSubcommand => writeln!(
                 f,
-                "error: a subcommand is wanted: pools, operator or test; segyolant_log --help says what each does"
+                "error: a subcommand is wanted: pools, operator, trace, compare, draw, stats or test; segyolant_log --help says what each does"
             ),
             UsageError::InputTwice => writeln!(
                 f,

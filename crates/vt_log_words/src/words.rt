@@ -1,7 +1,12 @@
 //! The command line of the program, for `clap`.
 
+mod replays;
+mod values;
+
 use clap::{Arg, ArgAction, Command};
+use replays::{compare, draw, stats, trace};
 use std::alloc::{AllocError, Global};
+use values::{format, interface, log, name, names, out, own, owner, pool};
 
 /// The text of help after the subcommands.
 const AFTER_HELP: &str = "\
@@ -9,6 +14,10 @@ Status: 0 nothing found, 1 something found, 2 not judged (words, file or memory)
 
   segyolant_log pools field.log --out pools --names my.h      every uploaded pool as a file, and what is wrong with it
   segyolant_log operator field.log > replay.log               the log with what the operator did
+  segyolant_log trace replay.log --names my.h                 each line in words, what the terminal answers, and what changes
+  segyolant_log compare replay.log                            where the recorded terminal answered otherwise
+  segyolant_log draw replay.log --out screens                 a picture after each line at which the screen changed
+  segyolant_log stats replay.log                              what the log holds in numbers, and what it reached of each pool
   segyolant_log test suite.log                                whether each line prints what the lines #< behind it say
   segyolant_log test suite.log --bless                        writes these lines
 
@@ -49,13 +58,17 @@ pub(crate) fn command<'a>(alloc: Global) -> Result<Command<'a>, AllocError> {
     Command::new(alloc, "segyolant_log")
         .version("0.1.0")
         .about(
-            "Tells what recorded logs of an ISOBUS hold: the pools that were uploaded, and what the operator did",
+            "Tells what recorded logs of an ISOBUS hold: uploaded pools, what was said and shown, and what differs",
         )
         .after_help(AFTER_HELP)
         .subcommand_required(true)
         .arg_required_else_help(true)
         .subcommand(pools(alloc)?)?
         .subcommand(operator(alloc)?)?
+        .subcommand(trace(alloc)?)?
+        .subcommand(compare(alloc)?)?
+        .subcommand(draw(alloc)?)?
+        .subcommand(stats(alloc)?)?
         .subcommand(test(alloc)?)
 }
 
@@ -64,30 +77,13 @@ fn pools<'a>(alloc: Global) -> Result<Command<'a>, AllocError> {
         .about("Prints every upload and update of an object pool, and what a terminal says of it")
         .after_help(AFTER_POOLS)
         .arg(log(alloc))?
-        .arg(
-            Arg::new(alloc, "out")
-                .long("out")
-                .value_name("FOLDER")
-                .help(
-                    "A folder for the pools, which is made if it is not there [default: write none]",
-                )
-                .action(ArgAction::Set),
-        )?
-        .arg(
-            Arg::new(alloc, "names")
-                .long("names")
-                .value_name("FILE")
-                .help("A file of names: lines ID,NAME or #define NAME ID; may be given again")
-                .action(ArgAction::Append),
-        )?
-        .arg(
-            Arg::new(alloc, "format")
-                .long("format")
-                .value_name("FORMAT")
-                .help("Lines for people, or lines of JSON [default: text]")
-                .action(ArgAction::Set)
-                .value_parser(FORMATS),
-        )
+        .arg(out(
+            alloc,
+            "A folder for the pools, which is made if it is not there [default: write none]",
+        ))?
+        .arg(names(alloc))?
+        .arg(interface(alloc))?
+        .arg(format(alloc))
 }
 
 fn operator<'a>(alloc: Global) -> Result<Command<'a>, AllocError> {
@@ -95,6 +91,7 @@ fn operator<'a>(alloc: Global) -> Result<Command<'a>, AllocError> {
         .about("Prints a log with the operator's lines, as the recorded terminal told of them")
         .after_help(AFTER_OPERATOR)
         .arg(log(alloc))?
+        .arg(interface(alloc))?
         .arg(own(alloc))
 }
 
@@ -116,45 +113,10 @@ fn test<'a>(alloc: Global) -> Result<Command<'a>, AllocError> {
                 .action(ArgAction::SetTrue),
         )?
         .arg(own(alloc))?
-        .arg(
-            Arg::new(alloc, "name")
-                .long("name")
-                .value_name("N")
-                .help("The terminal's NAME, 16 hex digits [default: 20001D0000000001]")
-                .action(ArgAction::Set),
-        )?
-        .arg(
-            Arg::new(alloc, "pool")
-                .long("pool")
-                .value_name("FILE")
-                .help("An object pool that is there from the start")
-                .action(ArgAction::Set),
-        )?
-        .arg(
-            Arg::new(alloc, "owner")
-                .long("owner")
-                .value_name("AA")
-                .help(
-                    "The address of the pool's working set, two hex digits up to FD [default: 80]",
-                )
-                .action(ArgAction::Set),
-        )
-}
-
-fn own<'a>(alloc: Global) -> Arg<'a> {
-    Arg::new(alloc, "own")
-        .long("own")
-        .value_name("AA")
-        .help("The terminal's address, two hex digits up to FD [default: 26]")
-        .action(ArgAction::Set)
-}
-
-/// The formats of output.
-const FORMATS: &[&str] = &["text", "json"];
-
-fn log<'a>(alloc: Global) -> Arg<'a> {
-    Arg::new(alloc, "LOG")
-        .help("The file of the log; - is the standard input")
-        .action(ArgAction::Set)
-        .required(true)
+        .arg(name(
+            alloc,
+            "The terminal's NAME, 16 hex digits [default: 20001D0000000001]",
+        ))?
+        .arg(pool(alloc))?
+        .arg(owner(alloc))
 }

@@ -1,7 +1,7 @@
 -- The exit statuses of the program.
 use Rattle.std.specs.Prelude.{ℕ}
-use Rattle.vt_log_tool.specs.declared.program.Status.{Status}
-use Rattle.vt_log_tool.specs.declared.program.Status.TheVariants.{Clean, Found, NotJudged}
+use Rattle.vt_log_runs.specs.declared.status.Status.{Status}
+use Rattle.vt_log_runs.specs.declared.status.Status.TheVariants.{Clean, Found, NotJudged}
 
 abbrev pub status_code : Status → ℕ
 status_code Clean = 0

@@ -17,7 +17,7 @@ const DELETE_VERSION: u8 = 0xD2;
 
 /// A request about pools.
 #[derive(Clone, Copy, Drop)]
-pub(crate) enum Request<'a> {
+pub enum Request<'a> {
     /// The pool of the working set is to be deleted.
     DeletePool,
     /// The labels of stored pools are wanted.
@@ -32,13 +32,13 @@ pub(crate) enum Request<'a> {
 
 /// The label of a stored pool: seven characters.
 #[derive(Clone, Copy, Drop)]
-pub(crate) struct Label<'a> {
+pub struct Label<'a> {
     bytes: &'a [u8],
 }
 
 impl<'a> Request<'a> {
     /// The request in a message, if it is one.
-    pub(crate) fn in_message(bytes: &'a [u8]) -> Option<Request<'a>> {
+    pub fn in_message(bytes: &'a [u8]) -> Option<Request<'a>> {
         match bytes {
             [DELETE_POOL, ..] => Some(Request::DeletePool),
             [GET_VERSIONS, ..] => Some(Request::GetVersions),

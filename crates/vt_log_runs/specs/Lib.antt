@@ -1,0 +1,3 @@
+-- The definitions used in the contracts of vt_log_runs.
+pub mod Statuses
+pub mod Pictures

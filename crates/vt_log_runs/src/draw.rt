@@ -1,0 +1,125 @@
+//! The subcommand `draw`.
+
+use crate::picture::picture_shown;
+use crate::replay::{Replay, input_of};
+use crate::status::Status;
+use std::alloc::Global;
+use std::io::{self, Write};
+use std::mem;
+use vt_files::{Open, Save, make_folder, save_file};
+use vt_log_words::DrawOptions;
+use vt_needs::TERMINAL_SIZES;
+use vt_recorded::Reader;
+use vt_server::{Output, Terminal};
+
+/// Draws the screen of each line of a log at which its text changed.
+pub fn run_draw<F: Open + Save, W: Write, E: Write>(
+    alloc: Global,
+    options: &DrawOptions<'_>,
+    files: &mut F,
+    out: &mut W,
+    errors: &mut E,
+) -> io::Result<Status> {
+    let Some(replay) = Replay::read(alloc, &options.replay, files, errors)? else {
+        return Ok(Status::NotJudged);
+    };
+    let folder = options.folder.trim_end_matches('/');
+    if !make_folder(folder, files, errors)? {
+        return Ok(Status::NotJudged);
+    }
+    if !replay.tell_lines(files, errors) {
+        return Ok(Status::NotJudged);
+    }
+    let mut gallery = Gallery {
+        alloc,
+        folder,
+        terminal: replay.terminal()?,
+        reader: Reader::new(alloc),
+        screen: Vec::new(alloc),
+        drawn: Vec::new(alloc),
+        outputs: Vec::new(alloc),
+    };
+    let mut status = gallery.look(0, files, out, errors)?;
+    let mut number = 0u64;
+    for line in replay.text().split(|byte| *byte == b'\n') {
+        number = number.saturating_add(1);
+        if gallery.take_line(&replay, line)? {
+            let found = gallery.look(number, files, out, errors)?;
+            status = status.and(found);
+        }
+    }
+    replay.tell_loss(&gallery.terminal, files, errors);
+    Ok(status)
+}
+
+/// The pictures of a replay.
+#[derive(Drop)]
+struct Gallery<'a> {
+    alloc: Global,
+    folder: &'a str,
+    terminal: Terminal,
+    reader: Reader,
+    /// The text of the screen that was drawn last.
+    screen: Vec<u8>,
+    /// The buffer for the next text.
+    drawn: Vec<u8>,
+    outputs: Vec<Output>,
+}
+
+impl Gallery<'_> {
+    /// Takes a line, and returns whether it is an input of the terminal.
+    fn take_line(&mut self, replay: &Replay<'_>, line: &[u8]) -> io::Result<bool> {
+        let reading = replay.read_line(&mut self.reader, line)?;
+        let Some(input) = input_of(reading) else {
+            return Ok(false);
+        };
+        self.outputs.clear();
+        self.terminal.step(&input, &mut self.outputs)?;
+        Ok(true)
+    }
+
+    /// Draws the screen after a line, if its text has changed.
+    fn look<F: Save, W: Write, E: Write>(
+        &mut self,
+        number: u64,
+        files: &mut F,
+        out: &mut W,
+        errors: &mut E,
+    ) -> io::Result<Status> {
+        if !self.terminal.redraws() {
+            return Ok(Status::Clean);
+        }
+        self.drawn.clear();
+        self.terminal.screen(&mut self.drawn)?;
+        if self.drawn == self.screen {
+            return Ok(Status::Clean);
+        }
+        mem::swap(&mut self.screen, &mut self.drawn);
+        self.put_picture(number, files, out, errors)
+    }
+
+    /// Writes the picture of the screen after a line, and names it by the first line of the screen's text.
+    fn put_picture<F: Save, W: Write, E: Write>(
+        &self,
+        number: u64,
+        files: &mut F,
+        out: &mut W,
+        errors: &mut E,
+    ) -> io::Result<Status> {
+        let end = self.screen.iter().position(|byte| *byte == b'\n');
+        let head = self.screen.get(..end.unwrap_or(0)).unwrap_or(&[]);
+        write!(out, "line {number}: ")?;
+        out.write_all(head)?;
+        let Some(picture) = picture_shown(self.alloc, &self.terminal, TERMINAL_SIZES)? else {
+            writeln!(out)?;
+            return Ok(Status::Clean);
+        };
+        let path = format!(in self.alloc; "{}/line-{number}.svg", self.folder)?;
+        writeln!(out, " -> {path}")?;
+        if save_file(path.as_str(), &picture, files, errors)? {
+            Ok(Status::Clean)
+        } else {
+            Ok(Status::NotJudged)
+        }
+    }
+}

@@ -1,0 +1,76 @@
+//! The subcommand `stats`.
+
+use crate::replay::{Replay, input_of};
+use crate::status::Status;
+use std::alloc::Global;
+use std::io::{self, Write};
+use vt_can::Line;
+use vt_files::Open;
+use vt_log_words::ReplayOptions;
+use vt_reach::{Reach, ReachText};
+use vt_recorded::Reader;
+use vt_server::{Output, Terminal};
+use vt_traffic::Traffic;
+
+/// Prints what a log holds in numbers, and what it reached of each pool.
+pub fn run_stats<F: Open, W: Write, E: Write>(
+    alloc: Global,
+    options: &ReplayOptions<'_>,
+    files: &mut F,
+    out: &mut W,
+    errors: &mut E,
+) -> io::Result<Status> {
+    let Some(replay) = Replay::read(alloc, options, files, errors)? else {
+        return Ok(Status::NotJudged);
+    };
+    if !replay.tell_lines(files, errors) {
+        return Ok(Status::NotJudged);
+    }
+    let mut run = Run {
+        terminal: replay.terminal()?,
+        traffic: Traffic::new(alloc),
+        reach: Reach::new(alloc),
+        reader: Reader::new(alloc),
+        outputs: Vec::new(alloc),
+    };
+    let mut number = 0u64;
+    for line in replay.text().split(|byte| *byte == b'\n') {
+        number = number.saturating_add(1);
+        run.take_line(&replay, number, line)?;
+    }
+    write!(out, "{}", run.traffic.report()?)?;
+    let names = &replay.names;
+    for set in run.reach.sets()?.iter() {
+        write!(out, "{}", ReachText { set, names })?;
+    }
+    replay.tell_loss(&run.terminal, files, errors);
+    Ok(Status::Clean)
+}
+
+/// What a log holds so far.
+#[derive(Drop)]
+struct Run {
+    terminal: Terminal,
+    traffic: Traffic,
+    reach: Reach,
+    reader: Reader,
+    outputs: Vec<Output>,
+}
+
+impl Run {
+    /// Takes the next line of a log.
+    fn take_line(&mut self, replay: &Replay<'_>, number: u64, line: &[u8]) -> io::Result<()> {
+        let reading = replay.read_line(&mut self.reader, line)?;
+        self.reach.before(&reading, &self.terminal)?;
+        if let Ok(Line::Frame { time, frame }) = &reading {
+            self.traffic.take(number, *time, frame)?;
+        }
+        let Some(input) = input_of(reading) else {
+            return Ok(());
+        };
+        self.outputs.clear();
+        self.terminal.step(&input, &mut self.outputs)?;
+        self.reach.after(&self.outputs, &self.terminal)?;
+        Ok(())
+    }
+}

@@ -1,0 +1,37 @@
+//! The statuses of the program.
+
+ghost use Rattle.std.specs.Prelude.{◌≡◌};
+ghost use Rattle.vt_log_runs.specs.Statuses.{status_code};
+
+/// The status with which a run ends.
+#[derive(Clone, Copy, Debug, PartialEq, Eq)]
+pub enum Status {
+    /// Nothing was found.
+    Clean,
+    /// Something was found.
+    Found,
+    /// Something was not judged: the words, a file or memory stopped it.
+    NotJudged,
+}
+
+impl Status {
+    /// The exit status of the process.
+    pub fn code(self) -> u8
+        ensures { result ≡ status_code self }
+    {
+        match self {
+            Status::Clean => 0,
+            Status::Found => 1,
+            Status::NotJudged => 2,
+        }
+    }
+
+    /// The status of two parts of a run: that something was not judged counts more than that something was found.
+    pub fn and(self, other: Status) -> Status {
+        match (self, other) {
+            (Status::NotJudged, _) | (_, Status::NotJudged) => Status::NotJudged,
+            (Status::Found, _) | (_, Status::Found) => Status::Found,
+            (Status::Clean, Status::Clean) => Status::Clean,
+        }
+    }
+}

@@ -1,0 +1,102 @@
+//! The subcommands that replay a log to a terminal.
+
+use crate::words::values::{format, interface, log, name, names, out, own, owner, pool};
+use clap::{Arg, ArgAction, Command};
+use std::alloc::{AllocError, Global};
+
+/// The text of help after the options of `trace`.
+const AFTER_TRACE: &str = "\
+A line for each frame and each action of the operator, in words; below it what the terminal sends, as vt_replay prints it, and the
+lines of its screen that go (-) and come (+):
+
+  17 2.400000 80 to 26: Hide/Show Object: Container 100 `boom`, hide
+      14E68026#A064000000FFFFFF  26 to 80: Hide/Show Object: done
+    - container 100 10 5 50x20";
+
+/// The text of help after the options of `compare`.
+const AFTER_COMPARE: &str = "\
+This terminal replays the log. What it sends and what the recorded terminal sent are compared, for each address, function and object
+in their order: an answer that differs, that did not come in time, or that only one of the two sent, is told.
+
+  line 368: to F2: Change Numeric Value 483: ours A8E3010000000000 error 00, recorded A8E3010200000000 error 02 at line 370
+
+Not compared are transport control and claims. What the operator did should stand in the log: segyolant_log operator writes it.
+Status: 0 all answers are the same, 1 some are not, 2 not judged.";
+
+/// The text of help after the options of `draw`.
+const AFTER_DRAW: &str = "\
+A picture for each line of the log at which the text of the screen changed, as FOLDER/line-17.svg, and one of the first screen, if it shows a mask,
+as FOLDER/line-0.svg. Each is named on the standard output.";
+
+/// The text of help after the options of `stats`.
+const AFTER_STATS: &str = "\
+Frames, bytes and load by source, transfers, packets that came again, and frames that were seen twice; then, for each working set with a pool, its commands, and which
+of its masks, objects and macros the log reached.";
+
+pub(crate) fn trace<'a>(alloc: Global) -> Result<Command<'a>, AllocError> {
+    terminal(
+        alloc,
+        Command::new(alloc, "trace")
+            .about(
+                "Prints each line of a log in words, with the answers of a terminal and the changes of its screen",
+            )
+            .after_help(AFTER_TRACE)
+            .arg(names(alloc))?,
+    )
+}
+
+pub(crate) fn compare<'a>(alloc: Global) -> Result<Command<'a>, AllocError> {
+    terminal(
+        alloc,
+        Command::new(alloc, "compare")
+            .about("Prints where the terminal in a log answered otherwise than this one")
+            .after_help(AFTER_COMPARE)
+            .arg(names(alloc))?
+            .arg(
+                Arg::new(alloc, "wait")
+                    .long("wait")
+                    .value_name("MS")
+                    .help("How long an answer may take, in milliseconds [default: 1500]")
+                    .action(ArgAction::Set),
+            )?
+            .arg(format(alloc))?,
+    )
+}
+
+pub(crate) fn draw<'a>(alloc: Global) -> Result<Command<'a>, AllocError> {
+    let folder = out(
+        alloc,
+        "A folder for the pictures, which is made if it is not there",
+    );
+    terminal(
+        alloc,
+        Command::new(alloc, "draw")
+            .about("Draws the screen after each line of a log at which its text changed")
+            .after_help(AFTER_DRAW)
+            .arg(folder.required(true))?,
+    )
+}
+
+pub(crate) fn stats<'a>(alloc: Global) -> Result<Command<'a>, AllocError> {
+    terminal(
+        alloc,
+        Command::new(alloc, "stats")
+            .about("Prints what a log holds in numbers, and what it reached of each pool")
+            .after_help(AFTER_STATS)
+            .arg(names(alloc))?,
+    )
+}
+
+/// Adds the log, and the words of the terminal that replays it.
+fn terminal<'a>(alloc: Global, command: Command<'a>) -> Result<Command<'a>, AllocError> {
+    command
+        .arg(log(alloc))?
+        .arg(interface(alloc))?
+        .arg(own(alloc))?
+        .arg(name(
+            alloc,
+            "The terminal's NAME, 16 hex digits [default: that of its claim in the log, or else 20001D0000000001]",
+        ))?
+        .arg(pool(alloc))?
+        .arg(owner(alloc))
+}
