@@ -3,7 +3,7 @@ ARGS ?= examples/seeder.log
 # The pool that is drawn.
 POOL ?= examples/sprayer.iop
 
-.PHONY: run sample picture pictures help test examples wrong-bodies build bench bench-hostile bench-counts refuse-memory test-c
+.PHONY: run sample picture pictures help test examples wrong-bodies build bench bench-hostile bench-counts refuse-memory test-c libs-aarch64
 
 # Runs the program by the toolchain's quick build, which proves nothing.
 run:
@@ -71,3 +71,8 @@ refuse-memory:
 test-c:
 	@python3 scripts/static_libs.py $(LIBS)
 	@python3 scripts/test_c.py $(foreach folder,$(CASES),--cases $(folder))
+
+# Proves the static libraries for aarch64 and leaves them at crates/*/out/aarch64-unknown-linux-gnu, over the libraries that make test
+# or make test-c left in this tree. make test-c then runs them too, if qemu-aarch64 and aarch64-linux-gnu-gcc are there.
+libs-aarch64:
+	@python3 scripts/static_libs.py --target aarch64-unknown-linux-gnu

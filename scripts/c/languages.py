@@ -1,10 +1,13 @@
-"""Tests of other languages: the headers and examples/cpp in C++, and bindings/rust."""
+"""Tests of other languages and processors: the headers and examples/cpp in C++, bindings/rust, and the library for aarch64."""
 import glob
 import os
 import subprocess
 
-from c.programs import EXAMPLES, HEADERS, LIBRARY, ROOT, run
+from c.programs import EXAMPLES, HEADERS, LIBRARY, REPLAY, ROOT, compiled, run
+from c.replays import check_replay, stored_runs
 from c.results import PassedOver, expect, need
+
+AARCH64 = 'aarch64-unknown-linux-gnu'
 
 
 def check_cpp_header(folder):
@@ -36,9 +39,25 @@ def check_rust(folder):
     expect(ran.returncode == 0, (ran.stdout + ran.stderr)[-600:])
 
 
+class Emulator:
+    """In the place of the programs: the emulator, whose first word is a program."""
+
+    def get(self, name):
+        return name
+
+
 def check_aarch64(folder):
+    """replay.c on the library for aarch64, in an emulator, prints what the gate stores."""
     need('qemu-aarch64')
-    raise PassedOver('the library of this machine is for x86-64 alone')
+    need('aarch64-linux-gnu-gcc')
+    library = f'{ROOT}/crates/vt_terminal/out/{AARCH64}/libvt_terminal.a'
+    if not os.path.exists(library):
+        raise PassedOver('there is no library for it; make libs-aarch64 makes it')
+    program = compiled(folder, 'replay-aarch64', [*REPLAY, 'heap.c'], '-O2', '-static', compiler='aarch64-linux-gnu-gcc', library=library)
+    runs = [one for one in stored_runs() if not one.reported() and one.why_not() is None]
+    expect(runs, 'no run is stored')
+    for one in runs:
+        check_replay(Emulator(), 'qemu-aarch64', one, [program])
 
 
 def check_there(path):
