@@ -12,10 +12,11 @@ files_of() {
         vt_pool_examples) (cd examples && ls -- *.iop *.h hide.log seeder.log) ;;
         segyolant) echo sprayer.iop sprayer.h ;;
         segyolant_log) echo field.log sprayer.h ;;
+        vt_log_examples) (cd examples && ls -- bench-*.log field.log seeder.log pool.iop sprayer.iop sprayer.h) ;;
     esac
 }
 
-for crate in vt_examples vt_replay vt_sample vt_pool_examples segyolant segyolant_log; do
+for crate in vt_examples vt_replay vt_sample vt_pool_examples segyolant segyolant_log vt_log_examples; do
     data=crates/$crate/data
     mkdir -p "$data"
     for file in $(files_of "$crate"); do
