@@ -1,6 +1,6 @@
 -- The pieces of object pools in messages (ISO 11783-6; docs/PROFILE.md, "Uploads in a log"). Every list of messages has the latest
 -- first.
-use Rattle.std.specs.Prelude.{ℕ, ◌==◌, ◌||◌, Bool, false, if◌then◌else◌, List, [], ◌∷◌, ◌++◌, drop}
+use Rattle.std.specs.Prelude.{ℕ, ◌==◌, ◌||◌, Bool, false, if◌then◌else◌, Option, None, Some, unwrap_or, List, [], ◌∷◌, ◌++◌, drop}
 use Rattle.vt_can.specs.Assigned.{ECU_TO_VT, TRANSFER, END_OF_POOL}
 use Rattle.vt_can.specs.frames.Identifier.{addressed, raw_of}
 use Rattle.vt_commands.specs.Functions.{DELETE_POOL}
@@ -19,14 +19,15 @@ abbrev pub has_function : ℕ → List ℕ → Bool
 has_function function [] = false
 has_function function (first ∷ rest) = first == function
 
--- the bytes of the pool that one message after the others leaves
-abbrev pub with_message : List ℕ → List ℕ → List ℕ
+-- the pool that one message after the others leaves unended
+abbrev pub with_message : List ℕ → Option (List ℕ) → Option (List ℕ)
 with_message bytes pool =
-    if has_function TRANSFER bytes then pool ++ drop 1 bytes
-    else if has_function END_OF_POOL bytes || has_function DELETE_POOL bytes then []
+    if has_function TRANSFER bytes then Some (unwrap_or pool [] ++ drop 1 bytes)
+    else if has_function END_OF_POOL bytes || has_function DELETE_POOL bytes then None
     else pool
 
--- The bytes of the pool that is being uploaded by the messages of an identifier: the pieces since the last end or deletion of a pool.
-abbrev pub pieces : ℕ → List Told → List ℕ
-pieces id [] = []
+-- The bytes of the pool that is being uploaded by the messages of an identifier: the pieces since the last end or deletion of a pool. None if
+-- there is no piece since then.
+abbrev pub pieces : ℕ → List Told → Option (List ℕ)
+pieces id [] = None
 pieces id (message ∷ messages) = if message.id == id then with_message message.bytes (pieces id messages) else pieces id messages

@@ -1,6 +1,6 @@
 //! The uploads that are not ended yet.
 
-ghost use Rattle.std.specs.Prelude.{◌≡◌, ◌≢◌, ℕ, ◌∷◌, ◌++◌, List, [], None, OnOk, IfOk};
+ghost use Rattle.std.specs.Prelude.{◌≡◌, ◌≢◌, ℕ, ◌∷◌, ◌++◌, List, [], None, Some, OnOk, IfOk, unwrap_or};
 ghost use Rattle.std.specs.Ordering.{nat_cmp};
 ghost use Rattle.std.specs.BTreeMap.{get};
 ghost use Rattle.vt_uploads.specs.Pieces.{Told, id_of};
@@ -65,7 +65,7 @@ impl Uploads {
     /// Appends a piece to its upload.
     fn append(&mut self, message: Message<'_>, piece: &[u8]) -> Result<(), AllocError>
         ensures here { OnOk result (bytes_of (get nat_cmp self.new.unended (id_of message.entry.source message.entry.destination))
-            ≡ bytes_of (get nat_cmp self.old.unended (id_of message.entry.source message.entry.destination)) ++ piece.now) }
+            ≡ Some (unwrap_or (bytes_of (get nat_cmp self.old.unended (id_of message.entry.source message.entry.destination))) [] ++ piece.now)) }
         ensures others { OnOk result ((id : ℕ) → id ≢ id_of message.entry.source message.entry.destination
             → get nat_cmp self.new.unended id ≡ get nat_cmp self.old.unended id) }
     {
@@ -78,7 +78,7 @@ impl Uploads {
 
     /// Removes the upload that a message belongs to, which may be empty.
     fn remove(&mut self, message: Message<'_>) -> Upload
-        ensures bytes { result.bytes.items ≡ bytes_of (get nat_cmp self.old.unended (id_of message.entry.source message.entry.destination)) }
+        ensures bytes { result.bytes.items ≡ unwrap_or (bytes_of (get nat_cmp self.old.unended (id_of message.entry.source message.entry.destination))) [] }
         ensures here { get nat_cmp self.new.unended (id_of message.entry.source message.entry.destination) ≡ None }
         ensures others { (id : ℕ) → id ≢ id_of message.entry.source message.entry.destination
             → get nat_cmp self.new.unended id ≡ get nat_cmp self.old.unended id }
