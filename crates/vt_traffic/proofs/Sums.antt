@@ -11,7 +11,8 @@ use Rattle.std.proofs.lemmas.Map.Entries.{sum_by-insert_entry, sum_by-remove_ent
 use Rattle.vt_traffic.specs.declared.counts.Counts.{Counts}
 use Rattle.vt_traffic.specs.declared.report.Share.{Share}
 use Rattle.vt_traffic.specs.Counted.{nothing, more, counts_in, SumUpTo}
-use Rattle.vt_traffic.specs.Shares.{counted_of}
+use Rattle.vt_traffic.proofs.OwnCounts.{counted_of, counted-share_of}
+use Rattle.vt_traffic.specs.Shares.{share_of}
 
 -- the frames of a source
 frames-of : (found : Option Counts) → (unwrap_or found nothing).frames ≡ unwrap_or (option_map (λ (own : Counts). own.frames) found) 0
@@ -42,3 +43,9 @@ sum-of_shares (share ∷ shares) =
     sum_by-cons (λ (share : Share). share.counts.frames) share shares
     ∙ ap (λ rest. share.counts.frames + rest) (sum-of_shares shares)
     ∙ sym (sum_by-cons (λ (own : Counts). own.frames) share.counts (values_of (map counted_of shares)))
+
+pub sum-share_of : (microseconds : ℕ) (entries : List (ℕ × Counts)) (shares : List Share) → shares ≡ map (share_of microseconds) entries
+    → sum_by (λ (share : Share). share.counts.frames) shares ≡ sum_by (λ (own : Counts). own.frames) (values_of entries)
+sum-share_of microseconds entries shares same =
+    sum-of_shares shares
+    ∙ ap (λ counted. sum_by (λ (own : Counts). own.frames) (values_of counted)) (ap (map counted_of) same ∙ counted-share_of microseconds entries)

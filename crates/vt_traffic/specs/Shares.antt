@@ -2,7 +2,8 @@
 use Rattle.std.specs.Prelude.{ℕ}
 use Rattle.vt_traffic.specs.declared.counts.Counts.{Counts}
 use Rattle.vt_traffic.specs.declared.report.Share.{Share}
+use Rattle.vt_traffic.specs.Loads.{load_of}
 
--- a source and how much it has sent
-abbrev pub counted_of : Share → ℕ × Counts
-counted_of share = (share.source, share.counts)
+-- the share of a source that has sent so much in so many microseconds
+abbrev pub share_of : ℕ → ℕ × Counts → Share
+share_of microseconds counted = record { source = counted.0; counts = counted.1; load = load_of counted.1.bits microseconds }

@@ -4,7 +4,7 @@ use std::fmt;
 
 /// A time or a span in microseconds, which its `Display` writes in seconds, as `12.000345`.
 #[derive(Clone, Copy, Debug, PartialEq, Eq)]
-pub struct Seconds(pub u64);
+pub(crate) struct Seconds(pub(crate) u64);
 
 impl fmt::Display for Seconds {
     fn fmt<W: fmt::Write>(&self, f: &mut fmt::Formatter<W>) -> fmt::Result {

@@ -22,7 +22,7 @@ pub(crate) struct Sources {
 }
 
 impl Sources {
-    ghost use Rattle.vt_traffic.specs.Shares.{counted_of};
+    ghost use Rattle.vt_traffic.specs.Shares.{share_of};
 
     /// No sources. Does not allocate.
     pub(crate) fn new(alloc: Global) -> Sources
@@ -60,7 +60,7 @@ impl Sources {
 
     /// The share of each source, by rising addresses, in a log of so many microseconds.
     pub(crate) fn shares(&self, microseconds: u64) -> Result<Vec<Share>, AllocError>
-        ensures shares { IfOk result (λ shares. map counted_of shares.items ≡ self.now.counts.entries) }
+        ensures shares { IfOk result (λ shares. shares.items ≡ map (share_of microseconds) self.now.counts.entries) }
         ensures own { IfOk result (λ shares. All (λ share. share.counts ≡ counts_in self.now.counts share.source) shares.items) }
     {
         let mut shares = Vec::new(self.alloc);

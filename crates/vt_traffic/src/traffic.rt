@@ -1,28 +1,19 @@
 //! Counts the frames of a log.
 
-ghost use Rattle.std.specs.Prelude.{◌≡◌, ◌≢◌, ℕ, OnOk, IfOk, length};
-ghost use Rattle.vt_can.specs.frames.Frame.{source_of};
+ghost use Rattle.std.specs.Prelude.{◌≡◌, ℕ, OnOk, IfOk, None, []};
 ghost use Rattle.vt_traffic.specs.Counted.{nothing};
 ghost use Rattle.vt_traffic.specs.Reports.{IsReportOn};
-ghost use Rattle.vt_traffic.specs.Traffics.{counts_from, total_of, CountsFrame};
+ghost use Rattle.vt_traffic.specs.Traffics.{counts_from, total_of, CountsFrame, HasTaken};
 
 use crate::counts::Counts;
 use crate::load::load_of;
 use crate::report::TrafficReport;
 use crate::sightings::Sightings;
 use crate::sources::Sources;
+use crate::span::Span;
 use crate::transfers::TransferCounter;
 use std::alloc::{AllocError, Global};
 use vt_can::Frame;
-
-/// The first and the last frame.
-#[derive(Clone, Copy)]
-struct Span {
-    first_line: u64,
-    last_line: u64,
-    first_time: u64,
-    last_time: u64,
-}
 
 /// What the frames of a log come to.
 ///
@@ -40,6 +31,8 @@ impl Traffic {
     pub fn new(alloc: Global) -> Traffic
         ensures sources { (source : ℕ) → counts_from result source ≡ nothing }
         ensures total { total_of result ≡ nothing }
+        ensures span { result.span ≡ None }
+        ensures taken { HasTaken [] result }
     {
         Traffic {
             sources: Sources::new(alloc),
@@ -52,11 +45,11 @@ impl Traffic {
     /// Counts the frame of a line of the log, at a time in microseconds. A time before that of an earlier frame counts as the latest so
     /// far. After `OutOfMemory` the counts are of no more use.
     pub fn take(&mut self, line: u64, time: u64, frame: &Frame) -> Result<(), AllocError>
-        ensures { OnOk result (CountsFrame self.old self.new frame.now) }
+        ensures { OnOk result (CountsFrame line time self.old self.new frame.now) }
     {
         self.sources
             .add_frame(frame.id.source(), frame.bytes.len())?;
-        let span = self.span_with(line, time);
+        let span = Span::with_frame_at(line, time, self.span);
         self.span = Some(span);
         self.sightings.take(span.last_time, frame)?;
         self.transfers.take(line, span.last_time, frame)
@@ -98,22 +91,5 @@ impl Traffic {
             transfers: self.transfers.counted()?,
             seen_twice: self.sightings.seen_twice(),
         })
-    }
-
-    /// The span with a frame at its end.
-    fn span_with(&self, line: u64, time: u64) -> Span {
-        match self.span {
-            Some(span) => Span {
-                last_line: line,
-                last_time: span.last_time.max(time),
-                ..span
-            },
-            None => Span {
-                first_line: line,
-                last_line: line,
-                first_time: time,
-                last_time: time,
-            },
-        }
     }
 }

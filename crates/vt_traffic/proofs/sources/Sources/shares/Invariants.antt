@@ -1,6 +1,6 @@
 use Rattle.std.proofs.Common.{◌≡◌, ◌++◌, map}
-use Rattle.vt_traffic.specs.Shares.{counted_of}
+use Rattle.vt_traffic.specs.Shares.{share_of}
 use Rattle.vt_traffic.proofs.sources.Sources.shares.Given as goal
 
 abbrev pub invariant-loop-source : goal.invariant-loop-source
-invariant-loop-source l = map counted_of l.shares.items ++ l.source-iterator ≡ l.self.counts.entries
+invariant-loop-source l = l.shares.items ++ map (share_of l.microseconds) l.source-iterator ≡ map (share_of l.microseconds) l.self.counts.entries

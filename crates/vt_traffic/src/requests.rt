@@ -1,0 +1,95 @@
+//! Requests of messages in packets.
+
+use std::alloc::{AllocError, Global};
+use std::collections::BTreeMap;
+use vt_can::Frame;
+use vt_can::assigned::{ETP_CM, ETP_DT, ETP_RTS, TP_CM, TP_DT, TP_RTS};
+
+/// The ends of a transfer, and its protocol.
+#[derive(Clone, Copy, PartialEq, Eq, PartialOrd, Ord)]
+struct Channel {
+    is_extended: bool,
+    source: u8,
+    destination: u8,
+}
+
+/// A frame of a sender in its channel.
+#[derive(Clone, Copy)]
+enum SenderFrame {
+    Request(Channel),
+    Packet(Channel),
+}
+
+impl SenderFrame {
+    /// `None` for any other frame.
+    fn of_frame(frame: &Frame) -> Option<SenderFrame> {
+        let [control, _, _, _, _, _, _, _] = frame.bytes.as_slice() else {
+            return None;
+        };
+        let channel = Channel {
+            is_extended: matches!(frame.id.pgn(), ETP_CM | ETP_DT),
+            source: frame.id.source(),
+            destination: frame.id.destination()?,
+        };
+        match (frame.id.pgn(), *control) {
+            (TP_CM, TP_RTS) | (ETP_CM, ETP_RTS) => Some(SenderFrame::Request(channel)),
+            (TP_DT | ETP_DT, _) => Some(SenderFrame::Packet(channel)),
+            _ => None,
+        }
+    }
+}
+
+/// A request whose message is not whole.
+#[derive(Clone, Copy)]
+pub(crate) struct Request {
+    /// The number of its line.
+    pub(crate) line: u64,
+    /// Its time, in microseconds.
+    pub(crate) time: u64,
+    /// The packets since then.
+    pub(crate) packets: u64,
+}
+
+/// The last request in each channel whose message is not whole.
+#[derive(Drop)]
+pub(crate) struct Requests {
+    last: BTreeMap<Channel, Request>,
+}
+
+impl Requests {
+    /// No requests. Does not allocate.
+    pub(crate) fn new(alloc: Global) -> Requests {
+        Requests {
+            last: BTreeMap::new(alloc),
+        }
+    }
+
+    /// Notes a request in place of an earlier one in its channel, and counts a packet.
+    pub(crate) fn note(&mut self, line: u64, time: u64, frame: &Frame) -> Result<(), AllocError> {
+        match SenderFrame::of_frame(frame) {
+            Some(SenderFrame::Request(channel)) => {
+                let request = Request {
+                    line,
+                    time,
+                    packets: 0,
+                };
+                self.last.insert(channel, request)?;
+            }
+            Some(SenderFrame::Packet(channel)) => {
+                if let Some(request) = self.last.get_mut(&channel) {
+                    request.packets = request.packets.saturating_add(1);
+                }
+            }
+            None => {}
+        }
+        Ok(())
+    }
+
+    /// Removes the request in the channel of a packet.
+    pub(crate) fn remove(&mut self, frame: &Frame) -> Option<Request> {
+        match SenderFrame::of_frame(frame) {
+            Some(SenderFrame::Packet(channel)) => self.last.remove(&channel),
+            _ => None,
+        }
+    }
+}
