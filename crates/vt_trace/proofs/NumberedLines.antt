@@ -1,43 +1,32 @@
 -- The head of a line: its number and its words.
-use Rattle.std.proofs.Common.{◌≡◌, ◌∙◌, ◌==◌, ◌<◌, ◌^◌, ℕ, true, false, not, nat_eq, List, [], ◌∷◌, ◌++◌, length, codes, refl, ap, append_assoc, arith}
+use Rattle.std.proofs.Common.{◌≡◌, ◌∙◌, ◌<◌, ◌^◌, ℕ, false, nat_eq, List, [], ◌∷◌, ◌++◌, length, codes, refl, ap, append_assoc, arith}
 use Rattle.std.specs.Fmt.{decimal}
 use Rattle.std.specs.List.{starts_with}
 use Rattle.std.specs.Char.{digit_value}
 use Rattle.std.specs.Str.Parse.{AllDigits}
 use Rattle.std.proofs.lemmas.Fmt.{decimal_is_IsNumeral}
-use Rattle.std.proofs.lemmas.List.Elements.{All-append, All-cons, All-nil}
 use Rattle.std.proofs.lemmas.Str.Parse.{digit_from_value}
 use Rattle.vt_trace.proofs.TracedLines.{HasNoNewline-one_line}
 use Rattle.vt_logs.specs.Texts.{newline}
-use Rattle.vt_trace.specs.Traces.{Gains, HasNoNewline, IsHead, one_line}
-
-digit_is_no_newline : (c : ℕ) → digit_value c < 10 → not (c == 10) ≡ true
-digit_is_no_newline c digit = let range = digit_from_value c digit in grind (arith, range)
+use Rattle.vt_trace.specs.Traces.{Gains, IsHead, one_line}
 
 digit_is_no_space : (c : ℕ) → digit_value c < 10 → nat_eq 32 c ≡ false
 digit_is_no_space c digit = let range = digit_from_value c digit in grind (arith, range)
-
-digits_have_no_newline : (ds : List ℕ) → AllDigits 10 ds → HasNoNewline ds
-digits_have_no_newline [] none = All-nil (λ byte. not (byte == 10) ≡ true)
-digits_have_no_newline (c ∷ cs) digits =
-    All-cons (λ byte. not (byte == 10) ≡ true) c cs (digit_is_no_newline c digits.0) (digits_have_no_newline cs digits.1)
 
 digits_are_unindented : (ds rest : List ℕ) → 0 < length ds → AllDigits 10 ds → starts_with nat_eq (ds ++ rest) (codes "    ") ≡ false
 digits_are_unindented [] rest some none = absurd (omega (arith, some))
 digits_are_unindented (c ∷ cs) rest some digits = rw (digit_is_no_space c digits.0) refl
 
 -- A text gains a head: a number and words behind it.
-pub gains_head : (n : ℕ) (words a b c : List ℕ) → n < 2 ^ 64 → b ≡ a ++ ([] ++ decimal n) → c ≡ b ++ codes " " ++ one_line words ++ newline → Gains IsHead a c
+pub gains_head : (n : ℕ) (words a b c : List ℕ) → n < 2 ^ 64 → b ≡ a ++ ([] ++ decimal n) → c ≡ b ++ codes " " ++ one_line words ++ newline → Gains (IsHead n) a c
 gains_head n words a b c small numbered worded =
     let digits = (decimal_is_IsNumeral n small).0 in
     let said = decimal n ++ codes " " ++ one_line words in
-    let P : ℕ → Type 0 = λ byte. not (byte == 10) ≡ true in record {
+    record {
       part = said ++ newline;
       part_is = record {
-        words = said;
-        one_line = All-append P (decimal n ++ codes " ") (one_line words)
-            (All-append P (decimal n) (codes " ") (digits_have_no_newline (decimal n) digits.1) (All-cons P 32 [] refl (All-nil P)))
-            (HasNoNewline-one_line words);
+        words = one_line words;
+        one_line = HasNoNewline-one_line words;
         unindented = rw (append_assoc (decimal n) (codes " ") (one_line words)) (rw (append_assoc (decimal n) (codes " " ++ one_line words) newline)
             (digits_are_unindented (decimal n) (codes " " ++ one_line words ++ newline) digits.0 digits.1));
         whole = refl;

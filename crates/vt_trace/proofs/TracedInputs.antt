@@ -57,9 +57,9 @@ gains_input from to input before sent a b c none taken answers changes = record 
 -- ---- lines
 
 -- A text gains the head of a line that is an input, and then the trace of the input.
-gains_line : (from to : State) (line : ParsedLine) (reading : LineReading) (a b c : List ℕ) → ((sent : List Output) → SendsByInput from line to sent → Sends from reading to sent)
-    → ((head : List ℕ) → IsHead head → IsHeadOf reading head) → Gains IsHead a b → Gains (TracesInput from line to) b c → Gains (TracesLine from reading to) a c
-gains_line from to line reading a b c sends heads h i = record {
+gains_line : (n : ℕ) (from to : State) (line : ParsedLine) (reading : LineReading) (a b c : List ℕ) → ((sent : List Output) → SendsByInput from line to sent → Sends from reading to sent)
+    → ((head : List ℕ) → IsHead n head → IsHeadOf n reading head) → Gains (IsHead n) a b → Gains (TracesInput from line to) b c → Gains (TracesLine n from reading to) a c
+gains_line n from to line reading a b c sends heads h i = record {
   part = h.part ++ i.part;
   part_is = record {
     sent = i.part_is.sent;
@@ -75,24 +75,24 @@ gains_line from to line reading a b c sends heads h i = record {
   whole = i.whole ∙ ap (λ t. t ++ i.part) h.whole ∙ append_assoc a h.part i.part;
 }
 
-frame_traced : (from to : State) (time : ℕ) (frame : Frame) (a b c : List ℕ) → Gains IsHead a b → Gains (TracesInput from (FrameAt time frame) to) b c
-    → Gains (TracesLine from (Ok (FrameAt time frame)) to) a c
-frame_traced from to time frame a b c = gains_line from to (FrameAt time frame) (Ok (FrameAt time frame)) a b c (λ sent s. s) (λ head h. h)
+frame_traced : (n : ℕ) (from to : State) (time : ℕ) (frame : Frame) (a b c : List ℕ) → Gains (IsHead n) a b → Gains (TracesInput from (FrameAt time frame) to) b c
+    → Gains (TracesLine n from (Ok (FrameAt time frame)) to) a c
+frame_traced n from to time frame a b c = gains_line n from to (FrameAt time frame) (Ok (FrameAt time frame)) a b c (λ sent s. s) (λ head h. h)
 
 -- The same, of a copy of the frame.
-pub gains_frame_line : (from to : State) (time : ℕ) (frame copy : Frame) (a b c : List ℕ) → copy ≡ frame → Gains IsHead a b
-    → Gains (TracesInput from (FrameAt time copy) to) b c → Gains (TracesLine from (Ok (FrameAt time frame)) to) a c
-gains_frame_line from to time frame copy a b c same head input =
-    subst (λ (f : Frame). Gains (TracesLine from (Ok (FrameAt time f)) to) a c) same (frame_traced from to time copy a b c head input)
+pub gains_frame_line : (n : ℕ) (from to : State) (time : ℕ) (frame copy : Frame) (a b c : List ℕ) → copy ≡ frame → Gains (IsHead n) a b
+    → Gains (TracesInput from (FrameAt time copy) to) b c → Gains (TracesLine n from (Ok (FrameAt time frame)) to) a c
+gains_frame_line n from to time frame copy a b c same head input =
+    subst (λ (f : Frame). Gains (TracesLine n from (Ok (FrameAt time f)) to) a c) same (frame_traced n from to time copy a b c head input)
 
-pub gains_action_line : (from to : State) (action : ActionValue) (a b c : List ℕ) → Gains IsHead a b → Gains (TracesInput from (OperatorAction action) to) b c
-    → Gains (TracesLine from (Ok (OperatorAction action)) to) a c
-gains_action_line from to action a b c = gains_line from to (OperatorAction action) (Ok (OperatorAction action)) a b c (λ sent s. s) (λ head h. h)
+pub gains_action_line : (n : ℕ) (from to : State) (action : ActionValue) (a b c : List ℕ) → Gains (IsHead n) a b → Gains (TracesInput from (OperatorAction action) to) b c
+    → Gains (TracesLine n from (Ok (OperatorAction action)) to) a c
+gains_action_line n from to action a b c = gains_line n from to (OperatorAction action) (Ok (OperatorAction action)) a b c (λ sent s. s) (λ head h. h)
 
 -- A text gains the head of a line that is no input.
-gains_head_alone : (from to : State) (reading : LineReading) (a b : List ℕ) → Sends from reading to [] → ((head : List ℕ) → IsHead head → IsHeadOf reading head)
-    → Gains IsHead a b → Gains (TracesLine from reading to) a b
-gains_head_alone from to reading a b sends heads h = record {
+gains_head_alone : (n : ℕ) (from to : State) (reading : LineReading) (a b : List ℕ) → Sends from reading to [] → ((head : List ℕ) → IsHead n head → IsHeadOf n reading head)
+    → Gains (IsHead n) a b → Gains (TracesLine n from reading to) a b
+gains_head_alone n from to reading a b sends heads h = record {
   part = h.part;
   part_is = record {
     sent = [];
@@ -108,21 +108,21 @@ gains_head_alone from to reading a b sends heads h = record {
   whole = h.whole;
 }
 
-pub gains_skipped_line : (s : State) (why : Skipped) (a b : List ℕ) → Gains IsHead a b → Gains (TracesLine s (Ok (SkippedFrame why)) s) a b
-gains_skipped_line s why a b = gains_head_alone s s (Ok (SkippedFrame why)) a b (refl, refl) (λ head h. h)
+pub gains_skipped_line : (n : ℕ) (s : State) (why : Skipped) (a b : List ℕ) → Gains (IsHead n) a b → Gains (TracesLine n s (Ok (SkippedFrame why)) s) a b
+gains_skipped_line n s why a b = gains_head_alone n s s (Ok (SkippedFrame why)) a b (refl, refl) (λ head h. h)
 
-pub gains_faulty_line : (s : State) (fault : LineFault) (a b : List ℕ) → Gains IsHead a b → Gains (TracesLine s (Err fault) s) a b
-gains_faulty_line s fault a b = gains_head_alone s s (Err fault) a b (refl, refl) (λ head h. h)
+pub gains_faulty_line : (n : ℕ) (s : State) (fault : LineFault) (a b : List ℕ) → Gains (IsHead n) a b → Gains (TracesLine n s (Err fault) s) a b
+gains_faulty_line n s fault a b = gains_head_alone n s s (Err fault) a b (refl, refl) (λ head h. h)
 
 -- What a text has gained at a line, as it was read.
-pub gained_by : (from to : State) (reading same : LineReading) (a b : List ℕ) → reading ≡ same → Gains (TracesLine from same to) a b
-    → (added : List ℕ) × (b ≡ a ++ added) × TracesLine from reading to added
-gained_by from to reading same a b is gained =
-    (gained.part, gained.whole, subst (λ (r : LineReading). TracesLine from r to gained.part) (sym is) gained.part_is)
+pub gained_by : (n : ℕ) (from to : State) (reading same : LineReading) (a b : List ℕ) → reading ≡ same → Gains (TracesLine n from same to) a b
+    → (added : List ℕ) × (b ≡ a ++ added) × TracesLine n from reading to added
+gained_by n from to reading same a b is gained =
+    (gained.part, gained.whole, subst (λ (r : LineReading). TracesLine n from r to gained.part) (sym is) gained.part_is)
 
 -- A comment adds nothing.
-pub gains_comment : (s : State) (a : List ℕ) → Gains (TracesLine s (Ok CommentLine) s) a a
-gains_comment s a = record {
+pub gains_comment : (n : ℕ) (s : State) (a : List ℕ) → Gains (TracesLine n s (Ok CommentLine) s) a a
+gains_comment n s a = record {
   part = [];
   part_is = record {
     sent = [];

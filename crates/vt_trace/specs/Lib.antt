@@ -1,3 +1,2 @@
 -- The definitions used in the contracts of vt_trace.
-pub mod Replies
 pub mod Traces

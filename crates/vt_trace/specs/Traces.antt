@@ -1,5 +1,6 @@
 -- The trace of a line of a log: a head, the terminal's outputs, and the changes of its screen.
 use Rattle.std.specs.Prelude.{◌≡◌, ◌⊎◌, ◌==◌, ◌||◌, ℕ, nat_lt, Bool, false, not, nat_eq, if◌then◌else◌, List, [], ◌++◌, codes, map, Ok}
+use Rattle.std.specs.Fmt.{decimal}
 use Rattle.std.specs.List.{All, AllZip, AllPass, flat_map, starts_with}
 use Rattle.vt_can.specs.lines.Readings.{ParsedLine, FrameAt, OperatorAction, CommentLine}
 use Rattle.vt_can.specs.lines.WrittenForms.{frame_text}
@@ -78,17 +79,17 @@ pub record AreChanges (text : List ℕ) : Type 0 where
 
 -- ---- the head
 
--- The first line of a trace. It does not begin with four spaces, so it is no line of an output.
-pub record IsHead (head : List ℕ) : Type 0 where
+-- The first line of the trace of a line: its number, a space, and words. It does not begin with four spaces, so it is no line of an output.
+pub record IsHead (number : ℕ) (head : List ℕ) : Type 0 where
   pub words : List ℕ
   pub one_line : HasNoNewline words
   pub unindented : starts_with nat_eq head (codes "    ") ≡ false
-  pub whole : head ≡ words ++ newline
+  pub whole : head ≡ decimal number ++ codes " " ++ words ++ newline
 
 -- A comment has no head, and any other line has one.
-abbrev pub IsHeadOf : LineReading → List ℕ → Type 0
-IsHeadOf (Ok CommentLine) head = head ≡ []
-IsHeadOf _ head = IsHead head
+abbrev pub IsHeadOf : ℕ → LineReading → List ℕ → Type 0
+IsHeadOf number (Ok CommentLine) head = head ≡ []
+IsHeadOf number _ head = IsHead number head
 
 -- ---- a line
 
@@ -116,14 +117,14 @@ pub record TracesInput (from : State) (line : ParsedLine) (to : State) (added : 
   pub changes_are : AreChanges changes
   pub whole : added ≡ answers ++ changes
 
--- A line is taken, and its trace is a head, the lines of the terminal's outputs, and the changes of the screen.
-pub record TracesLine (from : State) (reading : LineReading) (to : State) (added : List ℕ) : Type 0 where
+-- A line of a number is taken, and its trace is a head, the lines of the terminal's outputs, and the changes of the screen.
+pub record TracesLine (number : ℕ) (from : State) (reading : LineReading) (to : State) (added : List ℕ) : Type 0 where
   pub sent : List Output
   pub head : List ℕ
   pub answers : List ℕ
   pub changes : List ℕ
   pub takes : Sends from reading to sent
-  pub head_is : IsHeadOf reading head
+  pub head_is : IsHeadOf number reading head
   pub answers_are : AreOutputLines sent answers
   pub changes_are : AreChanges changes
   pub whole : added ≡ head ++ answers ++ changes

@@ -4,13 +4,13 @@ ghost use Rattle.std.specs.Prelude.{OnOk};
 ghost use Rattle.vt_trace.specs.Traces.{Gains, IsHead};
 
 use crate::lines::put_line;
-use crate::sentence::{MessageSentence, Sentence};
-use crate::shown::{Destination, QuotedText};
 use std::alloc::{AllocError, Global};
 use std::fmt;
 use vt_can::{Action, Skipped};
 use vt_findings_text::Names;
+use vt_frames_text::{Destination, QuotedText};
 use vt_listen::SentMessage;
+use vt_messages_text::{MessageSentence, Sentence};
 use vt_objects::{ObjectId, push_number};
 
 /// The microseconds of a second.
@@ -23,7 +23,7 @@ pub(crate) fn put_head<T: fmt::Display + Drop>(
     head: T,
     text: &mut Vec<u8>,
 ) -> Result<(), AllocError>
-    ensures { OnOk result (Gains IsHead text.old.items text.new.items) }
+    ensures { OnOk result (Gains (IsHead number) text.old.items text.new.items) }
 {
     let words = format!(in alloc; "{head}")?;
     push_number(text, b"", number)?;

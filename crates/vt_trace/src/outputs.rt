@@ -6,10 +6,10 @@ ghost use Rattle.vt_trace.specs.Traces.{AreOutputLines, Gains, IsOutputLine};
 
 use crate::heads::AddressedSentence;
 use crate::lines::put_line;
-use crate::sentence::Sentence;
 use std::alloc::{AllocError, Global};
 use vt_can::write_frame;
 use vt_findings_text::Names;
+use vt_messages_text::Sentence;
 use vt_server::{OperatorFault, OperatorRefusal, Output, Terminal};
 
 /// Appends the lines of a terminal's outputs, in their order.

@@ -9,12 +9,12 @@ ghost use Rattle.vt_trace.specs.Traces.{AreChanges, Gains, TracesInput, TracesLi
 use crate::changes::put_changes;
 use crate::heads::{ActionHead, FrameHead, put_head, skipped_words};
 use crate::outputs::put_outputs;
-use crate::sentence::Sentence;
 use std::alloc::{AllocError, Global};
 use std::mem;
 use vt_can::{Frame, Line, LineFault};
 use vt_findings_text::Names;
 use vt_listen::{Broken, Listener};
+use vt_messages_text::Sentence;
 use vt_server::{Input, Output, Terminal};
 
 /// Writes the trace of a log, line by line.
@@ -64,7 +64,7 @@ impl<'a> Tracer<'a> {
         text: &mut Vec<u8>,
     ) -> Result<(), AllocError>
         ensures { OnOk result ((added : List ℕ) × (text.new.items ≡ text.old.items ++ added)
-            × TracesLine (state_of terminal.old) (reading_of reading.now) (state_of terminal.new) added) }
+            × TracesLine number (state_of terminal.old) (reading_of reading.now) (state_of terminal.new) added) }
     {
         match reading {
             Ok(line) => self.trace_read(number, line, terminal, text),
@@ -80,7 +80,7 @@ impl<'a> Tracer<'a> {
         terminal: &mut Terminal,
         text: &mut Vec<u8>,
     ) -> Result<(), AllocError>
-        ensures { OnOk result (Gains (TracesLine (state_of terminal.old) (Ok (parsed line.now)) (state_of terminal.new)) text.old.items text.new.items) }
+        ensures { OnOk result (Gains (TracesLine number (state_of terminal.old) (Ok (parsed line.now)) (state_of terminal.new)) text.old.items text.new.items) }
     {
         match line {
             Line::Frame { time, frame } => self.trace_frame(number, *time, frame, terminal, text),
@@ -107,7 +107,7 @@ impl<'a> Tracer<'a> {
         terminal: &mut Terminal,
         text: &mut Vec<u8>,
     ) -> Result<(), AllocError>
-        ensures { OnOk result (Gains (TracesLine (state_of terminal.old) (Ok (FrameAt time frame.now)) (state_of terminal.new)) text.old.items text.new.items) }
+        ensures { OnOk result (Gains (TracesLine number (state_of terminal.old) (Ok (FrameAt time frame.now)) (state_of terminal.new)) text.old.items text.new.items) }
     {
         self.broken.clear();
         let whole = self.listener.hear(frame, &mut self.broken)?;

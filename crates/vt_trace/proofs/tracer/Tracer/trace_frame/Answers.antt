@@ -6,6 +6,6 @@ use Rattle.vt_trace.proofs.tracer.Tracer.trace_frame.Goals as goal
 pub returns : goal.returns
 returns c =
     on_ok_weaker c.trace_input.result
-    (gains_frame_line (state_of c.args.terminal.now) (state_of c.trace_input.new.terminal) c.args.time c.args.frame.now c.in_ok-frame.frame
+    (gains_frame_line c.args.number (state_of c.args.terminal.now) (state_of c.trace_input.new.terminal) c.args.time c.args.frame.now c.in_ok-frame.frame
     c.args.text.now.items c.put_head.new.text.items c.trace_input.new.text.items c.in_ok-frame.ensures c.in_ok-put_head.ensures)
     c.trace_input.ensures

@@ -10,8 +10,8 @@ returns-in-Err c =
     let state = state_of c.args.terminal.now in
     let is : reading_of c.args.reading.now ≡ Err c.in-Err.fault = rw c.in-Err.is refl in
     on_ok_weaker c.put_head.result
-    (λ head. gained_by state state (reading_of c.args.reading.now) (Err c.in-Err.fault) c.args.text.now.items c.put_head.new.text.items is
-    (gains_faulty_line state c.in-Err.fault c.args.text.now.items c.put_head.new.text.items head))
+    (λ head. gained_by c.args.number state state (reading_of c.args.reading.now) (Err c.in-Err.fault) c.args.text.now.items c.put_head.new.text.items is
+    (gains_faulty_line c.args.number state c.in-Err.fault c.args.text.now.items c.put_head.new.text.items head))
     c.put_head.ensures
 
 pub returns-in-Ok : goal.returns-in-Ok
@@ -20,5 +20,5 @@ returns-in-Ok c =
     let to = state_of c.trace_read.new.terminal in
     let is : reading_of c.args.reading.now ≡ Ok (parsed c.in-Ok.line) = rw c.in-Ok.is refl in
     on_ok_weaker c.trace_read.result
-    (gained_by from to (reading_of c.args.reading.now) (Ok (parsed c.in-Ok.line)) c.args.text.now.items c.trace_read.new.text.items is)
+    (gained_by c.args.number from to (reading_of c.args.reading.now) (Ok (parsed c.in-Ok.line)) c.args.text.now.items c.trace_read.new.text.items is)
     c.trace_read.ensures

@@ -7,12 +7,12 @@ use Rattle.vt_trace.proofs.tracer.Tracer.trace_read.Goals as goal
 pub returns-in_ok-put_head-in-Operator : goal.returns-in_ok-put_head-in-Operator
 returns-in_ok-put_head-in-Operator c =
     rw c.in-Operator.is (on_ok_weaker c.trace_input.result
-    (gains_action_line (state_of c.args.terminal.now) (state_of c.trace_input.new.terminal) (action_value c.in-Operator.action)
+    (gains_action_line c.args.number (state_of c.args.terminal.now) (state_of c.trace_input.new.terminal) (action_value c.in-Operator.action)
     c.args.text.now.items c.put_head.new.text.items c.trace_input.new.text.items c.in_ok-put_head-in-Operator.ensures)
     c.trace_input.ensures)
 
 pub returns-in-Skipped : goal.returns-in-Skipped
 returns-in-Skipped c =
     rw c.in-Skipped.is (on_ok_weaker c.put_head-in-Skipped.result
-    (gains_skipped_line (state_of c.args.terminal.now) c.in-Skipped.skipped c.args.text.now.items c.put_head-in-Skipped.new.text.items)
+    (gains_skipped_line c.args.number (state_of c.args.terminal.now) c.in-Skipped.skipped c.args.text.now.items c.put_head-in-Skipped.new.text.items)
     c.put_head-in-Skipped.ensures)

@@ -1,12 +1,11 @@
 //! What terminals tell unasked, in words: the operator's actions and the status.
 
-use crate::functions::SELECT_INPUT;
 use crate::objects::{Objects, id_of};
-use crate::shown::{PlainMessage, QuotedText};
 use byteorder::{ByteOrder, LittleEndian};
 use std::fmt;
 use vt_can::assigned::{NULL_ADDRESS, VT_STATUS};
 use vt_commands::function::{BUTTON_ACTIVATION, NUMERIC_VALUE, SOFT_KEY_ACTIVATION, STRING_VALUE};
+use vt_frames_text::{PlainMessage, QuotedText, SELECT_INPUT};
 use vt_objects::ObjectId;
 use vt_server::Terminal;
 

@@ -9,9 +9,11 @@ use vt_can::assigned::{
 
 /// A claim of an address by a NAME, or of none.
 #[derive(Clone, Copy, Drop)]
-pub(crate) struct ClaimSentence<'a> {
-    pub(crate) source: u8,
-    pub(crate) bytes: &'a [u8],
+pub struct ClaimSentence<'a> {
+    /// The address that sends it.
+    pub source: u8,
+    /// The bytes of the NAME.
+    pub bytes: &'a [u8],
 }
 
 impl fmt::Display for ClaimSentence<'_> {
@@ -26,7 +28,7 @@ impl fmt::Display for ClaimSentence<'_> {
 
 /// A request for a parameter group.
 #[derive(Clone, Copy, Drop)]
-pub(crate) struct GroupRequest<'a>(pub(crate) &'a [u8]);
+pub struct GroupRequest<'a>(pub &'a [u8]);
 
 impl fmt::Display for GroupRequest<'_> {
     fn fmt<W: fmt::Write>(&self, f: &mut fmt::Formatter<W>) -> fmt::Result {
@@ -43,7 +45,7 @@ impl fmt::Display for GroupRequest<'_> {
 
 /// A Working Set Master message.
 #[derive(Clone, Copy, Drop)]
-pub(crate) struct MasterSentence<'a>(pub(crate) &'a [u8]);
+pub struct MasterSentence<'a>(pub &'a [u8]);
 
 impl fmt::Display for MasterSentence<'_> {
     fn fmt<W: fmt::Write>(&self, f: &mut fmt::Formatter<W>) -> fmt::Result {
@@ -59,7 +61,7 @@ impl fmt::Display for MasterSentence<'_> {
 
 /// A Working Set Member message.
 #[derive(Clone, Copy, Drop)]
-pub(crate) struct MemberSentence<'a>(pub(crate) &'a [u8]);
+pub struct MemberSentence<'a>(pub &'a [u8]);
 
 impl fmt::Display for MemberSentence<'_> {
     fn fmt<W: fmt::Write>(&self, f: &mut fmt::Formatter<W>) -> fmt::Result {
@@ -82,11 +84,11 @@ impl fmt::Display for NameText<'_> {
 
 /// A parameter group by its number in hex, as `parameter group FEF1`.
 #[derive(Clone, Copy, Drop)]
-pub(crate) struct ParameterGroup(pub(crate) u32);
+pub struct ParameterGroup(pub u32);
 
 impl ParameterGroup {
     /// The parameter group in the first three bytes of a slice; 0 if there are fewer.
-    pub(crate) fn in_bytes(bytes: &[u8]) -> ParameterGroup {
+    pub fn in_bytes(bytes: &[u8]) -> ParameterGroup {
         match bytes {
             [low, middle, high, ..] => {
                 ParameterGroup(u32::from_le_bytes([*low, *middle, *high, 0]))

@@ -7,7 +7,7 @@ use vt_kinds::Scale;
 
 /// Bytes in hex, two digits each, as `A0 64 00`, or `no bytes`.
 #[derive(Clone, Copy, Drop)]
-pub(crate) struct HexBytes<'a>(pub(crate) &'a [u8]);
+pub struct HexBytes<'a>(pub &'a [u8]);
 
 impl fmt::Display for HexBytes<'_> {
     fn fmt<W: fmt::Write>(&self, f: &mut fmt::Formatter<W>) -> fmt::Result {
@@ -24,7 +24,7 @@ impl fmt::Display for HexBytes<'_> {
 
 /// A text of the bus in quotation marks, with a dot for each byte that is no printable ASCII.
 #[derive(Clone, Copy, Drop)]
-pub(crate) struct QuotedText<'a>(pub(crate) &'a [u8]);
+pub struct QuotedText<'a>(pub &'a [u8]);
 
 impl fmt::Display for QuotedText<'_> {
     fn fmt<W: fmt::Write>(&self, f: &mut fmt::Formatter<W>) -> fmt::Result {
@@ -40,7 +40,7 @@ impl fmt::Display for QuotedText<'_> {
 
 /// The destination of a frame: an address in hex, or `all`.
 #[derive(Clone, Copy, Drop)]
-pub(crate) struct Destination(pub(crate) Option<u8>);
+pub struct Destination(pub Option<u8>);
 
 impl fmt::Display for Destination {
     fn fmt<W: fmt::Write>(&self, f: &mut fmt::Formatter<W>) -> fmt::Result {
@@ -53,7 +53,7 @@ impl fmt::Display for Destination {
 
 /// A message that has no words of its own: its function by name or by number, and its bytes.
 #[derive(Clone, Copy, Drop)]
-pub(crate) struct PlainMessage<'a>(pub(crate) &'a [u8]);
+pub struct PlainMessage<'a>(pub &'a [u8]);
 
 impl fmt::Display for PlainMessage<'_> {
     fn fmt<W: fmt::Write>(&self, f: &mut fmt::Formatter<W>) -> fmt::Result {
@@ -69,7 +69,7 @@ impl fmt::Display for PlainMessage<'_> {
 
 /// A number with its noun, which takes an s unless the number is 1.
 #[derive(Clone, Copy, Drop)]
-pub(crate) struct Count<'a>(pub(crate) u32, pub(crate) &'a str);
+pub struct Count<'a>(pub u32, pub &'a str);
 
 impl fmt::Display for Count<'_> {
     fn fmt<W: fmt::Write>(&self, f: &mut fmt::Formatter<W>) -> fmt::Result {
@@ -83,7 +83,7 @@ impl fmt::Display for Count<'_> {
 /// A scale by its four bytes, of which the first is the lowest of the number: the factor, as `0.1`, or the bytes where they are
 /// those of no scale, as `bytes 00 00 00 40`.
 #[derive(Clone, Copy, Drop)]
-pub(crate) struct ShownScale(pub(crate) u32);
+pub struct ShownScale(pub u32);
 
 impl fmt::Display for ShownScale {
     fn fmt<W: fmt::Write>(&self, f: &mut fmt::Formatter<W>) -> fmt::Result {

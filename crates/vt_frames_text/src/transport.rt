@@ -11,7 +11,7 @@ const TP_BAM: u8 = 0x20;
 
 /// A control message of the transport protocol (TP).
 #[derive(Clone, Copy, Drop)]
-pub(crate) struct TpControl<'a>(pub(crate) &'a [u8]);
+pub struct TpControl<'a>(pub &'a [u8]);
 
 impl fmt::Display for TpControl<'_> {
     fn fmt<W: fmt::Write>(&self, f: &mut fmt::Formatter<W>) -> fmt::Result {
@@ -56,7 +56,7 @@ impl fmt::Display for TpControl<'_> {
 
 /// A control message of the extended transport protocol (ETP).
 #[derive(Clone, Copy, Drop)]
-pub(crate) struct EtpControl<'a>(pub(crate) &'a [u8]);
+pub struct EtpControl<'a>(pub &'a [u8]);
 
 impl fmt::Display for EtpControl<'_> {
     fn fmt<W: fmt::Write>(&self, f: &mut fmt::Formatter<W>) -> fmt::Result {
@@ -98,9 +98,11 @@ impl fmt::Display for EtpControl<'_> {
 
 /// A packet of a transport protocol, by the protocol's short name and the packet's number.
 #[derive(Clone, Copy, Drop)]
-pub(crate) struct Packet<'a> {
-    pub(crate) protocol: &'a str,
-    pub(crate) bytes: &'a [u8],
+pub struct Packet<'a> {
+    /// The short name of the protocol.
+    pub protocol: &'a str,
+    /// The bytes of the frame.
+    pub bytes: &'a [u8],
 }
 
 impl fmt::Display for Packet<'_> {

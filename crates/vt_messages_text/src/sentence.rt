@@ -1,13 +1,8 @@
 //! What a frame says.
 
-use crate::addresses::{
-    ClaimSentence, GroupRequest, MasterSentence, MemberSentence, ParameterGroup,
-};
 use crate::objects::Objects;
 use crate::replies::ReplySentence;
 use crate::requests::RequestSentence;
-use crate::shown::HexBytes;
-use crate::transport::{EtpControl, Packet, TpControl};
 use std::fmt;
 use vt_can::Frame;
 use vt_can::assigned::{
@@ -15,6 +10,10 @@ use vt_can::assigned::{
     WORKING_SET_MASTER, WORKING_SET_MEMBER,
 };
 use vt_findings_text::Names;
+use vt_frames_text::{
+    ClaimSentence, EtpControl, GroupRequest, HexBytes, MasterSentence, MemberSentence, Packet,
+    ParameterGroup, TpControl,
+};
 use vt_server::Terminal;
 
 /// What a frame says. `Display` writes it on one line, as ``Hide/Show Object: Container 100 `boom`, hide``, unless a name has a
@@ -63,14 +62,19 @@ impl fmt::Display for Sentence<'_> {
 
 /// What a message says, which is a frame's or was put together from packets.
 #[derive(Clone, Copy, Drop)]
-pub(crate) struct MessageSentence<'a> {
+pub struct MessageSentence<'a> {
     /// The parameter group.
-    pub(crate) group: u32,
-    pub(crate) source: u8,
-    pub(crate) destination: Option<u8>,
-    pub(crate) bytes: &'a [u8],
-    pub(crate) terminal: &'a Terminal,
-    pub(crate) names: &'a Names,
+    pub group: u32,
+    /// The address that sent it.
+    pub source: u8,
+    /// The address that it is sent to; `None` for a group that is sent to all.
+    pub destination: Option<u8>,
+    /// The bytes.
+    pub bytes: &'a [u8],
+    /// The terminal, which has the objects.
+    pub terminal: &'a Terminal,
+    /// The names of objects.
+    pub names: &'a Names,
 }
 
 impl fmt::Display for MessageSentence<'_> {

@@ -1,17 +1,17 @@
 //! The messages of implements in words.
 
 use crate::commands::CommandSentence;
-use crate::functions::{
-    DELETE_VERSION, GET_VERSIONS, LOAD_VERSION, MAINTENANCE, STORE_VERSION, function_name,
-};
 use crate::objects::Objects;
-use crate::shown::{Count, HexBytes, PlainMessage, QuotedText};
 use byteorder::{ByteOrder, LittleEndian};
 use std::fmt;
 use vt_can::assigned::{END_OF_POOL, GET_FONTS, GET_HARDWARE, GET_MEMORY, GET_SOFT_KEYS, TRANSFER};
 use vt_commands::Command;
 use vt_commands::function::{
     BUTTON_ACTIVATION, EXECUTE_MACRO, HIDE_SHOW, NUMERIC_VALUE, SOFT_KEY_ACTIVATION, STRING_VALUE,
+};
+use vt_frames_text::{
+    Count, DELETE_VERSION, GET_VERSIONS, HexBytes, LOAD_VERSION, MAINTENANCE, PlainMessage,
+    QuotedText, STORE_VERSION, function_name,
 };
 
 /// A message of an implement to a terminal.

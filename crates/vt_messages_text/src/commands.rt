@@ -1,11 +1,10 @@
 //! The commands of implements in words.
 
 use crate::attributes::field_name;
-use crate::functions::function_name;
 use crate::objects::Objects;
-use crate::shown::{QuotedText, ShownScale};
 use std::fmt;
 use vt_commands::{Command, attribute};
+use vt_frames_text::{QuotedText, ShownScale, function_name};
 use vt_kinds::{Kind, ObjectId, ValueType};
 
 /// What is taken off the steps of Change Child Location: the byte 127 is no step.

@@ -3,8 +3,9 @@
 ghost use Rattle.std.specs.Prelude.{◌≡◌, ℕ, Some};
 ghost use Rattle.vt_commands.specs.declared.command.Command.{Command};
 ghost use Rattle.vt_server.specs.message.CommandReplies.{command_reply};
-ghost use Rattle.vt_trace.specs.Replies.{error_in, error_place};
+ghost use Rattle.vt_frames_text.specs.Replies.{error_in, error_place};
 
+use crate::pool_requests::{DELETE_VERSION, GET_VERSIONS, LOAD_VERSION, STORE_VERSION};
 use vt_can::assigned::{
     END_OF_POOL, GET_FONTS, GET_HARDWARE, GET_MEMORY, GET_SOFT_KEYS, TRANSFER, VT_STATUS,
 };
@@ -17,23 +18,11 @@ use vt_commands::function::{
     SOFT_KEY_ACTIVATION, STRING_VALUE,
 };
 
-/// Select Input Object, of the terminal: the operator has selected an input, or left it.
-pub(crate) const SELECT_INPUT: u8 = 0x03;
-
-/// Get Versions: which pools the terminal has stored.
-pub(crate) const GET_VERSIONS: u8 = 0xDF;
-
-/// Store Version: the pool is to be stored under a label.
-pub(crate) const STORE_VERSION: u8 = 0xD0;
-
-/// Load Version: the pool of a label is to be loaded.
-pub(crate) const LOAD_VERSION: u8 = 0xD1;
-
-/// Delete Version: the pool of a label is to be deleted.
-pub(crate) const DELETE_VERSION: u8 = 0xD2;
+/// VT Select Input Object: the operator has selected an input, or left it.
+pub const SELECT_INPUT: u8 = 0x03;
 
 /// Working Set Maintenance.
-pub(crate) const MAINTENANCE: u8 = 0xFF;
+pub const MAINTENANCE: u8 = 0xFF;
 
 /// The name of a function of a message to or from a terminal, as `Hide/Show Object`, or `None` if it has none here.
 pub fn function_name(function: u8) -> Option<&'static str> {

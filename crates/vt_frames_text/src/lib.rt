@@ -1,0 +1,22 @@
+//! What frames of a bus say in words, as far as no object is named: functions, claims, transport control, bytes and texts.
+//!
+//! - `function_name` and `error_of` read the function and the error byte of a message. A `PoolRequest` is what an implement wants of its
+//!   pools, other than uploads.
+//! - `TpControl`, `EtpControl` and `Packet` are the frames of the transport protocols; `ClaimSentence`, `GroupRequest`,
+//!   `MasterSentence` and `MemberSentence` those of addresses and working sets. Each is written by its `Display`.
+//! - `HexBytes`, `QuotedText`, `Destination`, `Count`, `ShownScale` and `PlainMessage` are their parts.
+//!
+//! docs/PROFILE.md, "Commands" and "Other messages", has the messages.
+#![tactic(auto)]
+
+mod addresses;
+mod functions;
+mod pool_requests;
+mod shown;
+mod transport;
+
+pub use addresses::{ClaimSentence, GroupRequest, MasterSentence, MemberSentence, ParameterGroup};
+pub use functions::{MAINTENANCE, SELECT_INPUT, error_of, function_name};
+pub use pool_requests::{DELETE_VERSION, GET_VERSIONS, LOAD_VERSION, PoolRequest, STORE_VERSION};
+pub use shown::{Count, Destination, HexBytes, PlainMessage, QuotedText, ShownScale};
+pub use transport::{EtpControl, Packet, TpControl};

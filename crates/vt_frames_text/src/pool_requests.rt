@@ -1,0 +1,58 @@
+//! What implements want of their pools, other than uploads.
+
+use crate::shown::QuotedText;
+use std::fmt;
+use vt_commands::function::DELETE_POOL;
+
+/// Get Versions: which pools the terminal has stored.
+pub const GET_VERSIONS: u8 = 0xDF;
+
+/// Store Version: the pool is to be stored under a label.
+pub const STORE_VERSION: u8 = 0xD0;
+
+/// Load Version: the pool of a label is to be loaded.
+pub const LOAD_VERSION: u8 = 0xD1;
+
+/// Delete Version: the pool of a label is to be deleted.
+pub const DELETE_VERSION: u8 = 0xD2;
+
+/// What an implement wants of its pools. A label has seven characters.
+#[derive(Clone, Copy, Drop)]
+pub enum PoolRequest<'a> {
+    /// The pool of the working set is to be deleted.
+    DeletePool,
+    /// The labels of stored pools are wanted.
+    GetVersions,
+    /// The pool is to be stored under a label.
+    Store(&'a [u8]),
+    /// The stored pool of a label is to be loaded.
+    Load(&'a [u8]),
+    /// The stored pool of a label is to be deleted.
+    Delete(&'a [u8]),
+}
+
+impl<'a> PoolRequest<'a> {
+    /// What a message wants, if it is such a request.
+    pub fn in_message(bytes: &'a [u8]) -> Option<PoolRequest<'a>> {
+        match bytes {
+            [DELETE_POOL, ..] => Some(PoolRequest::DeletePool),
+            [GET_VERSIONS, ..] => Some(PoolRequest::GetVersions),
+            [STORE_VERSION, label @ ..] => Some(PoolRequest::Store(label)),
+            [LOAD_VERSION, label @ ..] => Some(PoolRequest::Load(label)),
+            [DELETE_VERSION, label @ ..] => Some(PoolRequest::Delete(label)),
+            _ => None,
+        }
+    }
+}
+
+impl fmt::Display for PoolRequest<'_> {
+    fn fmt<W: fmt::Write>(&self, f: &mut fmt::Formatter<W>) -> fmt::Result {
+        match self {
+            PoolRequest::DeletePool => f.write_str("deletes its pool"),
+            PoolRequest::GetVersions => f.write_str("asks for stored versions"),
+            PoolRequest::Store(label) => write!(f, "stores version {}", QuotedText(label)),
+            PoolRequest::Load(label) => write!(f, "loads version {}", QuotedText(label)),
+            PoolRequest::Delete(label) => write!(f, "deletes version {}", QuotedText(label)),
+        }
+    }
+}
