@@ -1,0 +1,74 @@
+//! A line of JSON.
+
+ghost use Rattle.std.specs.Prelude.{◌≡◌, [], OnErr, OnOk};
+ghost use Rattle.serde_json.specs.Data.{number, unsigned, put as with_member};
+ghost use Rattle.serde_json.specs.View.{members_view, view};
+
+use serde_json::{Map, Value};
+use std::alloc::{AllocError, Global};
+use std::fmt;
+use std::io::{self, Write};
+
+/// An object of JSON that is built member by member. Its members are written by rising names.
+#[derive(Drop)]
+pub struct JsonLine {
+    alloc: Global,
+    members: Map<String, Value>,
+}
+
+impl JsonLine {
+    /// An object without members. Does not allocate.
+    pub fn new(alloc: Global) -> JsonLine
+        ensures { result.members.entries ≡ [] }
+    {
+        JsonLine {
+            alloc,
+            members: Map::new(alloc),
+        }
+    }
+
+    /// Adds a member, in the place of one with this name. After `OutOfMemory` the object is unchanged.
+    pub fn put(&mut self, name: &str, value: Value) -> Result<(), AllocError>
+        ensures ok { OnOk result (members_view self.new.members.entries ≡ with_member name.now (view value) (members_view self.old.members.entries)) }
+        ensures err { OnErr result (self.new.members.entries ≡ self.old.members.entries) }
+    {
+        serde_json::put(&mut self.members, self.alloc, name, value)
+    }
+
+    /// Adds a member with a text. After `OutOfMemory` the object is unchanged.
+    pub fn put_text<T: fmt::Display + Drop>(
+        &mut self,
+        name: &str,
+        text: T,
+    ) -> Result<(), AllocError>
+        ensures { OnErr result (self.new.members.entries ≡ self.old.members.entries) }
+    {
+        let text = format!(in self.alloc; "{text}")?;
+        self.put(name, Value::String(text))
+    }
+
+    /// Adds a member with a number. After `OutOfMemory` the object is unchanged.
+    pub fn put_number(&mut self, name: &str, value: u64) -> Result<(), AllocError>
+        ensures ok { OnOk result (members_view self.new.members.entries ≡ with_member name.now (number (unsigned value)) (members_view self.old.members.entries)) }
+    {
+        self.put(name, Value::from(value))
+    }
+
+    /// Adds a member with an address in two hex digits. After `OutOfMemory` the object is unchanged.
+    pub fn put_address(&mut self, name: &str, address: u8) -> Result<(), AllocError>
+        ensures { OnErr result (self.new.members.entries ≡ self.old.members.entries) }
+    {
+        self.put_text(name, format_args!("{address:02X}"))
+    }
+
+    /// The object as a value.
+    pub fn into_value(self) -> Value {
+        Value::Object(self.members)
+    }
+
+    /// Writes the object as a line.
+    pub fn write<W: Write>(self, out: &mut W) -> io::Result<()> {
+        let alloc = self.alloc;
+        writeln!(out, "{}", self.into_value().to_string(alloc)?)
+    }
+}
