@@ -15,16 +15,6 @@ pub struct Tally {
     pub not_compared: u64,
 }
 
-impl Tally {
-    /// How many pairs of messages, and messages alone, were compared.
-    pub fn compared(&self) -> u64 {
-        self.same
-            .saturating_add(self.differ)
-            .saturating_add(self.ours_alone)
-            .saturating_add(self.theirs_alone)
-    }
-}
-
 /// Counts one more, up to the highest number.
 pub(crate) fn count(number: &mut u64) {
     *number = number.saturating_add(1);

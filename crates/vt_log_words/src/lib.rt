@@ -9,6 +9,6 @@ mod words;
 
 pub use options::{
     CompareOptions, DrawOptions, Format, OperatorOptions, Options, PoolsOptions, ReplayOptions,
-    StartSet, TerminalOptions, TestOptions,
+    StartSet, StatsOptions, TerminalOptions, TestOptions,
 };
 pub use refusal::UsageError;

@@ -21,7 +21,7 @@ pub enum Options<'a> {
     /// `draw`.
     Draw(DrawOptions<'a>),
     /// `stats`.
-    Stats(ReplayOptions<'a>),
+    Stats(StatsOptions<'a>),
     /// `test`.
     Test(TestOptions<'a>),
 }
@@ -61,7 +61,7 @@ pub struct OperatorOptions<'a> {
     pub own: u8,
 }
 
-/// A log that a terminal replays: the options of `trace` and `stats`, and a part of those of `compare` and `draw`.
+/// A log that a terminal replays: the options of `trace`, and a part of those of `compare`, `draw` and `stats`.
 #[derive(Drop)]
 pub struct ReplayOptions<'a> {
     /// The file of the log.
@@ -92,6 +92,15 @@ pub struct DrawOptions<'a> {
     pub replay: ReplayOptions<'a>,
     /// The folder for the pictures.
     pub folder: &'a str,
+}
+
+/// The options of `stats`.
+#[derive(Drop)]
+pub struct StatsOptions<'a> {
+    /// The log, and the terminal that replays it.
+    pub replay: ReplayOptions<'a>,
+    /// The form of the output.
+    pub format: Format,
 }
 
 /// The options of `test`.
@@ -143,7 +152,7 @@ impl<'a> Options<'a> {
             Some(("trace", matches)) => Options::Trace(replay_options(alloc, matches)?),
             Some(("compare", matches)) => Options::Compare(compare_options(alloc, matches)?),
             Some(("draw", matches)) => Options::Draw(draw_options(alloc, matches)?),
-            Some(("stats", matches)) => Options::Stats(replay_options(alloc, matches)?),
+            Some(("stats", matches)) => Options::Stats(stats_options(alloc, matches)?),
             Some(("test", matches)) => Options::Test(test_options(alloc, matches)?),
             Some((_, matches)) => Options::Pools(pools_options(alloc, matches)?),
             // clap refuses these words; its contract does not say so.
@@ -163,9 +172,10 @@ impl<'a> Options<'a> {
                 inputs_among(&[options.log]).saturating_add(names)
             }
             Options::Operator(options) => inputs_among(&[options.log]),
-            Options::Trace(options) | Options::Stats(options) => options.inputs(),
+            Options::Trace(options) => options.inputs(),
             Options::Compare(options) => options.replay.inputs(),
             Options::Draw(options) => options.replay.inputs(),
+            Options::Stats(options) => options.replay.inputs(),
             Options::Test(options) => {
                 inputs_among(options.logs.as_slice()).saturating_add(options.terminal.inputs())
             }
@@ -249,6 +259,17 @@ fn draw_options<'a>(
         replay,
         // clap demands it; its contract does not say so.
         folder: matches.get_str("out").unwrap_or("."),
+    })
+}
+
+fn stats_options<'a>(
+    alloc: Global,
+    matches: &ArgMatches<'a>,
+) -> Result<StatsOptions<'a>, UsageError<'a>> {
+    let replay = replay_options(alloc, matches)?;
+    Ok(StatsOptions {
+        replay,
+        format: format_of(matches),
     })
 }
 

@@ -127,7 +127,7 @@ fn is_drawn(kind: Kind) -> bool {
     }
 }
 
-/// What was reached of a working set, which its `Display` writes with the names of masks: a line for the commands, and below it one each for
+/// What was reached of a working set, which its `Display` writes with the names of objects: a line for the commands, and below it one each for
 /// masks, objects and macros.
 #[derive(Clone, Copy, Drop)]
 pub struct ReachText<'a> {
@@ -172,15 +172,15 @@ impl ReachText<'_> {
         let drawn = self.set.objects_drawn.len();
         let all = drawn.saturating_add(self.set.objects_never.len());
         write!(f, "  objects drawn: {drawn} of {all}")?;
-        write_never(self.set.objects_never.as_slice(), f)?;
+        self.write_never(self.set.objects_never.as_slice(), f)?;
         writeln!(f)
     }
 
     /// Writes the line of the macros.
     fn write_macros<W: fmt::Write>(&self, f: &mut fmt::Formatter<W>) -> fmt::Result {
         write!(f, "  macros reached:")?;
-        write_ids(self.set.macros_reached.as_slice(), f)?;
-        write_never(self.set.macros_never.as_slice(), f)?;
+        self.write_ids(self.set.macros_reached.as_slice(), f)?;
+        self.write_never(self.set.macros_never.as_slice(), f)?;
         writeln!(f)
     }
 
@@ -206,24 +206,35 @@ impl ReachText<'_> {
         }
         Ok(())
     }
-}
 
-/// Writes what was never reached, if there is anything.
-fn write_never<W: fmt::Write>(objects: &[PoolObject], f: &mut fmt::Formatter<W>) -> fmt::Result {
-    if objects.is_empty() {
-        return Ok(());
+    /// Writes what was never reached, if there is anything.
+    fn write_never<W: fmt::Write>(
+        &self,
+        objects: &[PoolObject],
+        f: &mut fmt::Formatter<W>,
+    ) -> fmt::Result {
+        if objects.is_empty() {
+            return Ok(());
+        }
+        write!(f, "; never:")?;
+        self.write_ids(objects, f)
     }
-    write!(f, "; never:")?;
-    write_ids(objects, f)
-}
 
-/// Writes the IDs of objects, each behind a space, or ` none`.
-fn write_ids<W: fmt::Write>(objects: &[PoolObject], f: &mut fmt::Formatter<W>) -> fmt::Result {
-    if objects.is_empty() {
-        return write!(f, " none");
+    /// Writes the IDs of objects with their names, each behind a space, or ` none`.
+    fn write_ids<W: fmt::Write>(
+        &self,
+        objects: &[PoolObject],
+        f: &mut fmt::Formatter<W>,
+    ) -> fmt::Result {
+        if objects.is_empty() {
+            return write!(f, " none");
+        }
+        for object in objects {
+            write!(f, " {}", object.id.raw())?;
+            if let Some(name) = self.names.get(object.id) {
+                write!(f, " `{name}`")?;
+            }
+        }
+        Ok(())
     }
-    for object in objects {
-        write!(f, " {}", object.id.raw())?;
-    }
-    Ok(())
 }

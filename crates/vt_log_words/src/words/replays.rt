@@ -25,13 +25,13 @@ Status: 0 all answers are the same, 1 some are not, 2 not judged.";
 
 /// The text of help after the options of `draw`.
 const AFTER_DRAW: &str = "\
-A picture for each line of the log at which the text of the screen changed, as FOLDER/line-17.svg, and one of the first screen, if it shows a mask,
-as FOLDER/line-0.svg. Each is named on the standard output.";
+A picture for each line of the log at which the text of the screen changed, as FOLDER/line-17.svg, and one of the first screen, if it
+shows a mask, as FOLDER/line-0.svg. Each is named on the standard output.";
 
 /// The text of help after the options of `stats`.
 const AFTER_STATS: &str = "\
-Frames, bytes and load by source, transfers, packets that came again, and frames that were seen twice; then, for each working set with a pool, its commands, and which
-of its masks, objects and macros the log reached.";
+Frames, bytes and load by source, transfers, packets that came again, and frames that were seen twice; then, for each working set
+with a pool, its commands, and which of its masks, objects and macros the log reached. With --format json each is a line of JSON.";
 
 pub(crate) fn trace<'a>(alloc: Global) -> Result<Command<'a>, AllocError> {
     terminal(
@@ -83,7 +83,8 @@ pub(crate) fn stats<'a>(alloc: Global) -> Result<Command<'a>, AllocError> {
         Command::new(alloc, "stats")
             .about("Prints what a log holds in numbers, and what it reached of each pool")
             .after_help(AFTER_STATS)
-            .arg(names(alloc))?,
+            .arg(names(alloc))?
+            .arg(format(alloc))?,
     )
 }
 
