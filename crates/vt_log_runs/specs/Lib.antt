@@ -1,3 +1,2 @@
 -- The definitions used in the contracts of vt_log_runs.
-pub mod Statuses
 pub mod Pictures

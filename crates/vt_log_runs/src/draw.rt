@@ -1,19 +1,18 @@
 //! The subcommand `draw`.
 
 use crate::picture::picture_shown;
-use crate::replay::{Replay, input_of};
-use crate::status::Status;
 use std::alloc::Global;
 use std::io::{self, Write};
 use std::mem;
 use vt_files::{Open, Save, make_folder, save_file};
+use vt_log_replay::{Messages, Replay, Status, input_of};
 use vt_log_words::DrawOptions;
 use vt_needs::TERMINAL_SIZES;
 use vt_recorded::Reader;
 use vt_server::{Output, Terminal};
 
 /// Draws the screen of each line of a log at which its text changed.
-pub fn run_draw<F: Open + Save, W: Write, E: Write>(
+pub fn run_draw<F: Open + Save, W: Write, E: Messages>(
     alloc: Global,
     options: &DrawOptions<'_>,
     files: &mut F,
@@ -40,9 +39,9 @@ pub fn run_draw<F: Open + Save, W: Write, E: Write>(
         outputs: Vec::new(alloc),
     };
     let mut status = gallery.look(0, files, out, errors)?;
-    let mut number = 0u64;
+    let mut counter = replay.counter();
     for line in replay.text().split(|byte| *byte == b'\n') {
-        number = number.saturating_add(1);
+        let number = counter.next_line(errors);
         if gallery.take_line(&replay, line)? {
             let found = gallery.look(number, files, out, errors)?;
             status = status.and(found);

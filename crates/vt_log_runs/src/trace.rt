@@ -1,16 +1,15 @@
 //! The subcommand `trace`.
 
-use crate::replay::Replay;
-use crate::status::Status;
 use std::alloc::Global;
 use std::io::{self, Write};
 use vt_files::Open;
+use vt_log_replay::{Messages, Replay, Status};
 use vt_log_words::ReplayOptions;
 use vt_recorded::Reader;
 use vt_trace::Tracer;
 
 /// Prints each line of a log in words, with the answers of the terminal and the changes of its screen.
-pub fn run_trace<F: Open, W: Write, E: Write>(
+pub fn run_trace<F: Open, W: Write, E: Messages>(
     alloc: Global,
     options: &ReplayOptions<'_>,
     files: &mut F,
@@ -24,13 +23,16 @@ pub fn run_trace<F: Open, W: Write, E: Write>(
     let mut tracer = Tracer::new(alloc, &replay.names, &terminal)?;
     let mut reader = Reader::new(alloc);
     let mut text = Vec::new(alloc);
-    let mut number = 0u64;
+    let mut counter = replay.counter();
     for line in replay.text().split(|byte| *byte == b'\n') {
-        number = number.saturating_add(1);
+        let number = counter.next_line(errors);
         text.clear();
         let reading = replay.read_line(&mut reader, line)?;
         tracer.trace_line(number, &reading, &mut terminal, &mut text)?;
         out.write_all(&text)?;
+    }
+    if !replay.tell_lines(files, errors) {
+        return Ok(Status::NotJudged);
     }
     replay.tell_loss(&terminal, files, errors);
     Ok(Status::Clean)

@@ -1,26 +1,27 @@
 //! The subcommand `stats`.
 
-use crate::replay::{Replay, input_of};
-use crate::status::Status;
+use crate::fields::Fields;
 use std::alloc::Global;
 use std::io::{self, Write};
 use vt_can::Line;
 use vt_files::Open;
-use vt_log_words::ReplayOptions;
+use vt_findings_text::Names;
+use vt_log_replay::{Messages, Replay, Status, input_of};
+use vt_log_words::{Format, StatsOptions};
 use vt_reach::{Reach, ReachText};
 use vt_recorded::Reader;
 use vt_server::{Output, Terminal};
 use vt_traffic::Traffic;
 
 /// Prints what a log holds in numbers, and what it reached of each pool.
-pub fn run_stats<F: Open, W: Write, E: Write>(
+pub fn run_stats<F: Open, W: Write, E: Messages>(
     alloc: Global,
-    options: &ReplayOptions<'_>,
+    options: &StatsOptions<'_>,
     files: &mut F,
     out: &mut W,
     errors: &mut E,
 ) -> io::Result<Status> {
-    let Some(replay) = Replay::read(alloc, options, files, errors)? else {
+    let Some(replay) = Replay::read(alloc, &options.replay, files, errors)? else {
         return Ok(Status::NotJudged);
     };
     if !replay.tell_lines(files, errors) {
@@ -33,16 +34,12 @@ pub fn run_stats<F: Open, W: Write, E: Write>(
         reader: Reader::new(alloc),
         outputs: Vec::new(alloc),
     };
-    let mut number = 0u64;
+    let mut counter = replay.counter();
     for line in replay.text().split(|byte| *byte == b'\n') {
-        number = number.saturating_add(1);
+        let number = counter.next_line(errors);
         run.take_line(&replay, number, line)?;
     }
-    write!(out, "{}", run.traffic.report()?)?;
-    let names = &replay.names;
-    for set in run.reach.sets()?.iter() {
-        write!(out, "{}", ReachText { set, names })?;
-    }
+    run.put(&replay.names, options.format, alloc, out)?;
     replay.tell_loss(&run.terminal, files, errors);
     Ok(Status::Clean)
 }
@@ -71,6 +68,34 @@ impl Run {
         self.outputs.clear();
         self.terminal.step(&input, &mut self.outputs)?;
         self.reach.after(&self.outputs, &self.terminal)?;
+        Ok(())
+    }
+
+    /// Writes what the log holds.
+    fn put<W: Write>(
+        &self,
+        names: &Names,
+        format: Format,
+        alloc: Global,
+        out: &mut W,
+    ) -> io::Result<()> {
+        let report = self.traffic.report()?;
+        let sets = self.reach.sets()?;
+        match format {
+            Format::Text => {
+                write!(out, "{report}")?;
+                for set in sets.iter() {
+                    write!(out, "{}", ReachText { set, names })?;
+                }
+            }
+            Format::Json => {
+                let fields = Fields { alloc, names };
+                fields.put_report(&report, out)?;
+                for set in sets.iter() {
+                    fields.put_set(set, out)?;
+                }
+            }
+        }
         Ok(())
     }
 }

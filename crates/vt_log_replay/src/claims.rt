@@ -1,11 +1,11 @@
 //! What a log tells of the recorded terminal before it is replayed.
 
-use crate::lines::is_of_interface;
-use crate::requests::Request;
+use crate::lines::{interface_in, is_of_interface};
 use byteorder::{ByteOrder, LittleEndian};
 use std::alloc::{AllocError, Global};
-use vt_can::assigned::{ADDRESS_CLAIMED, ECU_TO_VT, GLOBAL_ADDRESS};
+use vt_can::assigned::{ADDRESS_CLAIMED, ECU_TO_VT, GLOBAL_ADDRESS, VT_TO_ECU};
 use vt_can::{Frame, Line};
+use vt_frames_text::PoolRequest;
 use vt_names::Name;
 use vt_recorded::Reader;
 
@@ -14,29 +14,33 @@ const VIRTUAL_TERMINAL: u8 = 29;
 
 /// A node that wants a stored pool to be loaded.
 #[derive(Clone, Copy, Debug, PartialEq, Eq)]
-pub(crate) struct Load {
+pub struct Load {
     /// The first line at which it wants one.
-    pub(crate) line: u64,
+    pub line: u64,
     /// The address of the node.
-    pub(crate) source: u8,
+    pub source: u8,
 }
 
 /// What a log tells of the recorded terminal.
 #[derive(Drop)]
-pub(crate) struct Recorded {
+pub struct Recorded {
     /// The least NAME of a virtual terminal that claims the address, or else of any node that does.
-    pub(crate) name: Option<u64>,
+    pub name: Option<u64>,
     /// The nodes that want a stored pool, in the order of their first lines.
-    pub(crate) loads: Vec<Load>,
+    pub loads: Vec<Load>,
     /// The number of frames.
-    pub(crate) frames: u64,
+    pub frames: u64,
     /// The number of lines with a fault.
-    pub(crate) faults: u64,
+    pub faults: u64,
+    /// Whether a frame of the terminal to an implement is in the log.
+    pub has_messages: bool,
+    /// Whether frames of several interfaces are taken.
+    pub has_interfaces: bool,
 }
 
 impl Recorded {
     /// What the lines of a log tell of the terminal at an address.
-    pub(crate) fn in_log(
+    pub fn in_log(
         alloc: Global,
         log: &[u8],
         interface: Option<&str>,
@@ -47,7 +51,10 @@ impl Recorded {
             loads: Vec::new(alloc),
             frames: 0,
             faults: 0,
+            has_messages: false,
+            has_interfaces: false,
         };
+        let mut first = None;
         let mut reader = Reader::new(alloc);
         let mut number = 0u64;
         for line in log.split(|byte| *byte == b'\n') {
@@ -56,7 +63,11 @@ impl Recorded {
                 continue;
             }
             match reader.read(line)? {
-                Ok(Line::Frame { frame, .. }) => recorded.note(number, &frame, own)?,
+                Ok(Line::Frame { frame, .. }) => {
+                    let name = interface_in(line);
+                    recorded.has_interfaces |= name != *first.get_or_insert(name);
+                    recorded.note(number, &frame, own)?;
+                }
                 Ok(_) => {}
                 Err(_) => recorded.faults = recorded.faults.saturating_add(1),
             }
@@ -76,6 +87,10 @@ impl Recorded {
                 Ok(())
             }
             ECU_TO_VT if destination == Some(own) => self.note_message(line, source, bytes),
+            VT_TO_ECU if source == own => {
+                self.has_messages = true;
+                Ok(())
+            }
             _ => Ok(()),
         }
     }
@@ -98,7 +113,7 @@ impl Recorded {
 
     /// Notes a message to the terminal that wants a stored pool.
     fn note_message(&mut self, line: u64, source: u8, message: &[u8]) -> Result<(), AllocError> {
-        if let Some(Request::Load(_)) = Request::in_message(message) {
+        if let Some(PoolRequest::Load(_)) = PoolRequest::in_message(message) {
             if !self.loads.iter().any(|load| load.source == source) {
                 self.loads.push(Load { line, source })?;
             }

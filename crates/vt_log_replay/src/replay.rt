@@ -1,7 +1,7 @@
 //! A log with all that its replay needs.
 
 use crate::claims::Recorded;
-use crate::lines::{is_of_interface, text_of};
+use crate::lines::{LineCounter, is_of_interface, text_of};
 use crate::start::{LoadedSet, new_terminal, read_set};
 use std::alloc::Global;
 use std::io::{self, Write};
@@ -14,7 +14,7 @@ use vt_server::{Input, Terminal};
 
 /// A log with all that its replay needs.
 #[derive(Drop)]
-pub(crate) struct Replay<'a> {
+pub struct Replay<'a> {
     alloc: Global,
     path: &'a str,
     log: Vec<u8>,
@@ -22,14 +22,14 @@ pub(crate) struct Replay<'a> {
     options: TerminalOptions<'a>,
     set: Option<LoadedSet>,
     /// The names of objects.
-    pub(crate) names: Names,
+    pub names: Names,
     /// What the log tells of the recorded terminal.
-    pub(crate) recorded: Recorded,
+    pub recorded: Recorded,
 }
 
 impl<'a> Replay<'a> {
     /// Reads the files of a replay. `None` if one cannot be read or is refused, which `errors` says.
-    pub(crate) fn read<F: Open, E: Write>(
+    pub fn read<F: Open, E: Write>(
         alloc: Global,
         options: &ReplayOptions<'a>,
         files: &mut F,
@@ -59,44 +59,51 @@ impl<'a> Replay<'a> {
     }
 
     /// The terminal before the first line. Its NAME is that of the recorded terminal, unless another is given.
-    pub(crate) fn terminal(&self) -> io::Result<Terminal> {
+    pub fn terminal(&self) -> io::Result<Terminal> {
         let set = self.set.as_ref();
         new_terminal(self.alloc, self.options, self.recorded.name, set)
     }
 
     /// Whether a node has a pool from the start.
-    pub(crate) fn has_pool_of(&self, source: u8) -> bool {
+    pub fn has_pool_of(&self, source: u8) -> bool {
         self.set.as_ref().is_some_and(|set| set.owner == source)
     }
 
-    /// Says on `errors` that lines are faulty, if some are, and returns whether there is a frame to replay. If there is none, `errors` says so.
-    pub(crate) fn tell_lines<F: Open, E: Write>(&self, files: &F, errors: &mut E) -> bool {
-        let Recorded { frames, faults, .. } = self.recorded;
-        let program = files.name();
-        let path = self.path;
-        if frames == 0 {
-            let _ = writeln!(
-                errors,
-                "{program}: {path}: no frame could be read; a log is wanted, as candump -L writes it, and --interface names one of its interfaces"
-            );
+    /// Returns whether there is a frame to replay. If there is none, `errors` says so.
+    pub fn has_frames<F: Open, E: Write>(&self, files: &F, errors: &mut E) -> bool {
+        let has_frames = self.recorded.frames > 0;
+        if !has_frames {
+            tell_no_frame(self.path, files, errors);
+        }
+        has_frames
+    }
+
+    /// Says on `errors` that lines are faulty, if some are, and that there are several interfaces, if there are. Returns whether there is a
+    /// frame to replay. If there is none, `errors` says so.
+    pub fn tell_lines<F: Open, E: Write>(&self, files: &F, errors: &mut E) -> bool {
+        if !self.has_frames(files, errors) {
             return false;
         }
+        let faults = self.recorded.faults;
+        let program = files.name();
+        let path = self.path;
         if faults > 0 {
             let _ = writeln!(
                 errors,
                 "{program}: {path}: {faults} of its lines are faulty; trace shows each with its fault"
             );
         }
+        if self.recorded.has_interfaces {
+            let _ = writeln!(
+                errors,
+                "{program}: {path}: frames of several interfaces are taken as those of one bus; if they are the same bus, --interface takes one of them"
+            );
+        }
         true
     }
 
     /// Says on `errors` that the terminal has lost its address, if it has.
-    pub(crate) fn tell_loss<F: Open, E: Write>(
-        &self,
-        terminal: &Terminal,
-        files: &F,
-        errors: &mut E,
-    ) {
+    pub fn tell_loss<F: Open, E: Write>(&self, terminal: &Terminal, files: &F, errors: &mut E) {
         if terminal.is_lost() {
             let _ = writeln!(
                 errors,
@@ -108,13 +115,18 @@ impl<'a> Replay<'a> {
         }
     }
 
-    /// The lines of the log.
-    pub(crate) fn text(&self) -> &[u8] {
+    /// The text of the log, whose lines a split at newlines gives.
+    pub fn text(&self) -> &[u8] {
         text_of(&self.log)
     }
 
+    /// Counts the lines of the log, before the first.
+    pub fn counter(&self) -> LineCounter {
+        LineCounter::of_text(self.text())
+    }
+
     /// Reads a line. One of another interface counts as a comment.
-    pub(crate) fn read_line<'b>(
+    pub fn read_line<'b>(
         &self,
         reader: &'b mut Reader,
         line: &'b [u8],
@@ -127,8 +139,17 @@ impl<'a> Replay<'a> {
     }
 }
 
+/// Says on `errors` that a log has no frame.
+pub fn tell_no_frame<F: Open, E: Write>(path: &str, files: &F, errors: &mut E) {
+    let _ = writeln!(
+        errors,
+        "{}: {path}: no frame could be read; a log is wanted, as candump -L writes it, and --interface names one of its interfaces",
+        files.name()
+    );
+}
+
 /// The input of a line: its frame, or the action of its operator.
-pub(crate) fn input_of<'a>(reading: Result<Line<'a>, LineFault>) -> Option<Input<'a>> {
+pub fn input_of<'a>(reading: Result<Line<'a>, LineFault>) -> Option<Input<'a>> {
     match reading {
         Ok(Line::Frame { time, frame }) => Some(Input::Frame { time, frame }),
         Ok(Line::Operator(action)) => Some(Input::Operator(action)),

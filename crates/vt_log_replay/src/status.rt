@@ -1,7 +1,7 @@
 //! The statuses of the program.
 
 ghost use Rattle.std.specs.Prelude.{◌≡◌};
-ghost use Rattle.vt_log_runs.specs.Statuses.{status_code};
+ghost use Rattle.vt_log_replay.specs.Statuses.{status_code, worse};
 
 /// The status with which a run ends.
 #[derive(Clone, Copy, Debug, PartialEq, Eq)]
@@ -27,7 +27,9 @@ impl Status {
     }
 
     /// The status of two parts of a run: that something was not judged counts more than that something was found.
-    pub fn and(self, other: Status) -> Status {
+    pub fn and(self, other: Status) -> Status
+        ensures { result ≡ worse self other }
+    {
         match (self, other) {
             (Status::NotJudged, _) | (_, Status::NotJudged) => Status::NotJudged,
             (Status::Found, _) | (_, Status::Found) => Status::Found,

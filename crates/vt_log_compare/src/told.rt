@@ -1,16 +1,15 @@
 //! The lines of a comparison, for people or as JSON.
 
-use crate::claims::Load;
-use serde_json::json;
 use std::alloc::Global;
 use std::fmt;
 use std::io::{self, Write};
 use vt_answers::{Difference, Said, Tally, Topic};
-use vt_can::assigned::GLOBAL_ADDRESS;
 use vt_findings_text::Names;
+use vt_frames_text::{Destination, error_of, function_name};
+use vt_json_lines::JsonLine;
+use vt_log_replay::Load;
 use vt_log_words::Format;
 use vt_objects::ObjectId;
-use vt_trace::{error_of, function_name};
 
 /// How the lines of a comparison are written.
 #[derive(Clone, Copy, Drop)]
@@ -58,31 +57,19 @@ impl Telling<'_> {
         topic: Topic,
         out: &mut W,
     ) -> io::Result<()> {
-        let alloc = self.alloc;
-        let destination = format!(in alloc; "{:02X}", topic.destination)?;
-        let function = format!(in alloc; "{:02X}", topic.function)?;
-        let ours = format!(in alloc; "{}", Bytes { said: sides.ours })?;
-        let theirs = format!(in alloc; "{}", Bytes { said: sides.theirs })?;
-        let our_error = format!(in alloc; "{}", ErrorByte { said: sides.ours })?;
-        let their_error = format!(in alloc; "{}", ErrorByte { said: sides.theirs })?;
-        let object = match topic.object {
-            Some(id) => format!(in alloc; "{id}")?,
-            None => String::new(alloc),
-        };
-        let line = json!(in alloc; {
-            "destination": destination.as_str(),
-            "error": our_error.as_str(),
-            "function": function.as_str(),
-            "kind": kind_of(difference),
-            "line": sides.ours.map_or(0, |said| said.line),
-            "name": function_name(topic.function).unwrap_or(""),
-            "object": object.as_str(),
-            "ours": ours.as_str(),
-            "recorded": theirs.as_str(),
-            "recorded_error": their_error.as_str(),
-            "recorded_line": sides.theirs.map_or(0, |said| said.line)
-        })?;
-        writeln!(out, "{}", line.to_string(alloc)?)
+        let mut line = JsonLine::new(self.alloc);
+        line.put_address("destination", topic.destination)?;
+        line.put_text("error", ErrorByte { said: sides.ours })?;
+        line.put_address("function", topic.function)?;
+        line.put_text("kind", kind_of(difference))?;
+        line.put_number("line", sides.ours.map_or(0, |said| said.line))?;
+        line.put_text("name", function_name(topic.function).unwrap_or(""))?;
+        line.put_text("object", ObjectNumber { id: topic.object })?;
+        line.put_text("ours", Bytes { said: sides.ours })?;
+        line.put_text("recorded", Bytes { said: sides.theirs })?;
+        line.put_text("recorded_error", ErrorByte { said: sides.theirs })?;
+        line.put_number("recorded_line", sides.theirs.map_or(0, |said| said.line))?;
+        line.write(out)
     }
 
     /// Writes the line of a node that wants a stored pool, which is not in the log.
@@ -94,10 +81,11 @@ impl Telling<'_> {
                 "line {line}: {source:02X} loads a stored pool; if the recorded terminal had it, it is not in this log: give it by --pool FILE --owner {source:02X}"
             );
         }
-        let source = format!(in self.alloc; "{source:02X}")?;
-        let line =
-            json!(in self.alloc; { "kind": "load", "line": line, "source": source.as_str() })?;
-        writeln!(out, "{}", line.to_string(self.alloc)?)
+        let mut object = JsonLine::new(self.alloc);
+        object.put_text("kind", "load")?;
+        object.put_number("line", line)?;
+        object.put_address("source", source)?;
+        object.write(out)
     }
 
     /// Writes the counts, which are the last line.
@@ -115,15 +103,14 @@ impl Telling<'_> {
                 "answers: {same} same, {differ} differ, {ours_alone} ours alone, {theirs_alone} theirs alone; not compared: {not_compared} frames"
             );
         }
-        let line = json!(in self.alloc; {
-            "differ": differ,
-            "kind": "answers",
-            "not_compared": not_compared,
-            "ours_alone": ours_alone,
-            "same": same,
-            "theirs_alone": theirs_alone
-        })?;
-        writeln!(out, "{}", line.to_string(self.alloc)?)
+        let mut line = JsonLine::new(self.alloc);
+        line.put_number("differ", differ)?;
+        line.put_text("kind", "answers")?;
+        line.put_number("not_compared", not_compared)?;
+        line.put_number("ours_alone", ours_alone)?;
+        line.put_number("same", same)?;
+        line.put_number("theirs_alone", theirs_alone)?;
+        line.write(out)
     }
 }
 
@@ -181,10 +168,7 @@ impl fmt::Display for TopicText<'_> {
             function,
             object,
         } = self.topic;
-        match destination {
-            GLOBAL_ADDRESS => write!(f, "to all: ")?,
-            _ => write!(f, "to {destination:02X}: ")?,
-        }
+        write!(f, "to {}: ", Destination(Some(destination)))?;
         match function_name(function) {
             Some(name) => write!(f, "{name}")?,
             None => write!(f, "function {function:02X}")?,
@@ -246,6 +230,21 @@ impl fmt::Display for ErrorByte<'_> {
     fn fmt<W: fmt::Write>(&self, f: &mut fmt::Formatter<W>) -> fmt::Result {
         match self.said.and_then(|said| error_of(said.bytes.as_slice())) {
             Some(error) => write!(f, "{error:02X}"),
+            None => Ok(()),
+        }
+    }
+}
+
+/// The ID of an object; nothing for none.
+#[derive(Clone, Copy, Drop)]
+struct ObjectNumber {
+    id: Option<u16>,
+}
+
+impl fmt::Display for ObjectNumber {
+    fn fmt<W: fmt::Write>(&self, f: &mut fmt::Formatter<W>) -> fmt::Result {
+        match self.id {
+            Some(id) => write!(f, "{id}"),
             None => Ok(()),
         }
     }

@@ -1,12 +1,11 @@
 //! The subcommand `compare`.
 
-use crate::replay::Replay;
-use crate::status::Status;
 use crate::told::Telling;
 use std::alloc::Global;
 use std::io::{self, Write};
 use vt_answers::{Comparison, Difference};
 use vt_files::Open;
+use vt_log_replay::{Messages, Replay, Status};
 use vt_log_words::CompareOptions;
 use vt_recorded::Reader;
 use vt_server::Terminal;
@@ -15,7 +14,7 @@ use vt_server::Terminal;
 const MILLISECOND: u64 = 1000;
 
 /// Prints where the recorded terminal of a log answered otherwise than this one.
-pub fn run_compare<F: Open, W: Write, E: Write>(
+pub fn run_compare<F: Open, W: Write, E: Messages>(
     alloc: Global,
     options: &CompareOptions<'_>,
     files: &mut F,
@@ -26,6 +25,16 @@ pub fn run_compare<F: Open, W: Write, E: Write>(
         return Ok(Status::NotJudged);
     };
     if !replay.tell_lines(files, errors) {
+        return Ok(Status::NotJudged);
+    }
+    if !replay.recorded.has_messages {
+        let _ = writeln!(
+            errors,
+            "{}: {}: the log has no message of a terminal at {:02X} to compare with; --own gives another address",
+            files.name(),
+            options.replay.log,
+            options.replay.terminal.own
+        );
         return Ok(Status::NotJudged);
     }
     let telling = Telling {
@@ -40,7 +49,9 @@ pub fn run_compare<F: Open, W: Write, E: Write>(
     }
     let mut run = Run::new(alloc, options.wait, replay.terminal()?);
     let mut status = Status::Clean;
+    let mut counter = replay.counter();
     for line in replay.text().split(|byte| *byte == b'\n') {
+        counter.next_line(errors);
         run.take_line(&replay, line)?;
         status = status.and(run.put_differences(&telling, out)?);
     }
@@ -49,15 +60,6 @@ pub fn run_compare<F: Open, W: Write, E: Write>(
     let tally = run.comparison.tally;
     telling.put_tally(tally, out)?;
     replay.tell_loss(&run.terminal, files, errors);
-    if tally.compared() == 0 {
-        let _ = writeln!(
-            errors,
-            "{}: {}: no message of a terminal was compared; --own gives its address",
-            files.name(),
-            options.replay.log
-        );
-        return Ok(Status::NotJudged);
-    }
     Ok(status)
 }
 
