@@ -3,6 +3,9 @@
 //! docs/LOGS.md has the words and the statuses.
 #![tactic(auto)]
 
+mod console;
+
+use console::Console;
 use std::fmt;
 use std::io::{self, BufWriter, Error, ErrorKind, Write};
 use std::process::ExitCode;
@@ -22,7 +25,7 @@ fn main(rt: HostRuntime) -> io::Result<ExitCode> {
 /// Runs the program on the words of the command line, with the streams of the system.
 fn run_words(rt: &HostRuntime) -> io::Result<Status> {
     let alloc = rt.alloc();
-    let mut errors = rt.stderr();
+    let mut errors = Console::new(rt);
     let words: Vec<String> = match std::env::args(rt) {
         Ok(words) => words.collect(alloc)?,
         Err(error) if error.kind() == ErrorKind::InvalidData => {
@@ -33,7 +36,9 @@ fn run_words(rt: &HostRuntime) -> io::Result<Status> {
     };
     let mut out = BufWriter::new(alloc, io::writer(rt))?;
     let mut files = Files::new(rt, "segyolant_log");
-    run(alloc, words.as_slice(), &mut files, &mut out, &mut errors)
+    let status = run(alloc, words.as_slice(), &mut files, &mut out, &mut errors);
+    errors.end_progress();
+    status
 }
 
 /// Why a run ended early: files that cannot be read are named by `run`, so memory or the output is left.

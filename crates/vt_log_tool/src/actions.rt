@@ -4,9 +4,7 @@ use byteorder::{ByteOrder, LittleEndian};
 use std::io::{self, Write};
 use vt_can::Action;
 use vt_commands::function::{BUTTON_ACTIVATION, NUMERIC_VALUE, SOFT_KEY_ACTIVATION, STRING_VALUE};
-
-/// VT Select Input Object: the operator has selected an input, or left it.
-const SELECT_INPUT: u8 = 0x03;
+use vt_frames_text::SELECT_INPUT;
 
 /// The state of a key or a button that was released.
 const RELEASED: u8 = 0;

@@ -14,4 +14,4 @@ mod verdict;
 
 pub use program::run;
 pub use vt_files::{Files, Open, Program, Save};
-pub use vt_log_runs::Status;
+pub use vt_log_replay::{Messages, Status};

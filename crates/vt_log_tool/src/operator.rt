@@ -7,12 +7,12 @@ use vt_can::assigned::{TP_CM, TP_RTS, VT_TO_ECU};
 use vt_can::{Frame, Line, LineFault, parse_line, write_line};
 use vt_files::{Open, read_file};
 use vt_listen::{Broken, Listener};
-use vt_log_runs::{Status, is_of_interface, text_of};
+use vt_log_replay::{LineCounter, Messages, Status, is_of_interface, tell_no_frame, text_of};
 use vt_log_words::OperatorOptions;
 use vt_recorded::Reader;
 
 /// Prints the log with the operator's lines, each before the message that tells of it.
-pub(crate) fn run_operator<F: Open, W: Write, E: Write>(
+pub(crate) fn run_operator<F: Open, W: Write, E: Messages>(
     alloc: Global,
     options: OperatorOptions<'_>,
     files: &mut F,
@@ -23,8 +23,13 @@ pub(crate) fn run_operator<F: Open, W: Write, E: Write>(
         return Ok(Status::NotJudged);
     };
     let log = text_of(&log);
-    let told = Recording::told_in(alloc, log, &options)?;
-    put_lines(alloc, log, options.interface, told.as_slice(), out)?;
+    let recording = Recording::of_log(alloc, log, &options, errors)?;
+    if !recording.has_frames {
+        tell_no_frame(options.log, files, errors);
+        return Ok(Status::NotJudged);
+    }
+    let told = recording.told.as_slice();
+    put_lines(alloc, log, options.interface, told, out)?;
     Ok(Status::Clean)
 }
 
@@ -44,16 +49,20 @@ struct Recording {
     broken: Vec<Broken>,
     /// The line of the last request to each address.
     requests: [usize; 256],
+    /// What the messages tell of the operator.
     told: Vec<Told>,
+    /// Whether there is a frame, of any node.
+    has_frames: bool,
 }
 
 impl Recording {
     /// What the messages of the terminal at an address tell of its operator, by rising lines.
-    fn told_in(
+    fn of_log<E: Messages>(
         alloc: Global,
         log: &[u8],
         options: &OperatorOptions<'_>,
-    ) -> Result<Vec<Told>, AllocError> {
+        errors: &mut E,
+    ) -> Result<Recording, AllocError> {
         let mut recording = Recording {
             alloc,
             own: options.own,
@@ -61,19 +70,22 @@ impl Recording {
             broken: Vec::new(alloc),
             requests: [0; 256],
             told: Vec::new(alloc),
+            has_frames: false,
         };
         let mut reader = Reader::new(alloc);
+        let mut counter = LineCounter::of_text(log);
         for (number, line) in log.split(|byte| *byte == b'\n').enumerate() {
+            counter.next_line(errors);
             if !is_of_interface(line, options.interface) {
                 continue;
             }
             if let Ok(Line::Frame { frame, .. }) = reader.read(line)? {
+                recording.has_frames = true;
                 recording.hear(number, &frame)?;
             }
         }
-        let mut told = recording.told;
-        told.sort_by_key(|told| told.before)?;
-        Ok(told)
+        recording.told.sort_by_key(|told| told.before)?;
+        Ok(recording)
     }
 
     /// Hears the frame of a line.

@@ -9,15 +9,16 @@ use vt_can::assigned::ECU_TO_VT;
 use vt_can::{Frame, Line};
 use vt_files::{Open, Save, make_folder, read_file, read_names, save_file};
 use vt_findings_text::{Item, Names, Source};
+use vt_frames_text::PoolRequest;
 use vt_inspect::inspect;
 use vt_listen::{Broken, Listener};
-use vt_log_runs::{Request, Status, is_of_interface, text_of};
+use vt_log_replay::{LineCounter, Messages, Status, is_of_interface, tell_no_frame, text_of};
 use vt_log_words::{Format, PoolsOptions};
 use vt_recorded::Reader;
 use vt_uploads::{Message, Upload, Uploads};
 
 /// Prints every upload of a log, and what a terminal says of it.
-pub(crate) fn run_pools<F: Open + Save, W: Write, E: Write>(
+pub(crate) fn run_pools<F: Open + Save, W: Write, E: Messages>(
     alloc: Global,
     options: &PoolsOptions<'_>,
     files: &mut F,
@@ -43,7 +44,7 @@ pub(crate) fn run_pools<F: Open + Save, W: Write, E: Write>(
         names: &names,
         format: options.format,
     };
-    report.tell_log(text_of(&log), files, out, errors)
+    report.tell_log(options.log, text_of(&log), files, out, errors)
 }
 
 /// What is heard of uploads in a log.
@@ -67,8 +68,9 @@ struct Report<'a> {
 
 impl Report<'_> {
     /// Tells each upload of a log, each request about pools, and each transfer and upload that did not end.
-    fn tell_log<F: Save, W: Write, E: Write>(
+    fn tell_log<F: Open + Save, W: Write, E: Messages>(
         &self,
+        path: &str,
         log: &[u8],
         files: &mut F,
         out: &mut W,
@@ -82,16 +84,22 @@ impl Report<'_> {
         };
         let mut reader = Reader::new(self.alloc);
         let mut status = Status::Clean;
-        let mut number = 0u64;
+        let mut has_frames = false;
+        let mut counter = LineCounter::of_text(log);
         for line in log.split(|byte| *byte == b'\n') {
-            number = number.saturating_add(1);
+            let number = counter.next_line(errors);
             if !is_of_interface(line, self.interface) {
                 continue;
             }
             if let Ok(Line::Frame { frame, .. }) = reader.read(line)? {
+                has_frames = true;
                 let found = self.tell_frame(number, &frame, &mut hearing, files, out, errors)?;
                 status = status.and(found);
             }
+        }
+        if !has_frames {
+            tell_no_frame(path, files, errors);
+            return Ok(Status::NotJudged);
         }
         let found = self.tell_unended(&mut hearing, out)?;
         Ok(status.and(found))
@@ -160,8 +168,8 @@ impl Report<'_> {
         out: &mut W,
         errors: &mut E,
     ) -> io::Result<Status> {
-        if let Some(request) = Request::in_message(message.bytes) {
-            if matches!(request, Request::DeletePool) {
+        if let Some(request) = PoolRequest::in_message(message.bytes) {
+            if matches!(request, PoolRequest::DeletePool) {
                 hearing.sets.delete(message.source, message.destination);
             }
             put_request(self.alloc, message, request, self.format, out)?;

@@ -7,12 +7,15 @@ use std::alloc::Global;
 use std::convert::AsStr;
 use std::io::{self, Write};
 use vt_files::{Open, Save};
-use vt_log_runs::{Status, run_compare, run_draw, run_stats, run_trace};
+use vt_log_compare::run_compare;
+use vt_log_replay::{Messages, Status};
+use vt_log_runs::{run_draw, run_trace};
+use vt_log_stats::run_stats;
 use vt_log_words::{Options, UsageError};
 
 /// Runs the program on its words, of which the first is its name. `errors` gets a sentence for wrong words and for each file that
 /// cannot be read or written. An error is returned if `out` cannot be written or memory is refused.
-pub fn run<S: AsStr, F: Open + Save, W: Write, E: Write>(
+pub fn run<S: AsStr, F: Open + Save, W: Write, E: Messages>(
     alloc: Global,
     words: &[S],
     files: &mut F,

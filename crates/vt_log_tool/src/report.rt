@@ -1,13 +1,14 @@
 //! The lines of a report on the pools of a log, for people or as JSON.
 
 use crate::verdict::Verdict;
-use serde_json::json;
+use serde_json::Value;
 use std::alloc::Global;
 use std::io::{self, Write};
 use vt_findings_json::item_json;
 use vt_findings_text::{Item, Source};
+use vt_frames_text::PoolRequest;
+use vt_json_lines::JsonLine;
 use vt_listen::Broken;
-use vt_log_runs::Request;
 use vt_log_words::Format;
 use vt_uploads::{Message, Upload};
 
@@ -52,22 +53,19 @@ pub(crate) fn put_upload<W: Write>(
         }
         return writeln!(out);
     }
-    let source = format!(in alloc; "{:02X}", upload.source)?;
-    let destination = format!(in alloc; "{:02X}", upload.destination)?;
-    let text = format!(in alloc; "{verdict}")?;
-    let line = json!(in alloc; {
-        "bytes": size as u64,
-        "destination": destination.as_str(),
-        "file": path.unwrap_or(""),
-        "first_line": upload.first_line,
-        "is_accepted": matches!(verdict, Verdict::Accepted(_)),
-        "kind": kind,
-        "last_line": last_line,
-        "pieces": upload.pieces,
-        "source": source.as_str(),
-        "verdict": text.as_str()
-    })?;
-    writeln!(out, "{}", line.to_string(alloc)?)
+    let mut object = JsonLine::new(alloc);
+    object.put_number("bytes", size as u64)?;
+    object.put_address("destination", upload.destination)?;
+    object.put_text("file", path.unwrap_or(""))?;
+    object.put_number("first_line", upload.first_line)?;
+    let is_accepted = matches!(verdict, Verdict::Accepted(_));
+    object.put("is_accepted", Value::Bool(is_accepted))?;
+    object.put_text("kind", kind)?;
+    object.put_number("last_line", last_line)?;
+    object.put_number("pieces", upload.pieces)?;
+    object.put_address("source", upload.source)?;
+    object.put_text("verdict", verdict)?;
+    object.write(out)
 }
 
 /// Writes the line of a fault of a pool.
@@ -121,26 +119,22 @@ pub(crate) fn put_broken<W: Write>(
     } else {
         "not whole"
     };
-    let source = format!(in alloc; "{source:02X}")?;
-    let destination = format!(in alloc; "{destination:02X}")?;
-    let group = format!(in alloc; "{pgn:04X}")?;
-    let line = json!(in alloc; {
-        "bytes": size,
-        "destination": destination.as_str(),
-        "group": group.as_str(),
-        "kind": kind,
-        "last_line": line.unwrap_or(0),
-        "missing": missing,
-        "source": source.as_str()
-    })?;
-    writeln!(out, "{}", line.to_string(alloc)?)
+    let mut object = JsonLine::new(alloc);
+    object.put_number("bytes", u64::from(size))?;
+    object.put_address("destination", destination)?;
+    object.put_text("group", format_args!("{pgn:04X}"))?;
+    object.put_text("kind", kind)?;
+    object.put_number("last_line", line.unwrap_or(0))?;
+    object.put_number("missing", u64::from(missing))?;
+    object.put_address("source", source)?;
+    object.write(out)
 }
 
 /// Writes the line of a request about pools.
 pub(crate) fn put_request<W: Write>(
     alloc: Global,
     message: Message<'_>,
-    request: Request<'_>,
+    request: PoolRequest<'_>,
     format: Format,
     out: &mut W,
 ) -> io::Result<()> {
@@ -156,17 +150,13 @@ pub(crate) fn put_request<W: Write>(
             "line {line}: {source:02X} {request} at {destination:02X}"
         );
     }
-    let source = format!(in alloc; "{source:02X}")?;
-    let destination = format!(in alloc; "{destination:02X}")?;
-    let text = format!(in alloc; "{request}")?;
-    let line = json!(in alloc; {
-        "destination": destination.as_str(),
-        "kind": "request",
-        "last_line": line,
-        "request": text.as_str(),
-        "source": source.as_str()
-    })?;
-    writeln!(out, "{}", line.to_string(alloc)?)
+    let mut object = JsonLine::new(alloc);
+    object.put_address("destination", destination)?;
+    object.put_text("kind", "request")?;
+    object.put_number("last_line", line)?;
+    object.put_text("request", request)?;
+    object.put_address("source", source)?;
+    object.write(out)
 }
 
 /// Writes the line of an upload that is not ended.
@@ -190,15 +180,12 @@ pub(crate) fn put_unended<W: Write>(
             "line {first_line} on: pool of {source:02X} to {destination:02X}, {size} bytes in {pieces} pieces: its end is not in the log"
         );
     }
-    let source = format!(in alloc; "{source:02X}")?;
-    let destination = format!(in alloc; "{destination:02X}")?;
-    let line = json!(in alloc; {
-        "bytes": size as u64,
-        "destination": destination.as_str(),
-        "first_line": upload.first_line,
-        "kind": "unended",
-        "pieces": upload.pieces,
-        "source": source.as_str()
-    })?;
-    writeln!(out, "{}", line.to_string(alloc)?)
+    let mut object = JsonLine::new(alloc);
+    object.put_number("bytes", size as u64)?;
+    object.put_address("destination", *destination)?;
+    object.put_number("first_line", *first_line)?;
+    object.put_text("kind", "unended")?;
+    object.put_number("pieces", *pieces)?;
+    object.put_address("source", *source)?;
+    object.write(out)
 }

@@ -1,10 +1,13 @@
 //! The subcommand `test`.
 
-use std::alloc::Global;
+ghost use Rattle.std.specs.Prelude.{◌≡◌, IfOk};
+ghost use Rattle.vt_log_tool.specs.Statuses.{status_of};
+
+use std::alloc::{AllocError, Global};
 use std::io::{self, Error, ErrorKind, Write};
 use vt_bench::{Difference, bless, differences};
-use vt_files::{Open, Save, read_file, save_file};
-use vt_log_runs::{LoadedSet, Status, new_terminal, read_set};
+use vt_files::{Open, Program, Save, read_file, save_file};
+use vt_log_replay::{LoadedSet, Status, new_terminal, read_set};
 use vt_log_words::{TerminalOptions, TestOptions};
 use vt_logs::ReplayFault;
 use vt_server::Terminal;
@@ -33,8 +36,8 @@ pub(crate) fn run_test<F: Open + Save, W: Write, E: Write>(
     for path in options.logs.iter() {
         let found = match read_file(alloc, path, files, errors)? {
             None => Status::NotJudged,
-            Some(log) if options.blesses => bench.bless(path, &log, files, errors)?,
-            Some(log) => bench.test(path, &log, out, errors)?,
+            Some(log) if options.blesses => bench.bless(path, &log, files, out, errors)?,
+            Some(log) => bench.test(path, &log, files, out, errors)?,
         };
         status = status.and(found);
     }
@@ -51,42 +54,50 @@ struct Bench<'a> {
 
 impl Bench<'_> {
     /// Prints the differences of a log.
-    fn test<W: Write, E: Write>(
+    fn test<F: Program, W: Write, E: Write>(
         &self,
         path: &str,
         log: &[u8],
+        files: &F,
         out: &mut W,
         errors: &mut E,
     ) -> io::Result<Status> {
         if log.len() > MOST_BYTES {
-            return not_replayed(path, ReplayFault::TooLong, errors);
+            return not_replayed(path, ReplayFault::TooLong, files, errors);
         }
         let mut terminal = self.new_terminal()?;
         match differences(self.alloc, log, &mut terminal) {
-            Ok(differences) => put_differences(path, differences.as_slice(), out),
-            Err(fault) => not_replayed(path, fault, errors),
+            Ok(differences) => put_differences(self.alloc, path, differences.as_slice(), out),
+            Err(fault) => not_replayed(path, fault, files, errors),
         }
     }
 
-    /// Writes a log anew, with the expectations that it meets.
-    fn bless<F: Save, E: Write>(
+    /// Writes a log anew, with the expectations that it meets, unless it has them already.
+    fn bless<F: Save, W: Write, E: Write>(
         &self,
         path: &str,
         log: &[u8],
         files: &mut F,
+        out: &mut W,
         errors: &mut E,
     ) -> io::Result<Status> {
         if log.len() > MOST_BYTES {
-            return not_replayed(path, ReplayFault::TooLong, errors);
+            return not_replayed(path, ReplayFault::TooLong, files, errors);
         }
         let mut terminal = self.new_terminal()?;
         match bless(self.alloc, log, &mut terminal) {
-            Ok(blessed) if blessed.as_slice() == log => Ok(Status::Clean),
-            Ok(blessed) => match save_file(path, &blessed, files, errors)? {
-                true => Ok(Status::Clean),
-                false => Ok(Status::NotJudged),
-            },
-            Err(fault) => not_replayed(path, fault, errors),
+            Ok(blessed) if blessed.as_slice() == log => {
+                writeln!(out, "{path}: as it was")?;
+                Ok(Status::Clean)
+            }
+            Ok(blessed) => {
+                if !save_file(path, &blessed, files, errors)? {
+                    return Ok(Status::NotJudged);
+                }
+                writeln!(out, "{path}: written")?;
+                Ok(Status::Clean)
+            }
+            Err(fault) => not_replayed(path, fault, files, errors),
         }
     }
 
@@ -97,41 +108,69 @@ impl Bench<'_> {
 }
 
 /// Says why a log could not be replayed.
-fn not_replayed<E: Write>(path: &str, fault: ReplayFault, errors: &mut E) -> io::Result<Status> {
+fn not_replayed<F: Program, E: Write>(
+    path: &str,
+    fault: ReplayFault,
+    files: &F,
+    errors: &mut E,
+) -> io::Result<Status> {
     if fault == ReplayFault::Memory {
         return Err(Error::from(ErrorKind::OutOfMemory));
     }
-    let _ = writeln!(errors, "segyolant_log: {path}: {fault}");
+    let _ = writeln!(errors, "{}: {path}: {fault}", files.name());
     Ok(Status::NotJudged)
 }
 
 /// Writes the differences of a log.
 fn put_differences<W: Write>(
+    alloc: Global,
     path: &str,
     differences: &[Difference],
     out: &mut W,
-) -> io::Result<Status> {
+) -> io::Result<Status>
+    ensures { IfOk result (λ status. status ≡ status_of differences.now) }
+{
     for difference in differences {
         match difference.line {
             0 => writeln!(out, "{path}: the first screen differs")?,
             line => writeln!(out, "{path}:{line}: prints something else than is expected")?,
         }
-        put_marked(b"  - ", &difference.expected, out)?;
-        put_marked(b"  + ", &difference.printed, out)?;
+        put_changed(alloc, difference, out)?;
     }
     if differences.is_empty() {
         writeln!(out, "{path}: ok")?;
         Ok(Status::Clean)
     } else {
         let count = differences.len();
-        writeln!(out, "{path}: {count} of its lines differ")?;
+        let verb = if count == 1 { "differs" } else { "differ" };
+        writeln!(out, "{path}: {count} of its lines {verb}")?;
         Ok(Status::Found)
     }
 }
 
-/// Writes the lines of a text, each behind a mark.
-fn put_marked<W: Write>(mark: &[u8], text: &[u8], out: &mut W) -> io::Result<()> {
-    for line in text.split_inclusive(|byte| *byte == b'\n') {
+/// Writes the lines of an expected text and of a printed one, without those with which both begin and those with which both end.
+fn put_changed<W: Write>(alloc: Global, difference: &Difference, out: &mut W) -> io::Result<()> {
+    let expected = lines_in(alloc, &difference.expected)?;
+    let printed = lines_in(alloc, &difference.printed)?;
+    let pairs = expected.iter().zip(printed.iter());
+    let front = pairs.take_while(|(line, other)| line == other).count();
+    let expected = expected.get(front..).unwrap_or(&[]);
+    let printed = printed.get(front..).unwrap_or(&[]);
+    let pairs = expected.iter().rev().zip(printed.iter().rev());
+    let back = pairs.take_while(|(line, other)| line == other).count();
+    put_marked(b"  - ", expected, back, out)?;
+    put_marked(b"  + ", printed, back, out)
+}
+
+/// The lines of a text, each with its newline.
+fn lines_in(alloc: Global, text: &[u8]) -> Result<Vec<&[u8]>, AllocError> {
+    text.split_inclusive(|byte| *byte == b'\n').collect(alloc)
+}
+
+/// Writes lines, each behind a mark, but for so many at the end.
+fn put_marked<W: Write>(mark: &[u8], lines: &[&[u8]], back: usize, out: &mut W) -> io::Result<()> {
+    let count = lines.len().saturating_sub(back);
+    for line in lines.iter().take(count) {
         out.write_all(mark)?;
         out.write_all(line)?;
     }

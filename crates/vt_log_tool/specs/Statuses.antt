@@ -1,0 +1,10 @@
+-- The status of a test.
+use Rattle.std.specs.Prelude.{List, [], ◌∷◌}
+use Rattle.vt_bench.specs.declared.difference.Difference.{Difference}
+use Rattle.vt_log_replay.specs.declared.status.Status.{Status}
+use Rattle.vt_log_replay.specs.declared.status.Status.TheVariants.{Clean, Found}
+
+-- nothing is found exactly if no line differs
+abbrev pub status_of : List Difference → Status
+status_of [] = Clean
+status_of (difference ∷ differences) = Found
