@@ -11,7 +11,7 @@ use vt_files::Save;
 use vt_log_tool::run;
 
 /// The words of each run, the program's name first. A file behind `>` takes the output, as in a shell.
-const RUNS: [&[&str]; 34] = [
+const RUNS: [&[&str]; 37] = [
     &["segyolant_log", "test", "bench-seeder.log"],
     &[
         "segyolant_log",
@@ -73,6 +73,7 @@ const RUNS: [&[&str]; 34] = [
         "--pool",
         "pools/80-2.iop",
     ],
+    &["segyolant_log", "pools", "sprayer.iop"],
     &["segyolant_log", "operator", "-"],
     &[
         "segyolant_log",
@@ -109,6 +110,7 @@ const RUNS: [&[&str]; 34] = [
         "sprayer.h",
     ],
     &["segyolant_log", "compare", "replay.log", "--wait", "1"],
+    &["segyolant_log", "compare", "seeder.log"],
     &["segyolant_log", "draw", "replay.log", "--out", "screens"],
     &[
         "segyolant_log",
@@ -138,6 +140,7 @@ const RUNS: [&[&str]; 34] = [
         "--interface",
         "can7",
     ],
+    &["segyolant_log", "stats", "seeder.log", "--format", "json"],
     &["segyolant_log", "stats", "seeder.log", "--speed", "2"],
     &["segyolant_log", "stats", "missing.log"],
     &["segyolant_log", "--help"],

@@ -283,6 +283,35 @@ working set 80: 0 commands done, 0 refused
 ",
 )];
 
+/// The same as lines of JSON.
+const STATISTICS_AS_JSON: [Printed; 1] = [(
+    &["s", "stats", "upload.log", "--format", "json"],
+    Status::Clean,
+    "\
+{\"bytes\":63,\"first_line\":1,\"first_time\":1000000,\"frames\":8,\"kind\":\"log\",\"last_line\":8,\"last_time\":1700000,\"load\":5,\"seen_twice\":0}
+{\"bytes\":63,\"frames\":8,\"kind\":\"source\",\"load\":5,\"source\":\"80\"}
+{\"broken\":0,\"kind\":\"transfers\",\"longest\":null,\"repeated_packets\":0,\"unended\":0,\"whole\":0}
+{\"done\":0,\"kind\":\"set\",\"macros_never\":[],\"macros_reached\":[],\"masks_never\":[],\"masks_shown\":[{\"id\":1000,\"kind\":\"Data Mask\",\"name\":null}],\"objects_drawn\":[{\"id\":100,\"kind\":\"Container\",\"name\":null}],\"objects_never\":[],\"refused\":0,\"source\":\"80\"}
+",
+)];
+
+#[test]
+fn numbers_are_lines_of_json_too(rt: HostRuntime) -> Result<(), Fail> {
+    expect_prints(&rt, &STATISTICS_AS_JSON)
+}
+
+#[test]
+fn several_interfaces_are_told(rt: HostRuntime) -> Result<(), Fail> {
+    let run = Run {
+        words: &["s", "draw", "interfaces.log", "--out", "screens"],
+        status: Status::Clean,
+        text: "line 0: screen none\n",
+        written: "== screens is made\n",
+        has_messages: true,
+    };
+    expect_run(&rt, &run)
+}
+
 #[test]
 fn an_upload_has_numbers(rt: HostRuntime) -> Result<(), Fail> {
     expect_prints(&rt, &STATISTICS)
@@ -337,8 +366,9 @@ fn a_picture_that_cannot_be_written_is_told(rt: HostRuntime) -> Result<(), Fail>
 }
 
 /// Words that are not judged.
-const NOT_JUDGED: [&[&str]; 9] = [
+const NOT_JUDGED: [&[&str]; 10] = [
     &["s", "trace", "none.log"],
+    &["s", "trace", "empty.log"],
     &["s", "trace", "own.log", "--name", "12"],
     &["s", "trace", "own.log", "--names", "none"],
     &["s", "compare", "own.log", "--wait", "x"],

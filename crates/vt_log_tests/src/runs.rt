@@ -149,7 +149,7 @@ fn only_a_log_that_changes_is_written(rt: HostRuntime) -> Result<(), Fail> {
     let run = Run {
         words: &["s", "test", "met.log", "unmet.log", "--bless"],
         status: Status::Clean,
-        text: "",
+        text: "met.log: as it was\nunmet.log: written\n",
         written: "== unmet.log of 118 bytes\n",
         has_messages: false,
     };
@@ -161,7 +161,7 @@ const FIRST_SCREEN: &str = "\
 empty.log: the first screen differs\n\
 \x20 + screen 81 mask 1000\n\
 \x20 + container 100 10 5 50x20\n\
-empty.log: 1 of its lines differ\n";
+empty.log: 1 of its lines differs\n";
 
 #[test]
 fn a_pool_may_be_there_from_the_start(rt: HostRuntime) -> Result<(), Fail> {
@@ -176,10 +176,12 @@ fn a_pool_may_be_there_from_the_start(rt: HostRuntime) -> Result<(), Fail> {
 }
 
 /// Words that are not judged, and whether something is printed all the same.
-const NOT_JUDGED: [(&[&str], &str); 12] = [
+const NOT_JUDGED: [(&[&str], &str); 14] = [
     (&["s"], ""),
     (&["s", "pools"], ""),
     (&["s", "pools", "none.log"], ""),
+    (&["s", "pools", "empty.log"], ""),
+    (&["s", "operator", "empty.log"], ""),
     (&["s", "pools", "upload.log", "--out", "none"], ""),
     (&["s", "pools", "upload.log", "--format", "xml"], ""),
     (&["s", "operator", "told.log", "--own", "FE"], ""),

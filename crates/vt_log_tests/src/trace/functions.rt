@@ -1,6 +1,6 @@
 //! The functions of messages by name, and the error bytes of replies.
 
-use vt_trace::{error_of, function_name};
+use vt_frames_text::{error_of, function_name};
 
 /// Functions and their names.
 const NAMES: [(u8, Option<&str>); 8] = [

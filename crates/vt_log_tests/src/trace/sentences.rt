@@ -4,10 +4,10 @@ use std::process::Abort;
 use std::test::Fail;
 use vt_can::{Line, parse_line};
 use vt_findings_text::Names;
+use vt_messages_text::Sentence;
 use vt_names::Name;
 use vt_server::Terminal;
 use vt_testing::{POOL, accepted_pool};
-use vt_trace::Sentence;
 
 /// The names of two of the three objects of the pool.
 const NAMES: &[u8] = b"100,boom\n1000,mask_work\n";
