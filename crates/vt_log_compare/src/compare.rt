@@ -5,7 +5,7 @@ use std::alloc::Global;
 use std::io::{self, Write};
 use vt_answers::{Comparison, Difference};
 use vt_files::Open;
-use vt_log_replay::{Messages, Replay, Status};
+use vt_log_replay::{Messages, Replay, Status, line_ends};
 use vt_log_words::CompareOptions;
 use vt_recorded::Reader;
 use vt_server::Terminal;
@@ -49,10 +49,10 @@ pub fn run_compare<F: Open, W: Write, E: Messages>(
     }
     let mut run = Run::new(alloc, options.wait, replay.terminal()?);
     let mut status = Status::Clean;
-    let mut counter = replay.counter();
-    for line in replay.text().split(|byte| *byte == b'\n') {
-        counter.next_line(errors);
-        run.take_line(&replay, line)?;
+    let mut cursor = replay.cursor();
+    for end in line_ends(replay.text()) {
+        run.take_line(&replay, cursor.next_line(end))?;
+        cursor.tell_progress(errors);
         status = status.and(run.put_differences(&telling, out)?);
     }
     run.comparison.end(&mut run.differences)?;

@@ -1,6 +1,6 @@
 //! What a log tells of the recorded terminal before it is replayed.
 
-use crate::lines::{interface_in, is_of_interface};
+use crate::lines::{LineCursor, interface_in, is_of_interface, line_ends};
 use byteorder::{ByteOrder, LittleEndian};
 use std::alloc::{AllocError, Global};
 use vt_can::assigned::{ADDRESS_CLAIMED, ECU_TO_VT, GLOBAL_ADDRESS, VT_TO_ECU};
@@ -56,9 +56,10 @@ impl Recorded {
         };
         let mut first = None;
         let mut reader = Reader::new(alloc);
-        let mut number = 0u64;
-        for line in log.split(|byte| *byte == b'\n') {
-            number = number.saturating_add(1);
+        let mut cursor = LineCursor::new(log);
+        for end in line_ends(log) {
+            let line = cursor.next_line(end);
+            let number = cursor.number();
             if !is_of_interface(line, interface) {
                 continue;
             }

@@ -1,6 +1,8 @@
 //! The lines of a log in memory.
 
 use crate::messages::Messages;
+use memchr::{Memchr, memchr_iter};
+use std::iter::{Chain, Once, once};
 
 /// A run tells how far it has come at each of so many lines.
 const LINES_BETWEEN: u64 = 4096;
@@ -33,29 +35,49 @@ pub fn is_of_interface(line: &[u8], interface: Option<&str>) -> bool {
     interface_in(line).is_none_or(|name| name == interface.as_bytes())
 }
 
-/// Counts the lines of a log while a run goes through them.
+/// The ends of the lines of a text: its newlines, and its own end.
+pub fn line_ends(text: &[u8]) -> Chain<Memchr<'_>, Once<usize>> {
+    memchr_iter(b'\n', text).chain(once(text.len()))
+}
+
+/// Goes through the lines of a log, and tells how far a run has come.
 #[derive(Clone, Copy, Debug)]
-pub struct LineCounter {
+pub struct LineCursor<'a> {
+    text: &'a [u8],
+    start: usize,
     line: u64,
     lines: u64,
 }
 
-impl LineCounter {
-    /// The count before the first line of a text.
-    pub fn of_text(text: &[u8]) -> LineCounter {
-        let newlines = text.iter().filter(|byte| **byte == b'\n').count() as u64;
-        LineCounter {
+impl<'a> LineCursor<'a> {
+    /// A cursor before the first line of a text.
+    pub fn new(text: &'a [u8]) -> LineCursor<'a> {
+        let newlines = memchr_iter(b'\n', text).count() as u64;
+        LineCursor {
+            text,
+            start: 0,
             line: 0,
             lines: newlines.saturating_add(1),
         }
     }
 
-    /// The number of the next line, from 1 on. Some of them are told as progress.
-    pub fn next_line<E: Messages>(&mut self, errors: &mut E) -> u64 {
+    /// The next line, which ends before the next of the `line_ends`.
+    pub fn next_line(&mut self, end: usize) -> &'a [u8] {
+        let line = self.text.get(self.start..end).unwrap_or(&[]);
+        self.start = end.saturating_add(1);
         self.line = self.line.saturating_add(1);
+        line
+    }
+
+    /// The number of the line that was taken last, from 1 on.
+    pub fn number(&self) -> u64 {
+        self.line
+    }
+
+    /// Tells how far the run has come, at some of the lines.
+    pub fn tell_progress<E: Messages>(&self, errors: &mut E) {
         if self.line % LINES_BETWEEN == 0 {
             errors.show_progress(self.line, self.lines);
         }
-        self.line
     }
 }

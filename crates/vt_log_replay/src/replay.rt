@@ -1,7 +1,7 @@
 //! A log with all that its replay needs.
 
 use crate::claims::Recorded;
-use crate::lines::{LineCounter, is_of_interface, text_of};
+use crate::lines::{LineCursor, is_of_interface, text_of};
 use crate::start::{LoadedSet, new_terminal, read_set};
 use std::alloc::Global;
 use std::io::{self, Write};
@@ -115,14 +115,14 @@ impl<'a> Replay<'a> {
         }
     }
 
-    /// The text of the log, whose lines a split at newlines gives.
+    /// The text of the log, without the newline at its end.
     pub fn text(&self) -> &[u8] {
         text_of(&self.log)
     }
 
-    /// Counts the lines of the log, before the first.
-    pub fn counter(&self) -> LineCounter {
-        LineCounter::of_text(self.text())
+    /// A cursor before the first line of the log.
+    pub fn cursor(&self) -> LineCursor<'_> {
+        LineCursor::new(self.text())
     }
 
     /// Reads a line. One of another interface counts as a comment.

@@ -5,7 +5,7 @@ use std::alloc::Global;
 use std::io::{self, Write};
 use std::mem;
 use vt_files::{Open, Save, make_folder, save_file};
-use vt_log_replay::{Messages, Replay, Status, input_of};
+use vt_log_replay::{Messages, Replay, Status, input_of, line_ends};
 use vt_log_words::DrawOptions;
 use vt_needs::TERMINAL_SIZES;
 use vt_recorded::Reader;
@@ -39,11 +39,12 @@ pub fn run_draw<F: Open + Save, W: Write, E: Messages>(
         outputs: Vec::new(alloc),
     };
     let mut status = gallery.look(0, files, out, errors)?;
-    let mut counter = replay.counter();
-    for line in replay.text().split(|byte| *byte == b'\n') {
-        let number = counter.next_line(errors);
+    let mut cursor = replay.cursor();
+    for end in line_ends(replay.text()) {
+        let line = cursor.next_line(end);
+        cursor.tell_progress(errors);
         if gallery.take_line(&replay, line)? {
-            let found = gallery.look(number, files, out, errors)?;
+            let found = gallery.look(cursor.number(), files, out, errors)?;
             status = status.and(found);
         }
     }

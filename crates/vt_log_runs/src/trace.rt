@@ -3,7 +3,7 @@
 use std::alloc::Global;
 use std::io::{self, Write};
 use vt_files::Open;
-use vt_log_replay::{Messages, Replay, Status};
+use vt_log_replay::{Messages, Replay, Status, line_ends};
 use vt_log_words::ReplayOptions;
 use vt_recorded::Reader;
 use vt_trace::Tracer;
@@ -23,12 +23,13 @@ pub fn run_trace<F: Open, W: Write, E: Messages>(
     let mut tracer = Tracer::new(alloc, &replay.names, &terminal)?;
     let mut reader = Reader::new(alloc);
     let mut text = Vec::new(alloc);
-    let mut counter = replay.counter();
-    for line in replay.text().split(|byte| *byte == b'\n') {
-        let number = counter.next_line(errors);
+    let mut cursor = replay.cursor();
+    for end in line_ends(replay.text()) {
+        let line = cursor.next_line(end);
+        cursor.tell_progress(errors);
         text.clear();
         let reading = replay.read_line(&mut reader, line)?;
-        tracer.trace_line(number, &reading, &mut terminal, &mut text)?;
+        tracer.trace_line(cursor.number(), &reading, &mut terminal, &mut text)?;
         out.write_all(&text)?;
     }
     if !replay.tell_lines(files, errors) {

@@ -6,7 +6,7 @@ use std::io::{self, Write};
 use vt_can::Line;
 use vt_files::Open;
 use vt_findings_text::Names;
-use vt_log_replay::{Messages, Replay, Status, input_of};
+use vt_log_replay::{Messages, Replay, Status, input_of, line_ends};
 use vt_log_words::{Format, StatsOptions};
 use vt_reach::{Reach, ReachText};
 use vt_recorded::Reader;
@@ -34,10 +34,11 @@ pub fn run_stats<F: Open, W: Write, E: Messages>(
         reader: Reader::new(alloc),
         outputs: Vec::new(alloc),
     };
-    let mut counter = replay.counter();
-    for line in replay.text().split(|byte| *byte == b'\n') {
-        let number = counter.next_line(errors);
-        run.take_line(&replay, number, line)?;
+    let mut cursor = replay.cursor();
+    for end in line_ends(replay.text()) {
+        let line = cursor.next_line(end);
+        run.take_line(&replay, cursor.number(), line)?;
+        cursor.tell_progress(errors);
     }
     run.put(&replay.names, options.format, alloc, out)?;
     replay.tell_loss(&run.terminal, files, errors);

@@ -7,7 +7,9 @@ use vt_can::assigned::{TP_CM, TP_RTS, VT_TO_ECU};
 use vt_can::{Frame, Line, LineFault, parse_line, write_line};
 use vt_files::{Open, read_file};
 use vt_listen::{Broken, Listener};
-use vt_log_replay::{LineCounter, Messages, Status, is_of_interface, tell_no_frame, text_of};
+use vt_log_replay::{
+    LineCursor, Messages, Status, is_of_interface, line_ends, tell_no_frame, text_of,
+};
 use vt_log_words::OperatorOptions;
 use vt_recorded::Reader;
 
@@ -36,7 +38,7 @@ pub(crate) fn run_operator<F: Open, W: Write, E: Messages>(
 /// The operator's line that a message tells of, and the line of the log before which it stands: that of the message's first frame.
 #[derive(Drop)]
 struct Told {
-    before: usize,
+    before: u64,
     line: Vec<u8>,
 }
 
@@ -48,7 +50,7 @@ struct Recording {
     listener: Listener,
     broken: Vec<Broken>,
     /// The line of the last request to each address.
-    requests: [usize; 256],
+    requests: [u64; 256],
     /// What the messages tell of the operator.
     told: Vec<Told>,
     /// Whether there is a frame, of any node.
@@ -73,15 +75,16 @@ impl Recording {
             has_frames: false,
         };
         let mut reader = Reader::new(alloc);
-        let mut counter = LineCounter::of_text(log);
-        for (number, line) in log.split(|byte| *byte == b'\n').enumerate() {
-            counter.next_line(errors);
+        let mut cursor = LineCursor::new(log);
+        for end in line_ends(log) {
+            let line = cursor.next_line(end);
+            cursor.tell_progress(errors);
             if !is_of_interface(line, options.interface) {
                 continue;
             }
             if let Ok(Line::Frame { frame, .. }) = reader.read(line)? {
                 recording.has_frames = true;
-                recording.hear(number, &frame)?;
+                recording.hear(cursor.number(), &frame)?;
             }
         }
         recording.told.sort_by_key(|told| told.before)?;
@@ -89,7 +92,7 @@ impl Recording {
     }
 
     /// Hears the frame of a line.
-    fn hear(&mut self, number: usize, frame: &Frame) -> Result<(), AllocError> {
+    fn hear(&mut self, number: u64, frame: &Frame) -> Result<(), AllocError> {
         if frame.id.source() != self.own {
             return Ok(());
         }
@@ -114,7 +117,7 @@ impl Recording {
     }
 
     /// Keeps the operator's line that a message tells of, if it tells of one.
-    fn tell(&mut self, before: usize, message: &[u8]) -> Result<(), AllocError> {
+    fn tell(&mut self, before: u64, message: &[u8]) -> Result<(), AllocError> {
         let Some(action) = action_in(message) else {
             return Ok(());
         };
@@ -136,7 +139,10 @@ fn put_lines<W: Write>(
 ) -> io::Result<()> {
     let mut reader = Reader::new(alloc);
     let mut rest = told;
-    for (number, line) in log.split(|byte| *byte == b'\n').enumerate() {
+    let mut cursor = LineCursor::new(log);
+    for end in line_ends(log) {
+        let line = cursor.next_line(end);
+        let number = cursor.number();
         let count = rest.partition_point(|told| told.before <= number);
         let (ready, later) = rest.split_at(count);
         for told in ready {

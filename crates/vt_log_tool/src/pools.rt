@@ -12,7 +12,9 @@ use vt_findings_text::{Item, Names, Source};
 use vt_frames_text::PoolRequest;
 use vt_inspect::inspect;
 use vt_listen::{Broken, Listener};
-use vt_log_replay::{LineCounter, Messages, Status, is_of_interface, tell_no_frame, text_of};
+use vt_log_replay::{
+    LineCursor, Messages, Status, is_of_interface, line_ends, tell_no_frame, text_of,
+};
 use vt_log_words::{Format, PoolsOptions};
 use vt_recorded::Reader;
 use vt_uploads::{Message, Upload, Uploads};
@@ -85,9 +87,11 @@ impl Report<'_> {
         let mut reader = Reader::new(self.alloc);
         let mut status = Status::Clean;
         let mut has_frames = false;
-        let mut counter = LineCounter::of_text(log);
-        for line in log.split(|byte| *byte == b'\n') {
-            let number = counter.next_line(errors);
+        let mut cursor = LineCursor::new(log);
+        for end in line_ends(log) {
+            let line = cursor.next_line(end);
+            let number = cursor.number();
+            cursor.tell_progress(errors);
             if !is_of_interface(line, self.interface) {
                 continue;
             }
