@@ -1,4 +1,6 @@
 mod NumberedLines
 mod OutputLines
+mod PlainLines
+mod ScreenLines
 mod TracedInputs
 mod TracedLines

@@ -3,8 +3,9 @@ use Rattle.std.proofs.Common.{◌≡◌, ◌∙◌, ℕ, ◌+◌, ◌<◌, List,
 use Rattle.std.specs.List.{AllZip}
 use Rattle.std.proofs.lemmas.Grind.{flat_map-append}
 use Rattle.std.proofs.lemmas.List.{take_more}
-use Rattle.vt_trace.proofs.TracedLines.{HasNoNewline-one_line}
-use Rattle.vt_trace.specs.Traces.{AreOutputLines, Gains, IsOutputLine, joined, one_line, output_line}
+use Rattle.vt_trace.proofs.TracedLines.{HasNoNewline-dotted}
+use Rattle.vt_trace.specs.Lines.{Gains, joined, dotted}
+use Rattle.vt_trace.specs.Traces.{AreOutputLines, IsOutputLine, output_line}
 use Rattle.vt_can.specs.declared.frames.frame.Frame.{Frame}
 use Rattle.vt_can.specs.lines.WrittenForms.{frame_text}
 use Rattle.vt_logs.specs.Texts.{newline, refusal_name}
@@ -44,16 +45,16 @@ gains_next sent i output a b c below is before next =
 
 -- ---- one line
 
-line_is : (output : Output) (said words a b c d : List ℕ) → said ≡ output_line output → b ≡ a ++ codes "    " → c ≡ b ++ said → d ≡ c ++ codes "  " ++ one_line words ++ newline
+line_is : (output : Output) (said words a b c d : List ℕ) → said ≡ output_line output → b ≡ a ++ codes "    " → c ≡ b ++ said → d ≡ c ++ codes "  " ++ dotted words ++ newline
     → Gains (IsOutputLine output) a d
 line_is output said words a b c d is first second third = record {
-  part = codes "    " ++ said ++ codes "  " ++ one_line words ++ newline;
+  part = codes "    " ++ said ++ codes "  " ++ dotted words ++ newline;
   part_is = record {
-    sentence = one_line words;
-    one_line = HasNoNewline-one_line words;
-    whole = ap (λ t. codes "    " ++ t ++ codes "  " ++ one_line words ++ newline) is;
+    sentence = dotted words;
+    one_line = HasNoNewline-dotted words;
+    whole = ap (λ t. codes "    " ++ t ++ codes "  " ++ dotted words ++ newline) is;
   };
-  whole = third ∙ ap (λ t. t ++ codes "  " ++ one_line words ++ newline) (second ∙ ap (λ t. t ++ said) first) ∙ regroup a (codes "    ") said (codes "  ") (one_line words) newline;
+  whole = third ∙ ap (λ t. t ++ codes "  " ++ dotted words ++ newline) (second ∙ ap (λ t. t ++ said) first) ∙ regroup a (codes "    ") said (codes "  ") (dotted words) newline;
 }
   where
     regroup : (a b c d e f : List ℕ) → (a ++ b ++ c) ++ d ++ e ++ f ≡ a ++ (b ++ c ++ d ++ e ++ f)
@@ -62,11 +63,11 @@ line_is output said words a b c d is first second third = record {
         ∙ append_assoc a (b ++ c ++ d ++ e) f
 
 pub gains_frame : (output : Output) (words a b c d : List ℕ) (frame : Frame) → output ≡ outputs.Frame frame → b ≡ a ++ codes "    " → c ≡ b ++ frame_text frame
-    → d ≡ c ++ codes "  " ++ one_line words ++ newline → Gains (IsOutputLine output) a d
+    → d ≡ c ++ codes "  " ++ dotted words ++ newline → Gains (IsOutputLine output) a d
 gains_frame output words a b c d frame is first second third = line_is output (frame_text frame) words a b c d (sym (ap output_line is)) first second third
 
 pub gains_refusal : (output : Output) (words a b c d e : List ℕ) (fault : OperatorFault) → output ≡ outputs.Refused fault → b ≡ a ++ codes "    " → c ≡ b ++ codes "operator "
-    → d ≡ c ++ refusal_name fault → e ≡ d ++ codes "  " ++ one_line words ++ newline → Gains (IsOutputLine output) a e
+    → d ≡ c ++ refusal_name fault → e ≡ d ++ codes "  " ++ dotted words ++ newline → Gains (IsOutputLine output) a e
 gains_refusal output words a b c d e fault is first second third fourth =
     line_is output (codes "operator " ++ refusal_name fault) words a b d e (sym (ap output_line is)) first
     (third ∙ ap (λ t. t ++ refusal_name fault) second ∙ append_assoc b (codes "operator ") (refusal_name fault)) fourth

@@ -1,7 +1,7 @@
 -- The trace of a line of a log: a head, the terminal's outputs, and the changes of its screen.
-use Rattle.std.specs.Prelude.{◌≡◌, ◌⊎◌, ◌==◌, ◌||◌, ℕ, nat_lt, Bool, false, not, nat_eq, if◌then◌else◌, List, [], ◌++◌, codes, map, Ok}
+use Rattle.std.specs.Prelude.{◌≡◌, ℕ, false, nat_eq, List, [], ◌++◌, codes, Ok}
 use Rattle.std.specs.Fmt.{decimal}
-use Rattle.std.specs.List.{All, AllZip, AllPass, flat_map, starts_with}
+use Rattle.std.specs.List.{AllZip, starts_with}
 use Rattle.vt_can.specs.lines.Readings.{ParsedLine, FrameAt, OperatorAction, CommentLine}
 use Rattle.vt_can.specs.lines.WrittenForms.{frame_text}
 use Rattle.vt_logs.specs.LineEffects.{IsInputOfLine}
@@ -12,32 +12,10 @@ use Rattle.vt_server.specs.Steps.{JudgedInput, step}
 use Rattle.vt_server.specs.Terminals.{State}
 use Rattle.vt_server.specs.declared.output.Output.{Output}
 use Rattle.vt_server.specs.declared.output.Output.TheVariants as outputs
-
--- ---- lines
-
-abbrev pub HasNoNewline : List ℕ → Type 0
-HasNoNewline text = AllPass (λ byte. not (byte == 10)) text
-
-abbrev pub is_control : ℕ → Bool
-is_control byte = nat_lt byte 32 || byte == 127
-
--- a dot for a control character
-abbrev pub shown_byte : ℕ → ℕ
-shown_byte byte = if is_control byte then 46 else byte
-
--- a text with a dot for each control character
-abbrev pub one_line : List ℕ → List ℕ
-one_line text = map shown_byte text
-
--- lines as one text
-abbrev pub joined : List (List ℕ) → List ℕ
-joined lines = flat_map (λ line. line) lines
-
--- A text has gained a part with a property.
-pub record Gains (Is : List ℕ → Type 0) (old new : List ℕ) : Type 0 where
-  pub part : List ℕ
-  pub part_is : Is part
-  pub whole : new ≡ old ++ part
+use Rattle.vt_server.specs.shown.Screens.{IsScreenOf}
+use Rattle.vt_trace.specs.Changes.{changes}
+use Rattle.vt_trace.specs.Lines.{HasNoNewline, joined}
+use Rattle.vt_trace.specs.declared.tracer.Tracer.{Tracer}
 
 -- ---- the outputs
 
@@ -56,25 +34,6 @@ pub record IsOutputLine (output : Output) (line : List ℕ) : Type 0 where
 pub record AreOutputLines (sent : List Output) (text : List ℕ) : Type 0 where
   pub lines : List (List ℕ)
   pub each : AllZip IsOutputLine sent lines
-  pub whole : text ≡ joined lines
-
--- ---- the changes
-
--- the front of a line that has gone, or of one that has come
-abbrev pub IsMark : List ℕ → Type 0
-IsMark mark = (mark ≡ codes "  - ") ⊎ (mark ≡ codes "  + ")
-
--- a line of the screen that has gone or come
-pub record IsChange (line : List ℕ) : Type 0 where
-  pub mark : List ℕ
-  pub shown : List ℕ
-  pub marked : IsMark mark
-  pub one_line : HasNoNewline shown
-  pub whole : line ≡ mark ++ shown ++ newline
-
-pub record AreChanges (text : List ℕ) : Type 0 where
-  pub lines : List (List ℕ)
-  pub each : All IsChange lines
   pub whole : text ≡ joined lines
 
 -- ---- the head
@@ -107,24 +66,27 @@ Sends from (Ok (FrameAt time frame)) to sent = SendsByInput from (FrameAt time f
 Sends from (Ok (OperatorAction action)) to sent = SendsByInput from (OperatorAction action) to sent
 Sends from _ to sent = (to ≡ from) × (sent ≡ [])
 
--- The terminal takes the input of a line, and its outputs and the changes of its screen are told.
-pub record TracesInput (from : State) (line : ParsedLine) (to : State) (added : List ℕ) : Type 0 where
+-- The terminal takes the input of a line, and its outputs are told, and how its screen changes from the old text to the new one.
+pub record TracesInput (from : State) (line : ParsedLine) (to : State) (old new added : List ℕ) : Type 0 where
   pub sent : List Output
   pub answers : List ℕ
-  pub changes : List ℕ
   pub takes : SendsByInput from line to sent
   pub answers_are : AreOutputLines sent answers
-  pub changes_are : AreChanges changes
-  pub whole : added ≡ answers ++ changes
+  pub screen : IsScreenOf from old → IsScreenOf to new
+  pub whole : added ≡ answers ++ changes old new
 
--- A line of a number is taken, and its trace is a head, the lines of the terminal's outputs, and the changes of the screen.
-pub record TracesLine (number : ℕ) (from : State) (reading : LineReading) (to : State) (added : List ℕ) : Type 0 where
+-- A line of a number is taken, and its trace is a head, the lines of the terminal's outputs, and the changes of the screen from the old
+-- text to the new one. If the old text is that of the screen before the line, the new one is that of the screen after it.
+pub record TracesLine (number : ℕ) (from : State) (reading : LineReading) (to : State) (old new added : List ℕ) : Type 0 where
   pub sent : List Output
   pub head : List ℕ
   pub answers : List ℕ
-  pub changes : List ℕ
   pub takes : Sends from reading to sent
   pub head_is : IsHeadOf number reading head
   pub answers_are : AreOutputLines sent answers
-  pub changes_are : AreChanges changes
-  pub whole : added ≡ head ++ answers ++ changes
+  pub screen : IsScreenOf from old → IsScreenOf to new
+  pub whole : added ≡ head ++ answers ++ changes old new
+
+-- the text of the screen after the last line
+abbrev pub screen_in : Tracer → List ℕ
+screen_in tracer = tracer.screen.items

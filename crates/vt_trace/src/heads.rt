@@ -1,7 +1,8 @@
 //! The first line of a traced line: what the log itself says.
 
 ghost use Rattle.std.specs.Prelude.{OnOk};
-ghost use Rattle.vt_trace.specs.Traces.{Gains, IsHead};
+ghost use Rattle.vt_trace.specs.Lines.{Gains};
+ghost use Rattle.vt_trace.specs.Traces.{IsHead};
 
 use crate::lines::put_line;
 use std::alloc::{AllocError, Global};

@@ -2,7 +2,8 @@
 
 ghost use Rattle.std.specs.Prelude.{◌≡◌, OnOk};
 ghost use Rattle.vt_logs.specs.Texts.{refusal_name};
-ghost use Rattle.vt_trace.specs.Traces.{AreOutputLines, Gains, IsOutputLine};
+ghost use Rattle.vt_trace.specs.Lines.{Gains};
+ghost use Rattle.vt_trace.specs.Traces.{AreOutputLines, IsOutputLine};
 
 use crate::heads::AddressedSentence;
 use crate::lines::put_line;

@@ -1,10 +1,14 @@
 //! The trace of a log.
 
-ghost use Rattle.std.specs.Prelude.{◌≡◌, ◌++◌, List, ℕ, IfOk, OnOk};
+ghost use Rattle.std.specs.Prelude.{◌≡◌, ◌++◌, List, ℕ, false, IfOk, OnOk};
 ghost use Rattle.vt_can.specs.lines.Readings.{FrameAt, parsed, reading_of};
 ghost use Rattle.vt_logs.specs.LineEffects.{input_line};
 ghost use Rattle.vt_server.specs.States.{state_of};
-ghost use Rattle.vt_trace.specs.Traces.{AreChanges, Gains, TracesInput, TracesLine};
+ghost use Rattle.vt_server.specs.Terminals.{State};
+ghost use Rattle.vt_server.specs.shown.Screens.{IsScreenOf, KeepsScreen, redraws};
+ghost use Rattle.vt_trace.specs.Changes.{changes};
+ghost use Rattle.vt_trace.specs.Lines.{Gains};
+ghost use Rattle.vt_trace.specs.Traces.{TracesInput, TracesLine, screen_in};
 
 use crate::changes::put_changes;
 use crate::heads::{ActionHead, FrameHead, put_head, skipped_words};
@@ -40,7 +44,9 @@ impl<'a> Tracer<'a> {
         alloc: Global,
         names: &'a Names,
         terminal: &Terminal,
-    ) -> Result<Tracer<'a>, AllocError> {
+    ) -> Result<Tracer<'a>, AllocError>
+        ensures { IfOk result (λ tracer. IsScreenOf (state_of terminal.now) (screen_in tracer)) }
+    {
         let mut screen = Vec::new(alloc);
         terminal.screen(&mut screen)?;
         Ok(Tracer {
@@ -64,7 +70,7 @@ impl<'a> Tracer<'a> {
         text: &mut Vec<u8>,
     ) -> Result<(), AllocError>
         ensures { OnOk result ((added : List ℕ) × (text.new.items ≡ text.old.items ++ added)
-            × TracesLine number (state_of terminal.old) (reading_of reading.now) (state_of terminal.new) added) }
+            × TracesLine number (state_of terminal.old) (reading_of reading.now) (state_of terminal.new) (screen_in self.old) (screen_in self.new) added) }
     {
         match reading {
             Ok(line) => self.trace_read(number, line, terminal, text),
@@ -80,7 +86,8 @@ impl<'a> Tracer<'a> {
         terminal: &mut Terminal,
         text: &mut Vec<u8>,
     ) -> Result<(), AllocError>
-        ensures { OnOk result (Gains (TracesLine number (state_of terminal.old) (Ok (parsed line.now)) (state_of terminal.new)) text.old.items text.new.items) }
+        ensures { OnOk result (Gains (TracesLine number (state_of terminal.old) (Ok (parsed line.now)) (state_of terminal.new) (screen_in self.old) (screen_in self.new))
+            text.old.items text.new.items) }
     {
         match line {
             Line::Frame { time, frame } => self.trace_frame(number, *time, frame, terminal, text),
@@ -107,7 +114,8 @@ impl<'a> Tracer<'a> {
         terminal: &mut Terminal,
         text: &mut Vec<u8>,
     ) -> Result<(), AllocError>
-        ensures { OnOk result (Gains (TracesLine number (state_of terminal.old) (Ok (FrameAt time frame.now)) (state_of terminal.new)) text.old.items text.new.items) }
+        ensures { OnOk result (Gains (TracesLine number (state_of terminal.old) (Ok (FrameAt time frame.now)) (state_of terminal.new) (screen_in self.old) (screen_in self.new))
+            text.old.items text.new.items) }
     {
         self.broken.clear();
         let whole = self.listener.hear(frame, &mut self.broken)?;
@@ -133,7 +141,8 @@ impl<'a> Tracer<'a> {
         terminal: &mut Terminal,
         text: &mut Vec<u8>,
     ) -> Result<(), AllocError>
-        ensures { OnOk result (Gains (TracesInput (state_of terminal.old) (input_line input.now) (state_of terminal.new)) text.old.items text.new.items) }
+        ensures { OnOk result (Gains (TracesInput (state_of terminal.old) (input_line input.now) (state_of terminal.new) (screen_in self.old) (screen_in self.new))
+            text.old.items text.new.items) }
     {
         self.outputs.clear();
         terminal.step(input, &mut self.outputs)?;
@@ -144,7 +153,9 @@ impl<'a> Tracer<'a> {
 
     /// Appends the changes of the screen since the last line.
     fn put_new_screen(&mut self, terminal: &Terminal, text: &mut Vec<u8>) -> Result<(), AllocError>
-        ensures { OnOk result (Gains AreChanges text.old.items text.new.items) }
+        ensures changes { OnOk result (text.new.items ≡ text.old.items ++ changes (screen_in self.old) (screen_in self.new)) }
+        ensures screen { OnOk result ((before : State) → (redraws terminal.now ≡ false → KeepsScreen before (state_of terminal.now))
+            → IsScreenOf before (screen_in self.old) → IsScreenOf (state_of terminal.now) (screen_in self.new)) }
     {
         if !terminal.redraws() {
             return Ok(());

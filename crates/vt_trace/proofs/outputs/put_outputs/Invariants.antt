@@ -1,5 +1,6 @@
 use Rattle.std.proofs.Common.{take}
-use Rattle.vt_trace.specs.Traces.{AreOutputLines, Gains}
+use Rattle.vt_trace.specs.Lines.{Gains}
+use Rattle.vt_trace.specs.Traces.{AreOutputLines}
 use Rattle.vt_trace.proofs.outputs.put_outputs.Given as goal
 
 abbrev pub invariant-loop-output : goal.invariant-loop-output
