@@ -1,3 +1,3 @@
-pub mod Pairs
+pub mod PairSets
 pub mod ShownMask
 pub mod ToldMasks

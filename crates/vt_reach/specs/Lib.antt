@@ -1,3 +1,4 @@
+pub mod PairSets
 pub mod Reaches
 pub mod Reports
 pub mod ShownMasks

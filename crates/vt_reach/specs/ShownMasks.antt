@@ -8,7 +8,7 @@ use Rattle.vt_reach.specs.declared.shown_masks.ShownMasks.{ShownMasks}
 
 -- a mask was shown of the set at an address
 abbrev pub HasShown : ShownMasks → ℕ → ℕ → Type 0
-HasShown shown address mask = Contains shown.masks.keys (address, mask)
+HasShown shown address mask = Contains shown.masks.pairs.keys (address, mask)
 
 -- a mask of the set at an address joins those that were shown: the others stay, and no other joins
 abbrev pub Adds : (ℕ → ℕ → Type 0) → (ℕ → ℕ → Type 0) → ℕ → ℕ → Type 0

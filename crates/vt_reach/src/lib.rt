@@ -11,6 +11,7 @@ mod answers;
 mod drawing;
 mod line_before;
 mod macros;
+mod pairs;
 mod reach;
 mod reached;
 mod report;

@@ -7,8 +7,8 @@ ghost use Rattle.vt_server.specs.shown.DisplayValues.{found_pool};
 ghost use Rattle.vt_server.specs.shown.ShownSet.{pool_shown};
 ghost use Rattle.vt_reach.specs.ShownMasks.{HasShown, Adds, AddsShown};
 
+use crate::pairs::Pairs;
 use std::alloc::{AllocError, Global};
-use std::collections::BTreeSet;
 use vt_machine::Live;
 use vt_objects::{ObjectId, SortedStore};
 use vt_server::Terminal;
@@ -16,7 +16,7 @@ use vt_server::Terminal;
 /// The masks that were shown, each with the address of its working set.
 #[derive(Drop)]
 pub(crate) struct ShownMasks {
-    masks: BTreeSet<(u8, u16)>,
+    masks: Pairs,
 }
 
 impl ShownMasks {
@@ -25,7 +25,7 @@ impl ShownMasks {
         ensures { (address mask : ℕ) → ¬ HasShown result address mask }
     {
         ShownMasks {
-            masks: BTreeSet::new(alloc),
+            masks: Pairs::new(alloc),
         }
     }
 
@@ -47,15 +47,14 @@ impl ShownMasks {
     fn put(&mut self, address: u8, mask: ObjectId) -> Result<(), AllocError>
         ensures { OnOk result (Adds (HasShown self.old) (HasShown self.new) address mask) }
     {
-        self.masks.insert((address, mask.raw()))?;
-        Ok(())
+        self.masks.put((address, mask.raw()))
     }
 
     /// Whether a mask was shown of the set at an address.
     pub(crate) fn contains(&self, address: u8, mask: ObjectId) -> bool
         ensures { IsTrue result ↔ HasShown self.now address mask }
     {
-        self.masks.contains(&(address, mask.raw()))
+        self.masks.contains((address, mask.raw()))
     }
 }
 

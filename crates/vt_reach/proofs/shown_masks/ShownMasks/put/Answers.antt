@@ -1,7 +1,9 @@
-use Rattle.vt_reach.proofs.Pairs.{joins_by_parts}
+use Rattle.std.proofs.lemmas.Result.{on_ok_weaker}
+use Rattle.vt_reach.proofs.PairSets.{by_parts}
 use Rattle.vt_reach.proofs.shown_masks.ShownMasks.put.Goals as goal
 
 pub returns : goal.returns
 returns c =
     rw (← c.raw.ensures)
-    (λ address mask. joins_by_parts c.args.self.now.masks c.insert.new.self (c.args.address, c.raw.result) c.in_ok-insert.ensures.updates (address, mask))
+    (on_ok_weaker c.put.result (λ joins address mask. by_parts c.args.self.now.masks.pairs c.put.new.self.pairs (c.args.address, c.raw.result) (address, mask) (joins (address, mask)))
+    c.put.ensures)
