@@ -1,45 +1,27 @@
 //! Frames that were recorded twice.
 
 use std::alloc::{AllocError, Global};
-use std::collections::BTreeMap;
-use std::mem;
+use std::collections::VecDeque;
 use vt_can::Frame;
 
 /// The most microseconds between a frame and the same frame on another interface.
 const MOST_APART: u64 = 1000;
 
-/// A frame as a key: its identifier, and its data.
-#[derive(Clone, Copy, PartialEq, Eq, PartialOrd, Ord)]
+/// A frame and the same frame on another interface stand among so many frames at most. A bus of 250 kbit/s carries at most four frames in
+/// a millisecond.
+const MOST_FRAMES: usize = 64;
+
+/// A frame and its time, in microseconds.
+#[derive(Drop)]
 struct Sighting {
-    id: u32,
-    length: usize,
-    bytes: [u8; 8],
+    time: u64,
+    frame: Frame,
 }
 
-impl Sighting {
-    fn of_frame(frame: &Frame) -> Sighting {
-        let data = frame.bytes.as_slice();
-        let mut bytes = [0; 8];
-        for (place, byte) in bytes.iter_mut().zip(data) {
-            *place = *byte;
-        }
-        Sighting {
-            id: frame.id.raw(),
-            length: data.len(),
-            bytes,
-        }
-    }
-}
-
-/// The frames of the last two milliseconds, with their latest times, and how many were seen again within one.
+/// The last frames, of a millisecond at most, and how many frames were seen twice.
 #[derive(Drop)]
 pub(crate) struct Sightings {
-    alloc: Global,
-    /// The least time of the recent frames.
-    began: u64,
-    recent: BTreeMap<Sighting, u64>,
-    /// Frames before the recent ones. What was seen before these is too old.
-    earlier: BTreeMap<Sighting, u64>,
+    recent: VecDeque<Sighting>,
     seen_twice: u64,
 }
 
@@ -47,33 +29,40 @@ impl Sightings {
     /// No frames. Does not allocate.
     pub(crate) fn new(alloc: Global) -> Sightings {
         Sightings {
-            alloc,
-            began: 0,
-            recent: BTreeMap::new(alloc),
-            earlier: BTreeMap::new(alloc),
+            recent: VecDeque::new(alloc),
             seen_twice: 0,
         }
     }
 
-    /// How many frames were the same as one at most a millisecond before them.
+    /// How many frames were the same as one of the last frames before them.
     pub(crate) fn seen_twice(&self) -> u64 {
         self.seen_twice
     }
 
     /// Takes a frame, whose time is no earlier than that of the frame before.
     pub(crate) fn take(&mut self, time: u64, frame: &Frame) -> Result<(), AllocError> {
-        if time.saturating_sub(self.began) > MOST_APART {
-            self.earlier = mem::replace(&mut self.recent, BTreeMap::new(self.alloc));
-            self.began = time;
-        }
-        let sighting = Sighting::of_frame(frame);
-        let before = match self.recent.insert(sighting, time)? {
-            Some(before) => Some(before),
-            None => self.earlier.get(&sighting).copied(),
-        };
-        if before.is_some_and(|before| time.saturating_sub(before) <= MOST_APART) {
+        self.forget_before(time);
+        if self.recent.iter().any(|other| is_same(&other.frame, frame)) {
             self.seen_twice = self.seen_twice.saturating_add(1);
         }
+        let frame = frame.clone()?;
+        self.recent.push_back(Sighting { time, frame })?;
         Ok(())
     }
+
+    /// Removes the frames that are too old for a frame at a time, and makes room for it.
+    fn forget_before(&mut self, time: u64) {
+        while let Some(oldest) = self.recent.front() {
+            let is_recent = time.saturating_sub(oldest.time) <= MOST_APART;
+            if is_recent && self.recent.len() < MOST_FRAMES {
+                break;
+            }
+            let _forgotten = self.recent.pop_front();
+        }
+    }
+}
+
+/// Whether two frames have the same identifier and the same data.
+fn is_same(frame: &Frame, other: &Frame) -> bool {
+    frame.id == other.id && frame.bytes.as_slice() == other.bytes.as_slice()
 }

@@ -17,7 +17,7 @@ use vt_can::Frame;
 
 /// What the frames of a log come to.
 ///
-/// The memory grows with the number of sources and of open transfers, and with the frames of two milliseconds.
+/// The memory grows with the number of sources and of open transfers, and of these with the packets that came.
 #[derive(Drop)]
 pub struct Traffic {
     sources: Sources,
