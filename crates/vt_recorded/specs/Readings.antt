@@ -2,7 +2,7 @@
 use Rattle.std.specs.Prelude.{◌≡◌, Bool, true, false, ℕ, List, if◌then◌else◌, is_ok, Result, Ok, Err}
 use Rattle.vt_can.specs.declared.lines.line.LineFault.{LineFault}
 use Rattle.vt_can.specs.declared.lines.line.LineFault.TheVariants.{Time, Shape, Hex, Length, Operator}
-use Rattle.vt_can.specs.lines.Line.{ReadsAs}
+use Rattle.vt_can.specs.lines.Line.{IsContent, ReadsAs}
 use Rattle.vt_can.specs.lines.Readings.{ParsedLine}
 use Rattle.vt_recorded.specs.PlainForms.{plain_form}
 
@@ -15,8 +15,8 @@ is_of_form (Err Hex) = true
 is_of_form (Err Length) = true
 is_of_form (Err Operator) = true
 
--- The reading of a line as it stands; where it is not of that form, the reading of its plain form, if this has no fault.
+-- The reading of a line as it stands; where it is not of that form, the reading of the plain form of its content, if this has no fault.
 pub data IsReadingOf (line : List ℕ) : Result ParsedLine LineFault → Type 0 where
   as_it_stands : (reading : Result ParsedLine LineFault) → ReadsAs line reading → is_of_form reading ≡ true → IsReadingOf line reading
-  in_plain_form : (first second : Result ParsedLine LineFault) → ReadsAs line first → is_of_form first ≡ false → ReadsAs (plain_form line) second
-      → IsReadingOf line (if is_ok second then second else first)
+  in_plain_form : (content : List ℕ) (first second : Result ParsedLine LineFault) → IsContent line content → ReadsAs line first → is_of_form first ≡ false
+      → ReadsAs (plain_form content) second → IsReadingOf line (if is_ok second then second else first)

@@ -1,6 +1,7 @@
 //! Reads lines.
 
 ghost use Rattle.std.specs.Prelude.{◌≡◌, IfOk};
+ghost use Rattle.vt_can.specs.lines.Line.{IsContent};
 ghost use Rattle.vt_can.specs.lines.Readings.{reading_of};
 ghost use Rattle.vt_recorded.specs.Readings.{is_of_form, IsReadingOf};
 
@@ -11,7 +12,6 @@ use vt_can::{Line, LineFault, parse_line};
 /// Reads lines that some recorder wrote.
 #[derive(Drop)]
 pub struct Reader {
-    /// The plain form of the last line that needed one.
     plain: Vec<u8>,
 }
 
@@ -23,6 +23,11 @@ impl Reader {
         }
     }
 
+    /// The plain form of the last line that needed one.
+    pub fn plain(&self) -> &[u8] {
+        &self.plain
+    }
+
     /// Reads a line, given without its newline. A fault is that of the line as it stands.
     pub fn read<'a>(&'a mut self, line: &'a [u8]) -> Result<Result<Line<'a>, LineFault>, AllocError>
         ensures { IfOk result (λ reading. IsReadingOf line.now (reading_of reading)) }
@@ -32,11 +37,21 @@ impl Reader {
             return Ok(reading);
         }
         self.plain.clear();
-        put_plain_form(line, &mut self.plain)?;
+        put_plain_form(content_of(line), &mut self.plain)?;
         match parse_line(&self.plain) {
             Ok(plain) => Ok(Ok(plain)),
             Err(_) => Ok(reading),
         }
+    }
+}
+
+/// A line without one carriage return at its end.
+fn content_of(line: &[u8]) -> &[u8]
+    ensures { IsContent line.now result.now }
+{
+    match line {
+        [content @ .., b'\r'] => content,
+        _ => line,
     }
 }
 

@@ -11,14 +11,16 @@ returns-then-is_of_form c =
 
 pub returns-in-Ok : goal.returns-in-Ok
 returns-in-Ok c =
-    let text : c.deref.result.now ≡ plain_form c.args.line.now =
-    c.deref.ensures.value ∙ c.in_ok-put_plain_form.ensures ∙ ap (λ xs. xs ++ plain_form c.args.line.now) c.clear.ensures.items in
-    in_plain_form (reading_of c.parse_line-reading.result) (Ok (parsed c.in-Ok.plain)) c.parse_line-reading.ensures
+    let content = c.content_of.result.now in
+    let text : c.deref.result.now ≡ plain_form content =
+    c.deref.ensures.value ∙ c.in_ok-put_plain_form.ensures ∙ ap (λ xs. xs ++ plain_form content) c.clear.ensures.items in
+    in_plain_form content (reading_of c.parse_line-reading.result) (Ok (parsed c.in-Ok.plain)) c.content_of.ensures c.parse_line-reading.ensures
     (sym c.is_of_form.ensures ∙ c.if-is_of_form.false) (subst (λ text. ReadsAs text (Ok (parsed c.in-Ok.plain))) text c.in-Ok.ensures)
 
 pub returns-in-Err : goal.returns-in-Err
 returns-in-Err c =
-    let text : c.deref.result.now ≡ plain_form c.args.line.now =
-    c.deref.ensures.value ∙ c.in_ok-put_plain_form.ensures ∙ ap (λ xs. xs ++ plain_form c.args.line.now) c.clear.ensures.items in
-    in_plain_form (reading_of c.parse_line-reading.result) (Err c.in-Err.field-0) c.parse_line-reading.ensures
+    let content = c.content_of.result.now in
+    let text : c.deref.result.now ≡ plain_form content =
+    c.deref.ensures.value ∙ c.in_ok-put_plain_form.ensures ∙ ap (λ xs. xs ++ plain_form content) c.clear.ensures.items in
+    in_plain_form content (reading_of c.parse_line-reading.result) (Err c.in-Err.field-0) c.content_of.ensures c.parse_line-reading.ensures
     (sym c.is_of_form.ensures ∙ c.if-is_of_form.false) (subst (λ text. ReadsAs text (Err c.in-Err.field-0)) text c.in-Err.ensures)

@@ -1,6 +1,6 @@
 use Rattle.std.proofs.Common.{rules}
 use Rattle.vt_recorded.proofs.Forms.{word_is, after_word_is}
-use Rattle.vt_recorded.proofs.plain.next_word.Goals as goal
+use Rattle.vt_recorded.proofs.words.next_word.Goals as goal
 
 pub returns-clause-word : goal.returns-clause-word
 returns-clause-word c = search (rules, word_is)
