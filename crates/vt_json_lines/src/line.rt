@@ -1,8 +1,9 @@
 //! A line of JSON.
 
-ghost use Rattle.std.specs.Prelude.{◌≡◌, [], OnErr, OnOk};
-ghost use Rattle.serde_json.specs.Data.{number, unsigned, put as with_member};
+ghost use Rattle.std.specs.Prelude.{◌≡◌, None, [], OnErr, OnOk};
+ghost use Rattle.serde_json.specs.Data.{null, number, unsigned, put as with_member};
 ghost use Rattle.serde_json.specs.View.{members_view, view};
+ghost use Rattle.vt_json_lines.specs.Numbers.{number_or_null};
 
 use serde_json::{Map, Value};
 use std::alloc::{AllocError, Global};
@@ -50,8 +51,35 @@ impl JsonLine {
     /// Adds a member with a number. After `OutOfMemory` the object is unchanged.
     pub fn put_number(&mut self, name: &str, value: u64) -> Result<(), AllocError>
         ensures ok { OnOk result (members_view self.new.members.entries ≡ with_member name.now (number (unsigned value)) (members_view self.old.members.entries)) }
+        ensures err { OnErr result (self.new.members.entries ≡ self.old.members.entries) }
     {
         self.put(name, Value::from(value))
+    }
+
+    /// Adds a member with a text, or `null` if there is none. After `OutOfMemory` the object is unchanged.
+    pub fn put_text_if<T: fmt::Display + Drop>(
+        &mut self,
+        name: &str,
+        text: Option<T>,
+    ) -> Result<(), AllocError>
+        ensures none { text ≡ None → OnOk result (members_view self.new.members.entries ≡ with_member name.now null (members_view self.old.members.entries)) }
+        ensures err { OnErr result (self.new.members.entries ≡ self.old.members.entries) }
+    {
+        match text {
+            Some(text) => self.put_text(name, text),
+            None => self.put(name, Value::Null),
+        }
+    }
+
+    /// Adds a member with a number, or `null` if there is none. After `OutOfMemory` the object is unchanged.
+    pub fn put_number_if(&mut self, name: &str, value: Option<u64>) -> Result<(), AllocError>
+        ensures ok { OnOk result (members_view self.new.members.entries ≡ with_member name.now (number_or_null value) (members_view self.old.members.entries)) }
+        ensures err { OnErr result (self.new.members.entries ≡ self.old.members.entries) }
+    {
+        match value {
+            Some(value) => self.put_number(name, value),
+            None => self.put(name, Value::Null),
+        }
     }
 
     /// Adds a member with an address in two hex digits. After `OutOfMemory` the object is unchanged.

@@ -1,0 +1,2 @@
+-- The definitions used in the contracts of vt_json_lines.
+pub mod Numbers
