@@ -55,7 +55,7 @@ impl Write for Console<'_> {
 
 impl Messages for Console<'_> {
     // The text is shorter than any line of a report, and the next text begins where it did.
-    fn show_progress(&mut self, line: u64, lines: u64) {
+    fn show_progress(&mut self, taken: usize, bytes: usize) {
         let Some(last) = self.last else {
             return;
         };
@@ -66,7 +66,7 @@ impl Messages for Console<'_> {
             return;
         }
         self.last = Instant::now(self.rt).ok();
-        let percent = line.saturating_mul(100).checked_div(lines).unwrap_or(0);
+        let percent = taken.saturating_mul(100).checked_div(bytes).unwrap_or(0);
         let _ = write!(self.errors, "{percent:3} %\r");
         self.has_shown = true;
     }

@@ -1,13 +1,13 @@
 //! The subcommand `compare`.
 
 use crate::told::Telling;
-use std::alloc::Global;
+use std::alloc::{AllocError, Global};
 use std::io::{self, Write};
 use vt_answers::{Comparison, Difference};
-use vt_files::Open;
-use vt_log_replay::{Messages, Replay, Status, line_ends};
-use vt_log_words::CompareOptions;
-use vt_recorded::Reader;
+use vt_can::{Line, LineFault};
+use vt_files::{Open, Program};
+use vt_log_replay::{LogReader, Messages, Replay, Status, line_ends};
+use vt_log_words::{CompareOptions, ReplayOptions};
 use vt_server::Terminal;
 
 /// The microseconds of a millisecond.
@@ -24,17 +24,15 @@ pub fn run_compare<F: Open, W: Write, E: Messages>(
     let Some(replay) = Replay::read(alloc, &options.replay, files, errors)? else {
         return Ok(Status::NotJudged);
     };
-    if !replay.tell_lines(files, errors) {
+    if !replay.recorded.has_frames {
+        replay.tell_no_frame(files, errors);
         return Ok(Status::NotJudged);
     }
+    let mut reader = replay.reader();
     if !replay.recorded.has_messages {
-        let _ = writeln!(
-            errors,
-            "{}: {}: the log has no message of a terminal at {:02X} to compare with; --own gives another address",
-            files.name(),
-            options.replay.log,
-            options.replay.terminal.own
-        );
+        replay.read_lines(&mut reader)?;
+        replay.tell_lines(&reader, files, errors);
+        tell_no_message(&options.replay, files, errors);
         return Ok(Status::NotJudged);
     }
     let telling = Telling {
@@ -42,25 +40,22 @@ pub fn run_compare<F: Open, W: Write, E: Messages>(
         names: &replay.names,
         format: options.format,
     };
-    for load in replay.recorded.loads.iter() {
-        if !replay.has_pool_of(load.source) {
-            telling.put_load(*load, out)?;
-        }
-    }
     let mut run = Run::new(alloc, options.wait, replay.terminal()?);
-    let mut status = Status::Clean;
-    let mut cursor = replay.cursor();
-    for end in line_ends(replay.text()) {
-        run.take_line(&replay, cursor.next_line(end))?;
-        cursor.tell_progress(errors);
-        status = status.and(run.put_differences(&telling, out)?);
-    }
-    run.comparison.end(&mut run.differences)?;
-    status = status.and(run.put_differences(&telling, out)?);
-    let tally = run.comparison.tally;
-    telling.put_tally(tally, out)?;
+    let status = run.compare(&replay, &mut reader, &telling, out, errors)?;
+    replay.tell_lines(&reader, files, errors);
     replay.tell_loss(&run.terminal, files, errors);
     Ok(status)
+}
+
+/// Says on `errors` that the recorded terminal has said nothing to an implement.
+fn tell_no_message<F: Program, E: Write>(options: &ReplayOptions<'_>, files: &F, errors: &mut E) {
+    let _ = writeln!(
+        errors,
+        "{}: {}: the log has no message of a terminal at {:02X} to compare with; --own gives another address",
+        files.name(),
+        options.log,
+        options.terminal.own
+    );
 }
 
 /// A comparison under way.
@@ -68,7 +63,6 @@ pub fn run_compare<F: Open, W: Write, E: Messages>(
 struct Run {
     terminal: Terminal,
     comparison: Comparison,
-    reader: Reader,
     differences: Vec<Difference>,
 }
 
@@ -79,21 +73,45 @@ impl Run {
         Run {
             comparison: Comparison::new(alloc, wait, &terminal),
             terminal,
-            reader: Reader::new(alloc),
             differences: Vec::new(alloc),
         }
     }
 
-    /// Takes the next line of a log.
-    fn take_line(&mut self, replay: &Replay<'_>, line: &[u8]) -> io::Result<()> {
+    /// Writes the stored pools that a log lacks, the differences of its lines, and their counts.
+    fn compare<W: Write, E: Messages>(
+        &mut self,
+        replay: &Replay<'_>,
+        reader: &mut LogReader<'_>,
+        telling: &Telling<'_>,
+        out: &mut W,
+        errors: &mut E,
+    ) -> io::Result<Status> {
+        for load in replay.recorded.loads.iter() {
+            if !replay.has_pool_of(load.source) {
+                telling.put_load(*load, out)?;
+            }
+        }
+        let mut status = Status::Clean;
+        let mut cursor = replay.cursor();
+        for end in line_ends(replay.text()) {
+            self.take_line(reader.read(cursor.next_line(end))?)?;
+            cursor.tell_progress(errors);
+            status = status.and(self.put_differences(telling, out)?);
+        }
+        self.comparison.end(&mut self.differences)?;
+        status = status.and(self.put_differences(telling, out)?);
+        telling.put_tally(self.comparison.tally, out)?;
+        Ok(status)
+    }
+
+    /// Takes the next line of a log, as it was read.
+    fn take_line(&mut self, reading: Result<Line<'_>, LineFault>) -> Result<(), AllocError> {
         // A log has fewer lines than there are numbers.
         let Some(number) = self.comparison.line.checked_add(1) else {
             return Ok(());
         };
-        let reading = replay.read_line(&mut self.reader, line)?;
         self.comparison
-            .take_line(number, reading, &mut self.terminal, &mut self.differences)?;
-        Ok(())
+            .take_line(number, reading, &mut self.terminal, &mut self.differences)
     }
 
     /// Writes the differences that are certain, and removes them.

@@ -5,7 +5,7 @@ use std::fmt;
 use std::io::{self, Write};
 use vt_answers::{Difference, Said, Tally, Topic};
 use vt_findings_text::Names;
-use vt_frames_text::{Destination, error_of, function_name};
+use vt_frames_text::{Destination, PoolRequest, error_of, function_name};
 use vt_json_lines::JsonLine;
 use vt_log_replay::Load;
 use vt_log_words::Format;
@@ -49,7 +49,7 @@ impl Telling<'_> {
         }
     }
 
-    /// Writes a difference as an object of JSON. What is not there is an empty text.
+    /// Writes a difference as an object of JSON.
     fn put_fields<W: Write>(
         &self,
         difference: &Difference,
@@ -59,31 +59,37 @@ impl Telling<'_> {
     ) -> io::Result<()> {
         let mut line = JsonLine::new(self.alloc);
         line.put_address("destination", topic.destination)?;
-        line.put_text("error", ErrorByte { said: sides.ours })?;
+        line.put_text_if("error", sides.ours.and_then(error_in))?;
         line.put_address("function", topic.function)?;
         line.put_text("kind", kind_of(difference))?;
-        line.put_number("line", sides.ours.map_or(0, |said| said.line))?;
-        line.put_text("name", function_name(topic.function).unwrap_or(""))?;
-        line.put_text("object", ObjectNumber { id: topic.object })?;
-        line.put_text("ours", Bytes { said: sides.ours })?;
-        line.put_text("recorded", Bytes { said: sides.theirs })?;
-        line.put_text("recorded_error", ErrorByte { said: sides.theirs })?;
-        line.put_number("recorded_line", sides.theirs.map_or(0, |said| said.line))?;
+        line.put_number_if("line", sides.ours.map(|said| said.line))?;
+        line.put_text_if("name", function_name(topic.function))?;
+        line.put_number_if("object", topic.object.map(u64::from))?;
+        line.put_text_if("ours", sides.ours.map(|said| Bytes { said }))?;
+        line.put_text_if("recorded", sides.theirs.map(|said| Bytes { said }))?;
+        line.put_text_if("recorded_error", sides.theirs.and_then(error_in))?;
+        line.put_number_if("recorded_line", sides.theirs.map(|said| said.line))?;
         line.write(out)
     }
 
     /// Writes the line of a node that wants a stored pool, which is not in the log.
     pub(crate) fn put_load<W: Write>(&self, load: Load, out: &mut W) -> io::Result<()> {
-        let Load { line, source } = load;
+        let Load {
+            line,
+            source,
+            label,
+        } = load;
+        let request = PoolRequest::Load(&label);
         if self.format == Format::Text {
             return writeln!(
                 out,
-                "line {line}: {source:02X} loads a stored pool; if the recorded terminal had it, it is not in this log: give it by --pool FILE --owner {source:02X}"
+                "line {line}: {source:02X} {request}; if the recorded terminal had it, it is not in this log: give it by --pool FILE --owner {source:02X}"
             );
         }
         let mut object = JsonLine::new(self.alloc);
         object.put_text("kind", "load")?;
         object.put_number("line", line)?;
+        object.put_text("request", request)?;
         object.put_address("source", source)?;
         object.write(out)
     }
@@ -195,57 +201,40 @@ impl fmt::Display for Message<'_> {
         let Some(said) = self.said else {
             return write!(f, "none");
         };
-        write!(f, "{}", Bytes { said: self.said })?;
-        match error_of(said.bytes.as_slice()) {
-            Some(error) => write!(f, " error {error:02X}"),
+        write!(f, "{}", Bytes { said })?;
+        match error_in(said) {
+            Some(error) => write!(f, " error {error}"),
             None => Ok(()),
         }
     }
 }
 
-/// The bytes of a message in hex; nothing for none.
+/// The bytes of a message in hex.
 #[derive(Clone, Copy, Drop)]
 struct Bytes<'a> {
-    said: Option<&'a Said>,
+    said: &'a Said,
 }
 
 impl fmt::Display for Bytes<'_> {
     fn fmt<W: fmt::Write>(&self, f: &mut fmt::Formatter<W>) -> fmt::Result {
-        if let Some(said) = self.said {
-            for byte in said.bytes.iter() {
-                write!(f, "{byte:02X}")?;
-            }
+        for byte in self.said.bytes.iter() {
+            write!(f, "{byte:02X}")?;
         }
         Ok(())
     }
 }
 
-/// The error byte of a message in hex; nothing for a message without one.
-#[derive(Clone, Copy, Drop)]
-struct ErrorByte<'a> {
-    said: Option<&'a Said>,
-}
+/// An error byte, in hex.
+#[derive(Clone, Copy)]
+struct ErrorByte(u8);
 
-impl fmt::Display for ErrorByte<'_> {
+impl fmt::Display for ErrorByte {
     fn fmt<W: fmt::Write>(&self, f: &mut fmt::Formatter<W>) -> fmt::Result {
-        match self.said.and_then(|said| error_of(said.bytes.as_slice())) {
-            Some(error) => write!(f, "{error:02X}"),
-            None => Ok(()),
-        }
+        write!(f, "{:02X}", self.0)
     }
 }
 
-/// The ID of an object; nothing for none.
-#[derive(Clone, Copy, Drop)]
-struct ObjectNumber {
-    id: Option<u16>,
-}
-
-impl fmt::Display for ObjectNumber {
-    fn fmt<W: fmt::Write>(&self, f: &mut fmt::Formatter<W>) -> fmt::Result {
-        match self.id {
-            Some(id) => write!(f, "{id}"),
-            None => Ok(()),
-        }
-    }
+/// The error byte of a message, if it has one.
+fn error_in(said: &Said) -> Option<ErrorByte> {
+    error_of(said.bytes.as_slice()).map(ErrorByte)
 }

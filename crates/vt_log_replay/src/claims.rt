@@ -1,13 +1,14 @@
 //! What a log tells of the recorded terminal before it is replayed.
 
-use crate::lines::{LineCursor, interface_in, is_of_interface, line_ends};
+use crate::lines::{LineCursor, line_ends};
 use byteorder::{ByteOrder, LittleEndian};
+use memchr::memchr;
 use std::alloc::{AllocError, Global};
 use vt_can::assigned::{ADDRESS_CLAIMED, ECU_TO_VT, GLOBAL_ADDRESS, VT_TO_ECU};
 use vt_can::{Frame, Line};
 use vt_frames_text::PoolRequest;
 use vt_names::Name;
-use vt_recorded::Reader;
+use vt_recorded::{Reader, is_of_interface};
 
 /// The function of a virtual terminal in a NAME (ISO 11783-5).
 const VIRTUAL_TERMINAL: u8 = 29;
@@ -19,6 +20,8 @@ pub struct Load {
     pub line: u64,
     /// The address of the node.
     pub source: u8,
+    /// The label of the first pool that it wants.
+    pub label: [u8; 7],
 }
 
 /// What a log tells of the recorded terminal.
@@ -28,18 +31,14 @@ pub struct Recorded {
     pub name: Option<u64>,
     /// The nodes that want a stored pool, in the order of their first lines.
     pub loads: Vec<Load>,
-    /// The number of frames.
-    pub frames: u64,
-    /// The number of lines with a fault.
-    pub faults: u64,
+    /// Whether there is a frame.
+    pub has_frames: bool,
     /// Whether a frame of the terminal to an implement is in the log.
     pub has_messages: bool,
-    /// Whether frames of several interfaces are taken.
-    pub has_interfaces: bool,
 }
 
 impl Recorded {
-    /// What the lines of a log tell of the terminal at an address.
+    /// What the lines of a log tell of the terminal at an address. Reads only the lines that can tell something.
     pub fn in_log(
         alloc: Global,
         log: &[u8],
@@ -49,36 +48,43 @@ impl Recorded {
         let mut recorded = Recorded {
             name: None,
             loads: Vec::new(alloc),
-            frames: 0,
-            faults: 0,
+            has_frames: false,
             has_messages: false,
-            has_interfaces: false,
         };
-        let mut first = None;
         let mut reader = Reader::new(alloc);
         let mut cursor = LineCursor::new(log);
         for end in line_ends(log) {
             let line = cursor.next_line(end);
-            let number = cursor.number();
-            if !is_of_interface(line, interface) {
+            if !recorded.is_told_by(line) || !is_of_interface(line, interface) {
                 continue;
             }
-            match reader.read(line)? {
-                Ok(Line::Frame { frame, .. }) => {
-                    let name = interface_in(line);
-                    recorded.has_interfaces |= name != *first.get_or_insert(name);
-                    recorded.note(number, &frame, own)?;
-                }
-                Ok(_) => {}
-                Err(_) => recorded.faults = recorded.faults.saturating_add(1),
+            if let Ok(Line::Frame { frame, .. }) = reader.read(line)? {
+                recorded.has_frames = true;
+                recorded.note(cursor.number(), &frame, own)?;
             }
         }
         Ok(recorded)
     }
 
+    /// Whether a line has to be read. A frame as `candump -L` writes it has not if it is no claim, no request to load a stored pool, and no
+    /// message of a terminal, or if a message of the recorded terminal is noted already.
+    fn is_told_by(&self, line: &[u8]) -> bool {
+        if !self.has_frames {
+            return true;
+        }
+        let Some((id, data)) = frame_in(line) else {
+            return true;
+        };
+        match id {
+            [_, _, b'E' | b'e', b'E' | b'e', ..] => true,
+            [_, _, b'E' | b'e', b'6', ..] => !self.has_messages,
+            [_, _, b'E' | b'e', b'7', ..] => matches!(data, [b'D' | b'd', b'1', ..]),
+            _ => false,
+        }
+    }
+
     /// Notes what the frame of a line tells.
     fn note(&mut self, line: u64, frame: &Frame, own: u8) -> Result<(), AllocError> {
-        self.frames = self.frames.saturating_add(1);
         let source = frame.id.source();
         let destination = frame.id.destination();
         let bytes = frame.bytes.as_slice();
@@ -114,10 +120,18 @@ impl Recorded {
 
     /// Notes a message to the terminal that wants a stored pool.
     fn note_message(&mut self, line: u64, source: u8, message: &[u8]) -> Result<(), AllocError> {
-        if let Some(PoolRequest::Load(_)) = PoolRequest::in_message(message) {
-            if !self.loads.iter().any(|load| load.source == source) {
-                self.loads.push(Load { line, source })?;
-            }
+        let Some(PoolRequest::Load(label)) = PoolRequest::in_message(message) else {
+            return Ok(());
+        };
+        let Ok(label) = <[u8; 7]>::try_from(label) else {
+            return Ok(());
+        };
+        if !self.loads.iter().any(|load| load.source == source) {
+            self.loads.push(Load {
+                line,
+                source,
+                label,
+            })?;
         }
         Ok(())
     }
@@ -126,4 +140,21 @@ impl Recorded {
 /// Whether a NAME is that of a virtual terminal.
 fn is_terminal(name: u64) -> bool {
     Name::from_raw(name).function() == VIRTUAL_TERMINAL
+}
+
+/// The eight digits of an ID and the text behind `#` in a line `(TIME) INTERFACE ID#DATA` with single spaces.
+fn frame_in(line: &[u8]) -> Option<(&[u8], &[u8])> {
+    let [b'(', ..] = line else {
+        return None;
+    };
+    let after_time = line.get(memchr(b' ', line)?.checked_add(1)?..)?;
+    let interface = memchr(b' ', after_time)?;
+    if interface == 0 {
+        return None;
+    }
+    let frame = after_time.get(interface.checked_add(1)?..)?;
+    match frame.split_at_checked(8)? {
+        (id, [b'#', data @ ..]) => Some((id, data)),
+        _ => None,
+    }
 }

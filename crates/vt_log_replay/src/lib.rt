@@ -1,8 +1,9 @@
 //! What the subcommands of `segyolant_log` need that read a log or replay it.
 //!
 //! - A `Replay` is a log with all that its replay needs: `Replay::terminal` is the terminal before the first line, `Replay::text` has
-//!   the lines, and `Replay::read_line` and `input_of` give the input of a line. `Recorded` is what the log tells of the recorded terminal.
-//! - `read_set` and `new_terminal` begin a replay. `text_of`, `line_ends` and a `LineCursor` give the lines of a log, and `is_of_interface` chooses them.
+//!   the lines, a `LogReader` reads them, and `input_of` gives the input of a line. `Recorded` is what the log tells of the recorded
+//!   terminal.
+//! - `read_set` and `new_terminal` begin a replay. `text_of`, `line_ends` and a `LineCursor` give the lines of a log.
 //! - `Messages` is where a run says what went wrong and how far it has come, and a `Status` is how it ended.
 //!
 //! docs/LOGS.md has the subcommands.
@@ -11,13 +12,15 @@
 mod claims;
 mod lines;
 mod messages;
+mod reader;
 mod replay;
 mod start;
 mod status;
 
 pub use claims::{Load, Recorded};
-pub use lines::{LineCursor, is_of_interface, line_ends, text_of};
+pub use lines::{LineCursor, line_ends, text_of};
 pub use messages::Messages;
+pub use reader::LogReader;
 pub use replay::{Replay, input_of, tell_no_frame};
 pub use start::{LoadedSet, new_terminal, read_set};
 pub use status::Status;

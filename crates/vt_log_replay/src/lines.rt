@@ -15,26 +15,6 @@ pub fn text_of(log: &[u8]) -> &[u8] {
     }
 }
 
-/// The name of the interface in a line, which stands behind a time. Spaces at the front of the line do not count.
-pub(crate) fn interface_in(line: &[u8]) -> Option<&[u8]> {
-    let mut words = line
-        .split(|byte| *byte == b' ')
-        .filter(|word| !word.is_empty());
-    match words.next() {
-        Some([b'(', ..]) => words.next(),
-        _ => None,
-    }
-}
-
-/// Whether a line is taken where only the frames of an interface are: a line that names no interface is, and so is each line if no
-/// interface is wanted.
-pub fn is_of_interface(line: &[u8], interface: Option<&str>) -> bool {
-    let Some(interface) = interface else {
-        return true;
-    };
-    interface_in(line).is_none_or(|name| name == interface.as_bytes())
-}
-
 /// The ends of the lines of a text: its newlines, and its own end.
 pub fn line_ends(text: &[u8]) -> Chain<Memchr<'_>, Once<usize>> {
     memchr_iter(b'\n', text).chain(once(text.len()))
@@ -46,18 +26,15 @@ pub struct LineCursor<'a> {
     text: &'a [u8],
     start: usize,
     line: u64,
-    lines: u64,
 }
 
 impl<'a> LineCursor<'a> {
     /// A cursor before the first line of a text.
     pub fn new(text: &'a [u8]) -> LineCursor<'a> {
-        let newlines = memchr_iter(b'\n', text).count() as u64;
         LineCursor {
             text,
             start: 0,
             line: 0,
-            lines: newlines.saturating_add(1),
         }
     }
 
@@ -77,7 +54,7 @@ impl<'a> LineCursor<'a> {
     /// Tells how far the run has come, at some of the lines.
     pub fn tell_progress<E: Messages>(&self, errors: &mut E) {
         if self.line % LINES_BETWEEN == 0 {
-            errors.show_progress(self.line, self.lines);
+            errors.show_progress(self.start, self.text.len());
         }
     }
 }

@@ -1,15 +1,15 @@
 //! A log with all that its replay needs.
 
 use crate::claims::Recorded;
-use crate::lines::{LineCursor, is_of_interface, text_of};
+use crate::lines::{LineCursor, line_ends, text_of};
+use crate::reader::LogReader;
 use crate::start::{LoadedSet, new_terminal, read_set};
-use std::alloc::Global;
+use std::alloc::{AllocError, Global};
 use std::io::{self, Write};
 use vt_can::{Line, LineFault};
-use vt_files::{Open, read_file, read_names};
+use vt_files::{Open, Program, read_file, read_names};
 use vt_findings_text::Names;
 use vt_log_words::{ReplayOptions, TerminalOptions};
-use vt_recorded::Reader;
 use vt_server::{Input, Terminal};
 
 /// A log with all that its replay needs.
@@ -69,41 +69,23 @@ impl<'a> Replay<'a> {
         self.set.as_ref().is_some_and(|set| set.owner == source)
     }
 
-    /// Returns whether there is a frame to replay. If there is none, `errors` says so.
-    pub fn has_frames<F: Open, E: Write>(&self, files: &F, errors: &mut E) -> bool {
-        let has_frames = self.recorded.frames > 0;
-        if !has_frames {
-            tell_no_frame(self.path, files, errors);
-        }
-        has_frames
+    /// Says on `errors` that there is no frame to replay.
+    pub fn tell_no_frame<F: Program, E: Write>(&self, files: &F, errors: &mut E) {
+        tell_no_frame(self.path, files, errors);
     }
 
-    /// Says on `errors` that lines are faulty, if some are, and that there are several interfaces, if there are. Returns whether there is a
-    /// frame to replay. If there is none, `errors` says so.
-    pub fn tell_lines<F: Open, E: Write>(&self, files: &F, errors: &mut E) -> bool {
-        if !self.has_frames(files, errors) {
-            return false;
-        }
-        let faults = self.recorded.faults;
-        let program = files.name();
-        let path = self.path;
-        if faults > 0 {
-            let _ = writeln!(
-                errors,
-                "{program}: {path}: {faults} of its lines are faulty; trace shows each with its fault"
-            );
-        }
-        if self.recorded.has_interfaces {
-            let _ = writeln!(
-                errors,
-                "{program}: {path}: frames of several interfaces are taken as those of one bus; if they are the same bus, --interface takes one of them"
-            );
-        }
-        true
+    /// Says on `errors` how many of the lines were faulty, and whether there are several interfaces.
+    pub fn tell_lines<F: Program, E: Write>(
+        &self,
+        reader: &LogReader<'_>,
+        files: &F,
+        errors: &mut E,
+    ) {
+        reader.tell_lines(self.path, files, errors);
     }
 
     /// Says on `errors` that the terminal has lost its address, if it has.
-    pub fn tell_loss<F: Open, E: Write>(&self, terminal: &Terminal, files: &F, errors: &mut E) {
+    pub fn tell_loss<F: Program, E: Write>(&self, terminal: &Terminal, files: &F, errors: &mut E) {
         if terminal.is_lost() {
             let _ = writeln!(
                 errors,
@@ -125,22 +107,23 @@ impl<'a> Replay<'a> {
         LineCursor::new(self.text())
     }
 
-    /// Reads a line. One of another interface counts as a comment.
-    pub fn read_line<'b>(
-        &self,
-        reader: &'b mut Reader,
-        line: &'b [u8],
-    ) -> io::Result<Result<Line<'b>, LineFault>> {
-        if is_of_interface(line, self.interface) {
-            Ok(reader.read(line)?)
-        } else {
-            Ok(Ok(Line::Comment))
+    /// A reader before the first line of the log.
+    pub fn reader(&self) -> LogReader<'_> {
+        LogReader::new(self.alloc, self.interface)
+    }
+
+    /// Reads all lines, and does nothing else with them.
+    pub fn read_lines(&self, reader: &mut LogReader<'_>) -> Result<(), AllocError> {
+        let mut cursor = self.cursor();
+        for end in line_ends(self.text()) {
+            let _reading = reader.read(cursor.next_line(end))?;
         }
+        Ok(())
     }
 }
 
 /// Says on `errors` that a log has no frame.
-pub fn tell_no_frame<F: Open, E: Write>(path: &str, files: &F, errors: &mut E) {
+pub fn tell_no_frame<F: Program, E: Write>(path: &str, files: &F, errors: &mut E) {
     let _ = writeln!(
         errors,
         "{}: {path}: no frame could be read; a log is wanted, as candump -L writes it, and --interface names one of its interfaces",

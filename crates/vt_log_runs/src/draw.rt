@@ -8,7 +8,6 @@ use vt_files::{Open, Save, make_folder, save_file};
 use vt_log_replay::{Messages, Replay, Status, input_of, line_ends};
 use vt_log_words::DrawOptions;
 use vt_needs::TERMINAL_SIZES;
-use vt_recorded::Reader;
 use vt_server::{Output, Terminal};
 
 /// Draws the screen of each line of a log at which its text changed.
@@ -23,33 +22,22 @@ pub fn run_draw<F: Open + Save, W: Write, E: Messages>(
         return Ok(Status::NotJudged);
     };
     let folder = options.folder.trim_end_matches('/');
-    if !make_folder(folder, files, errors)? {
+    if !replay.recorded.has_frames {
+        replay.tell_no_frame(files, errors);
         return Ok(Status::NotJudged);
     }
-    if !replay.tell_lines(files, errors) {
+    if !make_folder(folder, files, errors)? {
         return Ok(Status::NotJudged);
     }
     let mut gallery = Gallery {
         alloc,
         folder,
         terminal: replay.terminal()?,
-        reader: Reader::new(alloc),
         screen: Vec::new(alloc),
         drawn: Vec::new(alloc),
         outputs: Vec::new(alloc),
     };
-    let mut status = gallery.look(0, files, out, errors)?;
-    let mut cursor = replay.cursor();
-    for end in line_ends(replay.text()) {
-        let line = cursor.next_line(end);
-        cursor.tell_progress(errors);
-        if gallery.take_line(&replay, line)? {
-            let found = gallery.look(cursor.number(), files, out, errors)?;
-            status = status.and(found);
-        }
-    }
-    replay.tell_loss(&gallery.terminal, files, errors);
-    Ok(status)
+    gallery.draw(&replay, files, out, errors)
 }
 
 /// The pictures of a replay.
@@ -58,7 +46,6 @@ struct Gallery<'a> {
     alloc: Global,
     folder: &'a str,
     terminal: Terminal,
-    reader: Reader,
     /// The text of the screen that was drawn last.
     screen: Vec<u8>,
     /// The buffer for the next text.
@@ -67,15 +54,30 @@ struct Gallery<'a> {
 }
 
 impl Gallery<'_> {
-    /// Takes a line, and returns whether it is an input of the terminal.
-    fn take_line(&mut self, replay: &Replay<'_>, line: &[u8]) -> io::Result<bool> {
-        let reading = replay.read_line(&mut self.reader, line)?;
-        let Some(input) = input_of(reading) else {
-            return Ok(false);
-        };
-        self.outputs.clear();
-        self.terminal.step(&input, &mut self.outputs)?;
-        Ok(true)
+    /// Draws the screens of a log.
+    fn draw<F: Open + Save, W: Write, E: Messages>(
+        &mut self,
+        replay: &Replay<'_>,
+        files: &mut F,
+        out: &mut W,
+        errors: &mut E,
+    ) -> io::Result<Status> {
+        let mut status = self.look(0, files, out, errors)?;
+        let mut reader = replay.reader();
+        let mut cursor = replay.cursor();
+        for end in line_ends(replay.text()) {
+            let line = cursor.next_line(end);
+            cursor.tell_progress(errors);
+            if let Some(input) = input_of(reader.read(line)?) {
+                self.outputs.clear();
+                self.terminal.step(&input, &mut self.outputs)?;
+                let found = self.look(cursor.number(), files, out, errors)?;
+                status = status.and(found);
+            }
+        }
+        replay.tell_lines(&reader, files, errors);
+        replay.tell_loss(&self.terminal, files, errors);
+        Ok(status)
     }
 
     /// Draws the screen after a line, if its text has changed.

@@ -3,9 +3,9 @@
 use std::alloc::Global;
 use std::io::{self, Write};
 use vt_files::Open;
-use vt_log_replay::{Messages, Replay, Status, line_ends};
+use vt_log_replay::{LogReader, Messages, Replay, Status, line_ends};
 use vt_log_words::ReplayOptions;
-use vt_recorded::Reader;
+use vt_server::Terminal;
 use vt_trace::Tracer;
 
 /// Prints each line of a log in words, with the answers of the terminal and the changes of its screen.
@@ -20,21 +20,36 @@ pub fn run_trace<F: Open, W: Write, E: Messages>(
         return Ok(Status::NotJudged);
     };
     let mut terminal = replay.terminal()?;
-    let mut tracer = Tracer::new(alloc, &replay.names, &terminal)?;
-    let mut reader = Reader::new(alloc);
+    let mut reader = replay.reader();
+    trace(alloc, &replay, &mut reader, &mut terminal, out, errors)?;
+    replay.tell_lines(&reader, files, errors);
+    if !replay.recorded.has_frames {
+        replay.tell_no_frame(files, errors);
+        return Ok(Status::NotJudged);
+    }
+    replay.tell_loss(&terminal, files, errors);
+    Ok(Status::Clean)
+}
+
+/// Prints the trace of the lines of a log.
+fn trace<W: Write, E: Messages>(
+    alloc: Global,
+    replay: &Replay<'_>,
+    reader: &mut LogReader<'_>,
+    terminal: &mut Terminal,
+    out: &mut W,
+    errors: &mut E,
+) -> io::Result<()> {
+    let mut tracer = Tracer::new(alloc, &replay.names, terminal)?;
     let mut text = Vec::new(alloc);
     let mut cursor = replay.cursor();
     for end in line_ends(replay.text()) {
         let line = cursor.next_line(end);
         cursor.tell_progress(errors);
         text.clear();
-        let reading = replay.read_line(&mut reader, line)?;
-        tracer.trace_line(cursor.number(), &reading, &mut terminal, &mut text)?;
+        let reading = reader.read(line)?;
+        tracer.trace_line(cursor.number(), &reading, terminal, &mut text)?;
         out.write_all(&text)?;
     }
-    if !replay.tell_lines(files, errors) {
-        return Ok(Status::NotJudged);
-    }
-    replay.tell_loss(&terminal, files, errors);
-    Ok(Status::Clean)
+    Ok(())
 }

@@ -38,7 +38,7 @@ impl Fields<'_> {
         line.put_text("kind", "log")?;
         line.put_number("last_line", report.last_line)?;
         line.put_number("last_time", report.last_time)?;
-        line.put("load", Value::from(report.load))?;
+        line.put_number_if("load", report.load)?;
         line.put_number("seen_twice", report.seen_twice)?;
         line.write(out)
     }
@@ -48,7 +48,7 @@ impl Fields<'_> {
         line.put_number("bytes", share.counts.bytes)?;
         line.put_number("frames", share.counts.frames)?;
         line.put_text("kind", "source")?;
-        line.put("load", Value::from(share.load))?;
+        line.put_number_if("load", share.load)?;
         line.put_address("source", share.source)?;
         line.write(out)
     }
@@ -113,10 +113,7 @@ impl Fields<'_> {
         let mut value = JsonLine::new(self.alloc);
         value.put_number("id", u64::from(object.id.raw()))?;
         value.put_text("kind", object.kind)?;
-        match self.names.get(object.id) {
-            Some(name) => value.put_text("name", name)?,
-            None => value.put("name", Value::Null)?,
-        }
+        value.put_text_if("name", self.names.get(object.id))?;
         Ok(value.into_value())
     }
 }

@@ -1,15 +1,14 @@
 //! The subcommand `stats`.
 
 use crate::fields::Fields;
-use std::alloc::Global;
+use std::alloc::{AllocError, Global};
 use std::io::{self, Write};
-use vt_can::Line;
+use vt_can::{Line, LineFault};
 use vt_files::Open;
 use vt_findings_text::Names;
-use vt_log_replay::{Messages, Replay, Status, input_of, line_ends};
+use vt_log_replay::{LogReader, Messages, Replay, Status, input_of, line_ends};
 use vt_log_words::{Format, StatsOptions};
 use vt_reach::{Reach, ReachText};
-use vt_recorded::Reader;
 use vt_server::{Output, Terminal};
 use vt_traffic::Traffic;
 
@@ -24,23 +23,20 @@ pub fn run_stats<F: Open, W: Write, E: Messages>(
     let Some(replay) = Replay::read(alloc, &options.replay, files, errors)? else {
         return Ok(Status::NotJudged);
     };
-    if !replay.tell_lines(files, errors) {
+    if !replay.recorded.has_frames {
+        replay.tell_no_frame(files, errors);
         return Ok(Status::NotJudged);
     }
     let mut run = Run {
         terminal: replay.terminal()?,
         traffic: Traffic::new(alloc),
         reach: Reach::new(alloc),
-        reader: Reader::new(alloc),
         outputs: Vec::new(alloc),
     };
-    let mut cursor = replay.cursor();
-    for end in line_ends(replay.text()) {
-        let line = cursor.next_line(end);
-        run.take_line(&replay, cursor.number(), line)?;
-        cursor.tell_progress(errors);
-    }
+    let mut reader = replay.reader();
+    run.take_lines(&replay, &mut reader, errors)?;
     run.put(&replay.names, options.format, alloc, out)?;
+    replay.tell_lines(&reader, files, errors);
     replay.tell_loss(&run.terminal, files, errors);
     Ok(Status::Clean)
 }
@@ -51,14 +47,32 @@ struct Run {
     terminal: Terminal,
     traffic: Traffic,
     reach: Reach,
-    reader: Reader,
     outputs: Vec<Output>,
 }
 
 impl Run {
-    /// Takes the next line of a log.
-    fn take_line(&mut self, replay: &Replay<'_>, number: u64, line: &[u8]) -> io::Result<()> {
-        let reading = replay.read_line(&mut self.reader, line)?;
+    /// Takes the lines of a log.
+    fn take_lines<E: Messages>(
+        &mut self,
+        replay: &Replay<'_>,
+        reader: &mut LogReader<'_>,
+        errors: &mut E,
+    ) -> io::Result<()> {
+        let mut cursor = replay.cursor();
+        for end in line_ends(replay.text()) {
+            let line = cursor.next_line(end);
+            self.take_line(cursor.number(), reader.read(line)?)?;
+            cursor.tell_progress(errors);
+        }
+        Ok(())
+    }
+
+    /// Takes the next line of a log, as it was read.
+    fn take_line(
+        &mut self,
+        number: u64,
+        reading: Result<Line<'_>, LineFault>,
+    ) -> Result<(), AllocError> {
         self.reach.before(&reading, &self.terminal)?;
         if let Ok(Line::Frame { time, frame }) = &reading {
             self.traffic.take(number, *time, frame)?;
@@ -68,8 +82,7 @@ impl Run {
         };
         self.outputs.clear();
         self.terminal.step(&input, &mut self.outputs)?;
-        self.reach.after(&self.outputs, &self.terminal)?;
-        Ok(())
+        self.reach.after(&self.outputs, &self.terminal)
     }
 
     /// Writes what the log holds.

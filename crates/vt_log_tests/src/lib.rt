@@ -8,6 +8,8 @@ mod listener;
 #[cfg(test)]
 mod reach;
 #[cfg(test)]
+mod recorded;
+#[cfg(test)]
 mod recordings;
 #[cfg(test)]
 mod replays;

@@ -6,7 +6,7 @@ use vt_can::{Line, LineFault, Skipped, write_line};
 use vt_recorded::Reader;
 
 /// Lines with frames, and each as candump -L writes it.
-const FRAMES: [(&[u8], &[u8]); 9] = [
+const FRAMES: [(&[u8], &[u8]); 10] = [
     (
         b"(1.000000) can0 14E72680#A064",
         b"(1.000000) can0 14E72680#A064",
@@ -26,6 +26,10 @@ const FRAMES: [(&[u8], &[u8]); 9] = [
     (
         b" (1.000000)  can0  14E72680   [3]  12 FF 0A   '...'\r",
         b"(1.000000) can0 14E72680#12FF0A",
+    ),
+    (
+        b"(1.000000)  can0  14E72680   [2]  12 FF\r",
+        b"(1.000000) can0 14E72680#12FF",
     ),
     (
         b"(1.000000)  can0  14E72680   [0]",

@@ -155,7 +155,7 @@ const STORED_POOLS: [Printed; 2] = [
         &["s", "compare", "stored.log"],
         Status::Found,
         "\
-line 3: 80 loads a stored pool; if the recorded terminal had it, it is not in this log: give it by --pool FILE --owner 80
+line 3: 80 loads version \"SPRAY12\"; if the recorded terminal had it, it is not in this log: give it by --pool FILE --owner 80
 line 4: to 80: Load Version: ours none, recorded D1FFFFFFFF0000FF
 line 5: to all: VT Status: ours none, recorded FE80E803FFFF00FF
 line 7: to 80: Hide/Show Object 100: ours none, recorded A064000000FFFFFF error 00

@@ -50,19 +50,19 @@ fn pools_are_told(rt: HostRuntime) -> Result<(), Fail> {
 #[test]
 fn transfers_are_told(rt: HostRuntime) -> Result<(), Fail> {
     let text = "\
-lines 7 to 8: pool of 80 to 26, 34 bytes in 1 pieces: accepted 3 objects\n\
+lines 7 to 8: pool of 80 to 26, 34 bytes in 1 piece: accepted 3 objects\n\
 line 9: 80 deletes its pool at 26\n\
 line 11: transfer of 80 to 26 broken off: 35 bytes of parameter group E700, packet 1 is missing\n\
 line 14: 80 loads version \"ABC. 12\" at 26\n\
 line 17: transfer of 81 to 27 broken off: 35 bytes of parameter group E700, packet 2 is missing\n\
 at the end: transfer of 81 to 27 not whole: 1048576 bytes of parameter group E700, packet 2 is missing\n\
-line 13 on: pool of 80 to 26, 9 bytes in 1 pieces: its end is not in the log\n";
+line 13 on: pool of 80 to 26, 9 bytes in 1 piece: its end is not in the log\n";
     let run = Run {
         words: &["s", "pools", "transfers.log"],
         status: Status::Found,
         text,
         written: "",
-        has_messages: false,
+        has_messages: true,
     };
     expect_run(&rt, &run)
 }
@@ -70,19 +70,19 @@ line 13 on: pool of 80 to 26, 9 bytes in 1 pieces: its end is not in the log\n";
 #[test]
 fn lines_of_json_say_the_same(rt: HostRuntime) -> Result<(), Fail> {
     let text = "\
-{\"bytes\":34,\"destination\":\"26\",\"file\":\"\",\"first_line\":7,\"is_accepted\":true,\"kind\":\"pool\",\"last_line\":8,\"pieces\":1,\"source\":\"80\",\"verdict\":\"accepted 3 objects\"}\n\
+{\"bytes\":34,\"destination\":\"26\",\"file\":null,\"first_line\":7,\"is_accepted\":true,\"kind\":\"pool\",\"last_line\":8,\"pieces\":1,\"source\":\"80\",\"verdict\":\"accepted 3 objects\"}\n\
 {\"destination\":\"26\",\"kind\":\"request\",\"last_line\":9,\"request\":\"deletes its pool\",\"source\":\"80\"}\n\
 {\"bytes\":35,\"destination\":\"26\",\"group\":\"E700\",\"kind\":\"broken\",\"last_line\":11,\"missing\":1,\"source\":\"80\"}\n\
 {\"destination\":\"26\",\"kind\":\"request\",\"last_line\":14,\"request\":\"loads version \\\"ABC. 12\\\"\",\"source\":\"80\"}\n\
 {\"bytes\":35,\"destination\":\"27\",\"group\":\"E700\",\"kind\":\"broken\",\"last_line\":17,\"missing\":2,\"source\":\"81\"}\n\
-{\"bytes\":1048576,\"destination\":\"27\",\"group\":\"E700\",\"kind\":\"not whole\",\"last_line\":0,\"missing\":2,\"source\":\"81\"}\n\
+{\"bytes\":1048576,\"destination\":\"27\",\"group\":\"E700\",\"kind\":\"not whole\",\"last_line\":null,\"missing\":2,\"source\":\"81\"}\n\
 {\"bytes\":9,\"destination\":\"26\",\"first_line\":13,\"kind\":\"unended\",\"pieces\":1,\"source\":\"80\"}\n";
     let run = Run {
         words: &["s", "pools", "transfers.log", "--format", "json"],
         status: Status::Found,
         text,
         written: "",
-        has_messages: false,
+        has_messages: true,
     };
     expect_run(&rt, &run)
 }
@@ -111,14 +111,14 @@ fn the_operator_is_told(rt: HostRuntime) -> Result<(), Fail> {
 (1.000000) can0 1CEB8026#0108600107414243\n\
 (1.000000) can0 1CEB8026#0244454647FFFFFF\n\
 ! release 400\n\
-(2.000000) can0 14E68026#00009001E80307FF\n\
+(2.000000) can1 14E68026#00009001E80307FF\n\
 ? a fault\n";
     let run = Run {
         words: &["s", "operator", "told.log"],
         status: Status::Clean,
         text,
         written: "",
-        has_messages: false,
+        has_messages: true,
     };
     expect_run(&rt, &run)
 }

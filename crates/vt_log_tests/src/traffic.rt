@@ -138,6 +138,23 @@ longest transfer: 0.150000 s for 9 bytes of 80 to 26, from line 3 on";
     Ok(())
 }
 
+/// Frames between one and the same one on another interface, within a millisecond.
+#[test]
+fn seen_twice_among_others(rt: HostRuntime) -> Result<(), Fail> {
+    for (others, wanted) in [(0, 1), (62, 1), (63, 0), (64, 0)] {
+        let mut lines: Vec<&[u8]> = Vec::new(rt.alloc());
+        lines.push(b"(1.000000) can0 14E72680#A0")?;
+        for _ in 0..others {
+            lines.push(b"(1.000100) can0 14E72680#A1")?;
+        }
+        lines.push(b"(1.000200) can1 14E72680#A0")?;
+        let report = traffic_of(&rt, &lines)?.report()?;
+        let repeats = if others == 0 { 0 } else { others - 1 };
+        assert_eq!(rt; report.seen_twice, wanted + repeats, "{others} others");
+    }
+    Ok(())
+}
+
 const TWICE: [(&str, &[&[u8]], u64); 5] = [
     (
         "on two interfaces, and again later",

@@ -5,12 +5,8 @@
 
 mod actions;
 mod operator;
-mod pools;
 mod program;
-mod report;
-mod sets;
 mod test;
-mod verdict;
 
 pub use program::run;
 pub use vt_files::{Files, Open, Program, Save};

@@ -4,14 +4,12 @@ use crate::actions::{action_in, put_action};
 use std::alloc::{AllocError, Global};
 use std::io::{self, Write};
 use vt_can::assigned::{TP_CM, TP_RTS, VT_TO_ECU};
-use vt_can::{Frame, Line, LineFault, parse_line, write_line};
+use vt_can::{Frame, Line, LineFault, parse_line};
 use vt_files::{Open, read_file};
 use vt_listen::{Broken, Listener};
-use vt_log_replay::{
-    LineCursor, Messages, Status, is_of_interface, line_ends, tell_no_frame, text_of,
-};
+use vt_log_replay::{LineCursor, LogReader, Messages, Status, line_ends, tell_no_frame, text_of};
 use vt_log_words::OperatorOptions;
-use vt_recorded::Reader;
+use vt_recorded::{Reader, is_of_interface};
 
 /// Prints the log with the operator's lines, each before the message that tells of it.
 pub(crate) fn run_operator<F: Open, W: Write, E: Messages>(
@@ -25,8 +23,11 @@ pub(crate) fn run_operator<F: Open, W: Write, E: Messages>(
         return Ok(Status::NotJudged);
     };
     let log = text_of(&log);
-    let recording = Recording::of_log(alloc, log, &options, errors)?;
-    if !recording.has_frames {
+    let mut recording = Recording::new(alloc, options.own);
+    let mut reader = LogReader::new(alloc, options.interface);
+    recording.hear_lines(log, &mut reader, errors)?;
+    reader.tell_lines(options.log, files, errors);
+    if !reader.has_frames() {
         tell_no_frame(options.log, files, errors);
         return Ok(Status::NotJudged);
     }
@@ -53,42 +54,37 @@ struct Recording {
     requests: [u64; 256],
     /// What the messages tell of the operator.
     told: Vec<Told>,
-    /// Whether there is a frame, of any node.
-    has_frames: bool,
 }
 
 impl Recording {
-    /// What the messages of the terminal at an address tell of its operator, by rising lines.
-    fn of_log<E: Messages>(
-        alloc: Global,
-        log: &[u8],
-        options: &OperatorOptions<'_>,
-        errors: &mut E,
-    ) -> Result<Recording, AllocError> {
-        let mut recording = Recording {
+    /// Nothing is heard of the terminal at an address. Does not allocate.
+    fn new(alloc: Global, own: u8) -> Recording {
+        Recording {
             alloc,
-            own: options.own,
+            own,
             listener: Listener::new(alloc),
             broken: Vec::new(alloc),
             requests: [0; 256],
             told: Vec::new(alloc),
-            has_frames: false,
-        };
-        let mut reader = Reader::new(alloc);
+        }
+    }
+
+    /// Hears the lines of a log. What they tell of the operator stands by rising lines afterwards.
+    fn hear_lines<E: Messages>(
+        &mut self,
+        log: &[u8],
+        reader: &mut LogReader<'_>,
+        errors: &mut E,
+    ) -> Result<(), AllocError> {
         let mut cursor = LineCursor::new(log);
         for end in line_ends(log) {
             let line = cursor.next_line(end);
             cursor.tell_progress(errors);
-            if !is_of_interface(line, options.interface) {
-                continue;
-            }
             if let Ok(Line::Frame { frame, .. }) = reader.read(line)? {
-                recording.has_frames = true;
-                recording.hear(cursor.number(), &frame)?;
+                self.hear(cursor.number(), &frame)?;
             }
         }
-        recording.told.sort_by_key(|told| told.before)?;
-        Ok(recording)
+        self.told.sort_by_key(|told| told.before)
     }
 
     /// Hears the frame of a line.
@@ -156,23 +152,14 @@ fn put_lines<W: Write>(
     Ok(())
 }
 
-/// The least time that no log line has, in microseconds.
-const END_OF_TIME: u64 = 1_000_000_000_000_000_000;
-
-/// Writes a line, unless it is one of the operator. A frame of another recorder is written as `candump -L` does.
+/// Writes a line, unless it is one of the operator. A frame of another recorder is written in its plain form.
 fn put_line<W: Write>(reader: &mut Reader, line: &[u8], out: &mut W) -> io::Result<()> {
     match parse_line(line) {
         Ok(Line::Operator(_)) | Err(LineFault::Operator) => return Ok(()),
-        Err(LineFault::Time | LineFault::Shape) => {
-            if let Ok(Line::Frame { time, frame }) = reader.read(line)? {
-                if time < END_OF_TIME {
-                    out.write_all(&write_line(time, &frame))?;
-                    return out.write_all(b"\n");
-                }
-            }
+        Err(LineFault::Time | LineFault::Shape) if reader.read(line)?.is_ok() => {
+            out.write_all(reader.plain())?;
         }
-        _ => {}
+        _ => out.write_all(line)?,
     }
-    out.write_all(line)?;
     out.write_all(b"\n")
 }

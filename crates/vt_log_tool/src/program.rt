@@ -1,13 +1,13 @@
 //! A run of the program, from its words to its status.
 
 use crate::operator::run_operator;
-use crate::pools::run_pools;
 use crate::test::run_test;
 use std::alloc::Global;
 use std::convert::AsStr;
 use std::io::{self, Write};
 use vt_files::{Open, Save};
 use vt_log_compare::run_compare;
+use vt_log_pools::run_pools;
 use vt_log_replay::{Messages, Status};
 use vt_log_runs::{run_draw, run_trace};
 use vt_log_stats::run_stats;

@@ -5,7 +5,6 @@
 
 mod options;
 mod refusal;
-mod words;
 
 pub use options::{
     CompareOptions, DrawOptions, Format, OperatorOptions, Options, PoolsOptions, ReplayOptions,

@@ -1,11 +1,11 @@
 //! The options that the words give.
 
 use crate::refusal::UsageError;
-use crate::words::command;
 use clap::ArgMatches;
 use hex::FromHex;
 use std::alloc::{AllocError, Global};
 use std::convert::AsStr;
+use vt_log_command::command;
 
 /// The options that the words give, by the subcommand.
 #[derive(Drop)]

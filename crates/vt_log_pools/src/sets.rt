@@ -1,8 +1,11 @@
 //! The working sets of a log, with the objects of their accepted pools.
 
+use crate::verdict::Verdict;
 use std::alloc::{AllocError, Global};
 use std::collections::BTreeMap;
+use vt_log_replay::Status;
 use vt_objects::SortedStore;
+use vt_uploads::Upload;
 
 /// The objects of each implement at each terminal, and how many uploads each implement has ended.
 #[derive(Drop)]
@@ -24,15 +27,20 @@ impl Sets {
         self.objects.get(&(source, destination))
     }
 
-    /// Puts the objects of an accepted pool in the place of those before.
-    pub(crate) fn put(
+    /// Puts the objects of an accepted pool in the place of those before. Returns the status of the upload.
+    pub(crate) fn judge(
         &mut self,
-        source: u8,
-        destination: u8,
-        objects: SortedStore,
-    ) -> Result<(), AllocError> {
-        self.objects.insert((source, destination), objects)?;
-        Ok(())
+        upload: &Upload,
+        verdict: Verdict,
+    ) -> Result<Status, AllocError> {
+        match verdict {
+            Verdict::Accepted(objects) => {
+                self.objects
+                    .insert((upload.source, upload.destination), objects)?;
+                Ok(Status::Clean)
+            }
+            Verdict::Faulty(_) | Verdict::Refused(_) => Ok(Status::Found),
+        }
     }
 
     /// Deletes the pool of an implement at a terminal.

@@ -1,6 +1,6 @@
 //! The subcommands that replay a log to a terminal.
 
-use crate::words::values::{format, interface, log, name, names, out, own, owner, pool};
+use crate::values::{format, interface, log, name, names, out, own, owner, pool};
 use clap::{Arg, ArgAction, Command};
 use std::alloc::{AllocError, Global};
 

@@ -3,7 +3,7 @@
 use crate::report::{UploadEnd, put_broken, put_finding, put_request, put_unended, put_upload};
 use crate::sets::Sets;
 use crate::verdict::Verdict;
-use std::alloc::Global;
+use std::alloc::{AllocError, Global};
 use std::io::{self, Write};
 use vt_can::assigned::ECU_TO_VT;
 use vt_can::{Frame, Line};
@@ -12,15 +12,12 @@ use vt_findings_text::{Item, Names, Source};
 use vt_frames_text::PoolRequest;
 use vt_inspect::inspect;
 use vt_listen::{Broken, Listener};
-use vt_log_replay::{
-    LineCursor, Messages, Status, is_of_interface, line_ends, tell_no_frame, text_of,
-};
+use vt_log_replay::{LineCursor, LogReader, Messages, Status, line_ends, tell_no_frame, text_of};
 use vt_log_words::{Format, PoolsOptions};
-use vt_recorded::Reader;
 use vt_uploads::{Message, Upload, Uploads};
 
 /// Prints every upload of a log, and what a terminal says of it.
-pub(crate) fn run_pools<F: Open + Save, W: Write, E: Messages>(
+pub fn run_pools<F: Open + Save, W: Write, E: Messages>(
     alloc: Global,
     options: &PoolsOptions<'_>,
     files: &mut F,
@@ -58,6 +55,18 @@ struct Hearing {
     sets: Sets,
 }
 
+impl Hearing {
+    /// Nothing is heard. Does not allocate.
+    fn new(alloc: Global) -> Hearing {
+        Hearing {
+            listener: Listener::new(alloc),
+            uploads: Uploads::new(alloc),
+            broken: Vec::new(alloc),
+            sets: Sets::new(alloc),
+        }
+    }
+}
+
 /// How the pools of a log are told.
 #[derive(Clone, Copy, Drop)]
 struct Report<'a> {
@@ -78,35 +87,40 @@ impl Report<'_> {
         out: &mut W,
         errors: &mut E,
     ) -> io::Result<Status> {
-        let mut hearing = Hearing {
-            listener: Listener::new(self.alloc),
-            uploads: Uploads::new(self.alloc),
-            broken: Vec::new(self.alloc),
-            sets: Sets::new(self.alloc),
-        };
-        let mut reader = Reader::new(self.alloc);
-        let mut status = Status::Clean;
-        let mut has_frames = false;
-        let mut cursor = LineCursor::new(log);
-        for end in line_ends(log) {
-            let line = cursor.next_line(end);
-            let number = cursor.number();
-            cursor.tell_progress(errors);
-            if !is_of_interface(line, self.interface) {
-                continue;
-            }
-            if let Ok(Line::Frame { frame, .. }) = reader.read(line)? {
-                has_frames = true;
-                let found = self.tell_frame(number, &frame, &mut hearing, files, out, errors)?;
-                status = status.and(found);
-            }
-        }
-        if !has_frames {
+        let mut hearing = Hearing::new(self.alloc);
+        let mut reader = LogReader::new(self.alloc, self.interface);
+        let status = self.tell_lines(log, &mut reader, &mut hearing, files, out, errors)?;
+        reader.tell_lines(path, files, errors);
+        if !reader.has_frames() {
             tell_no_frame(path, files, errors);
             return Ok(Status::NotJudged);
         }
         let found = self.tell_unended(&mut hearing, out)?;
         Ok(status.and(found))
+    }
+
+    /// Tells what each line of a log brings about.
+    fn tell_lines<F: Save, W: Write, E: Messages>(
+        &self,
+        log: &[u8],
+        reader: &mut LogReader<'_>,
+        hearing: &mut Hearing,
+        files: &mut F,
+        out: &mut W,
+        errors: &mut E,
+    ) -> io::Result<Status> {
+        let mut status = Status::Clean;
+        let mut cursor = LineCursor::new(log);
+        for end in line_ends(log) {
+            let line = cursor.next_line(end);
+            let number = cursor.number();
+            cursor.tell_progress(errors);
+            if let Ok(Line::Frame { frame, .. }) = reader.read(line)? {
+                let found = self.tell_frame(number, &frame, hearing, files, out, errors)?;
+                status = status.and(found);
+            }
+        }
+        Ok(status)
     }
 
     /// Tells what the frame of a line brings about.
@@ -197,31 +211,44 @@ impl Report<'_> {
         out: &mut W,
         errors: &mut E,
     ) -> io::Result<Status> {
-        let alloc = self.alloc;
+        let number = sets.next_number(upload.source)?;
+        let path = self.path_of(upload.source, number)?;
         let objects = sets.objects(upload.source, upload.destination);
         let is_update = objects.is_some();
-        let verdict = Verdict::of_upload(alloc, &upload.bytes, objects)?;
-        let number = sets.next_number(upload.source)?;
-        let name = format!(in alloc; "{:02X}-{number}.iop", upload.source)?;
-        let path = match self.folder {
-            Some(folder) => format!(in alloc; "{folder}/{name}")?,
-            None => name,
-        };
+        let verdict = Verdict::of_upload(self.alloc, &upload.bytes, objects)?;
         let end = UploadEnd { line, is_update };
-        let file = self.folder.map(|_| path.as_str());
-        put_upload(alloc, end, upload, &verdict, file, self.format, out)?;
-        if !is_update && !matches!(verdict, Verdict::Accepted(_)) {
-            self.put_findings(path.as_str(), &upload.bytes, out)?;
-        }
+        self.put_verdict(end, upload, &verdict, path.as_str(), out)?;
+        let found = sets.judge(upload, verdict)?;
         if self.folder.is_some() && !save_file(path.as_str(), &upload.bytes, files, errors)? {
             return Ok(Status::NotJudged);
         }
+        Ok(found)
+    }
+
+    /// The path of the file for the upload of an implement that has this number.
+    fn path_of(&self, source: u8, number: u64) -> Result<String, AllocError> {
+        match self.folder {
+            Some(folder) => format!(in self.alloc; "{folder}/{source:02X}-{number}.iop"),
+            None => format!(in self.alloc; "{source:02X}-{number}.iop"),
+        }
+    }
+
+    /// Writes the line of an upload, and each fault of a pool that is not accepted.
+    fn put_verdict<W: Write>(
+        &self,
+        end: UploadEnd,
+        upload: &Upload,
+        verdict: &Verdict,
+        path: &str,
+        out: &mut W,
+    ) -> io::Result<()> {
+        let file = self.folder.map(|_| path);
+        put_upload(self.alloc, end, upload, verdict, file, self.format, out)?;
         match verdict {
-            Verdict::Accepted(objects) => {
-                sets.put(upload.source, upload.destination, objects)?;
-                Ok(Status::Clean)
+            Verdict::Faulty(_) | Verdict::Refused(_) if !end.is_update => {
+                self.put_findings(path, &upload.bytes, out)
             }
-            Verdict::Faulty(_) | Verdict::Refused(_) => Ok(Status::Found),
+            _ => Ok(()),
         }
     }
 

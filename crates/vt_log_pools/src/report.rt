@@ -3,6 +3,7 @@
 use crate::verdict::Verdict;
 use serde_json::Value;
 use std::alloc::Global;
+use std::fmt;
 use std::io::{self, Write};
 use vt_findings_json::item_json;
 use vt_findings_text::{Item, Source};
@@ -20,6 +21,26 @@ pub(crate) struct UploadEnd {
     pub(crate) is_update: bool,
 }
 
+impl UploadEnd {
+    /// What was uploaded, in a word.
+    fn kind(self) -> &'static str {
+        if self.is_update { "update" } else { "pool" }
+    }
+}
+
+/// The number of pieces of an upload in words.
+#[derive(Clone, Copy)]
+struct Pieces(u64);
+
+impl fmt::Display for Pieces {
+    fn fmt<W: fmt::Write>(&self, f: &mut fmt::Formatter<W>) -> fmt::Result {
+        match self.0 {
+            1 => write!(f, "1 piece"),
+            pieces => write!(f, "{pieces} pieces"),
+        }
+    }
+}
+
 /// Writes the line of an upload, with the file of its pool if it is written.
 pub(crate) fn put_upload<W: Write>(
     alloc: Global,
@@ -30,38 +51,58 @@ pub(crate) fn put_upload<W: Write>(
     format: Format,
     out: &mut W,
 ) -> io::Result<()> {
-    let UploadEnd {
-        line: last_line,
-        ..
-    } = end;
-    let kind = if end.is_update { "update" } else { "pool" };
-    let size = upload.bytes.len();
-    if format == Format::Text {
-        let Upload {
-            first_line,
-            source,
-            destination,
-            pieces,
-            ..
-        } = upload;
-        write!(
-            out,
-            "lines {first_line} to {last_line}: {kind} of {source:02X} to {destination:02X}, {size} bytes in {pieces} pieces: {verdict}"
-        )?;
-        if let Some(path) = path {
-            write!(out, " -> {path}")?;
-        }
-        return writeln!(out);
+    match format {
+        Format::Text => put_upload_text(end, upload, verdict, path, out),
+        Format::Json => put_upload_fields(alloc, end, upload, verdict, path, out),
     }
+}
+
+fn put_upload_text<W: Write>(
+    end: UploadEnd,
+    upload: &Upload,
+    verdict: &Verdict,
+    path: Option<&str>,
+    out: &mut W,
+) -> io::Result<()> {
+    let UploadEnd { line, .. } = end;
+    let kind = end.kind();
+    let Upload {
+        first_line,
+        source,
+        destination,
+        pieces,
+        bytes,
+        ..
+    } = upload;
+    let size = bytes.len();
+    let pieces = Pieces(*pieces);
+    write!(
+        out,
+        "lines {first_line} to {line}: {kind} of {source:02X} to {destination:02X}, {size} bytes in {pieces}: {verdict}"
+    )?;
+    match path {
+        Some(path) => writeln!(out, " -> {path}"),
+        None => writeln!(out),
+    }
+}
+
+fn put_upload_fields<W: Write>(
+    alloc: Global,
+    end: UploadEnd,
+    upload: &Upload,
+    verdict: &Verdict,
+    path: Option<&str>,
+    out: &mut W,
+) -> io::Result<()> {
     let mut object = JsonLine::new(alloc);
-    object.put_number("bytes", size as u64)?;
+    object.put_number("bytes", upload.bytes.len() as u64)?;
     object.put_address("destination", upload.destination)?;
-    object.put_text("file", path.unwrap_or(""))?;
+    object.put_text_if("file", path)?;
     object.put_number("first_line", upload.first_line)?;
     let is_accepted = matches!(verdict, Verdict::Accepted(_));
     object.put("is_accepted", Value::Bool(is_accepted))?;
-    object.put_text("kind", kind)?;
-    object.put_number("last_line", last_line)?;
+    object.put_text("kind", end.kind())?;
+    object.put_number("last_line", end.line)?;
     object.put_number("pieces", upload.pieces)?;
     object.put_address("source", upload.source)?;
     object.put_text("verdict", verdict)?;
@@ -91,6 +132,13 @@ pub(crate) fn put_broken<W: Write>(
     format: Format,
     out: &mut W,
 ) -> io::Result<()> {
+    match format {
+        Format::Text => put_broken_text(line, broken, out),
+        Format::Json => put_broken_fields(alloc, line, broken, out),
+    }
+}
+
+fn put_broken_text<W: Write>(line: Option<u64>, broken: Broken, out: &mut W) -> io::Result<()> {
     let Broken {
         source,
         destination,
@@ -98,35 +146,41 @@ pub(crate) fn put_broken<W: Write>(
         size,
         missing,
     } = broken;
-    if format == Format::Text {
-        match line {
-            Some(line) => write!(
-                out,
-                "line {line}: transfer of {source:02X} to {destination:02X} broken off"
-            )?,
-            None => write!(
-                out,
-                "at the end: transfer of {source:02X} to {destination:02X} not whole"
-            )?,
-        }
-        return writeln!(
+    match line {
+        Some(line) => write!(
             out,
-            ": {size} bytes of parameter group {pgn:04X}, packet {missing} is missing"
-        );
+            "line {line}: transfer of {source:02X} to {destination:02X} broken off"
+        )?,
+        None => write!(
+            out,
+            "at the end: transfer of {source:02X} to {destination:02X} not whole"
+        )?,
     }
+    writeln!(
+        out,
+        ": {size} bytes of parameter group {pgn:04X}, packet {missing} is missing"
+    )
+}
+
+fn put_broken_fields<W: Write>(
+    alloc: Global,
+    line: Option<u64>,
+    broken: Broken,
+    out: &mut W,
+) -> io::Result<()> {
     let kind = if line.is_some() {
         "broken"
     } else {
         "not whole"
     };
     let mut object = JsonLine::new(alloc);
-    object.put_number("bytes", u64::from(size))?;
-    object.put_address("destination", destination)?;
-    object.put_text("group", format_args!("{pgn:04X}"))?;
+    object.put_number("bytes", u64::from(broken.size))?;
+    object.put_address("destination", broken.destination)?;
+    object.put_text("group", format_args!("{:04X}", broken.pgn))?;
     object.put_text("kind", kind)?;
-    object.put_number("last_line", line.unwrap_or(0))?;
-    object.put_number("missing", u64::from(missing))?;
-    object.put_address("source", source)?;
+    object.put_number_if("last_line", line)?;
+    object.put_number("missing", u64::from(broken.missing))?;
+    object.put_address("source", broken.source)?;
     object.write(out)
 }
 
@@ -177,7 +231,8 @@ pub(crate) fn put_unended<W: Write>(
     if format == Format::Text {
         return writeln!(
             out,
-            "line {first_line} on: pool of {source:02X} to {destination:02X}, {size} bytes in {pieces} pieces: its end is not in the log"
+            "line {first_line} on: pool of {source:02X} to {destination:02X}, {size} bytes in {}: its end is not in the log",
+            Pieces(*pieces)
         );
     }
     let mut object = JsonLine::new(alloc);

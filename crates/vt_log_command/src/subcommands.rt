@@ -1,12 +1,9 @@
-//! The command line of the program, for `clap`.
+//! The whole command line.
 
-mod replays;
-mod values;
-
+use crate::replays::{compare, draw, stats, trace};
+use crate::values::{format, interface, log, name, names, out, own, owner, pool};
 use clap::{Arg, ArgAction, Command};
-use replays::{compare, draw, stats, trace};
 use std::alloc::{AllocError, Global};
-use values::{format, interface, log, name, names, out, own, owner, pool};
 
 /// The text of help after the subcommands.
 const AFTER_HELP: &str = "\
@@ -53,8 +50,8 @@ reader of logs it is a comment. The expectations before any other line are those
 
 Status: 0 each line prints what is expected of it, 1 some line prints something else, 2 not judged.";
 
-/// The command line.
-pub(crate) fn command<'a>(alloc: Global) -> Result<Command<'a>, AllocError> {
+/// The command line of `segyolant_log`.
+pub fn command<'a>(alloc: Global) -> Result<Command<'a>, AllocError> {
     Command::new(alloc, "segyolant_log")
         .version("0.1.0")
         .about(

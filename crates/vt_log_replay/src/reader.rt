@@ -1,0 +1,127 @@
+//! Reads the lines of a log.
+
+ghost use Rattle.std.specs.Prelude.{◌≡◌, IfOk, option_map};
+ghost use Rattle.vt_can.specs.lines.Readings.{reading_of};
+ghost use Rattle.vt_log_replay.specs.Interfaces.{IsReadingFrom, wanted};
+
+use memchr::memchr;
+use std::alloc::{AllocError, Global};
+use std::io::Write;
+use vt_can::{Line, LineFault};
+use vt_files::Program;
+use vt_recorded::{Reader, interface_in, is_of_interface};
+
+/// Reads the lines of a log, of which all frames are taken or those of one interface.
+#[derive(Drop)]
+pub struct LogReader<'a> {
+    reader: Reader,
+    /// The only interface whose frames are taken.
+    interface: Option<&'a str>,
+    remarks: Remarks,
+}
+
+impl<'a> LogReader<'a> {
+    /// A reader before the first line. Does not allocate.
+    pub fn new(alloc: Global, interface: Option<&'a str>) -> LogReader<'a>
+        ensures { wanted result ≡ option_map (λ name. name.now) interface.entry }
+    {
+        LogReader {
+            reader: Reader::new(alloc),
+            interface,
+            remarks: Remarks {
+                first: Vec::new(alloc),
+                place: 0,
+                has_several_interfaces: false,
+                faults: 0,
+            },
+        }
+    }
+
+    /// Reads a line, given without its newline. One of another interface counts as a comment.
+    pub fn read<'b>(&'b mut self, line: &'b [u8]) -> Result<Result<Line<'b>, LineFault>, AllocError>
+        ensures { IfOk result (λ reading. IsReadingFrom (wanted self.old) line.now (reading_of reading)) }
+    {
+        if !is_of_interface(line, self.interface) {
+            return Ok(Ok(Line::Comment));
+        }
+        let reading = self.reader.read(line)?;
+        self.remarks.note(line, &reading)?;
+        Ok(reading)
+    }
+
+    /// Whether a frame was read.
+    pub fn has_frames(&self) -> bool {
+        !self.remarks.first.is_empty()
+    }
+
+    /// Says on `errors` how many of the lines of a log were faulty, if some were, and whether frames of several interfaces were taken.
+    pub fn tell_lines<F: Program, E: Write>(&self, path: &str, files: &F, errors: &mut E) {
+        let program = files.name();
+        let faults = self.remarks.faults;
+        if faults > 0 {
+            let _ = writeln!(
+                errors,
+                "{program}: {path}: {faults} of its lines are faulty; trace shows each with its fault"
+            );
+        }
+        if self.remarks.has_several_interfaces {
+            let _ = writeln!(
+                errors,
+                "{program}: {path}: frames of several interfaces are taken as those of one bus; if they are the same bus, --interface takes one of them"
+            );
+        }
+    }
+}
+
+/// What people should know of the lines that were read.
+#[derive(Drop)]
+struct Remarks {
+    /// The interface of the first frame, between two spaces; empty before it.
+    first: Vec<u8>,
+    /// The index at which the last line with a frame names its interface, and the space before it.
+    place: usize,
+    /// Whether frames of several interfaces were read.
+    has_several_interfaces: bool,
+    /// The number of lines with a fault.
+    faults: u64,
+}
+
+impl Remarks {
+    /// Notes a line as it was read.
+    fn note(
+        &mut self,
+        line: &[u8],
+        reading: &Result<Line<'_>, LineFault>,
+    ) -> Result<(), AllocError> {
+        match reading {
+            Ok(Line::Frame { .. }) => self.note_frame(line),
+            Ok(_) => Ok(()),
+            Err(_) => {
+                self.faults = self.faults.saturating_add(1);
+                Ok(())
+            }
+        }
+    }
+
+    /// Notes a line with a frame.
+    fn note_frame(&mut self, line: &[u8]) -> Result<(), AllocError> {
+        if self.is_of_first(line) {
+            return Ok(());
+        }
+        let name = interface_in(line).unwrap_or(&[]);
+        self.place = memchr(b' ', line).unwrap_or(0);
+        if self.first.is_empty() {
+            self.first.push(b' ')?;
+            self.first.extend_from_slice(name)?;
+            self.first.push(b' ')?;
+        }
+        self.has_several_interfaces |= self.first.trim_ascii() != name;
+        Ok(())
+    }
+
+    /// Whether a line names the first interface where the line before it did. A time with more digits moves that place.
+    fn is_of_first(&self, line: &[u8]) -> bool {
+        let is_there = |rest: &[u8]| rest.starts_with(&self.first);
+        !self.first.is_empty() && line.get(self.place..).is_some_and(is_there)
+    }
+}
