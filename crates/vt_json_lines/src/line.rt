@@ -1,9 +1,10 @@
 //! A line of JSON.
 
-ghost use Rattle.std.specs.Prelude.{◌≡◌, None, [], OnErr, OnOk};
+ghost use Rattle.std.specs.Prelude.{◌≡◌, [], MatchOption, OnErr, OnOk};
 ghost use Rattle.serde_json.specs.Data.{null, number, unsigned, put as with_member};
 ghost use Rattle.serde_json.specs.View.{members_view, view};
 ghost use Rattle.vt_json_lines.specs.Numbers.{number_or_null};
+ghost use Rattle.vt_json_lines.specs.Texts.{GainsText};
 
 use serde_json::{Map, Value};
 use std::alloc::{AllocError, Global};
@@ -42,7 +43,8 @@ impl JsonLine {
         name: &str,
         text: T,
     ) -> Result<(), AllocError>
-        ensures { OnErr result (self.new.members.entries ≡ self.old.members.entries) }
+        ensures ok { OnOk result (GainsText name.now (members_view self.old.members.entries) (members_view self.new.members.entries)) }
+        ensures err { OnErr result (self.new.members.entries ≡ self.old.members.entries) }
     {
         let text = format!(in self.alloc; "{text}")?;
         self.put(name, Value::String(text))
@@ -62,7 +64,8 @@ impl JsonLine {
         name: &str,
         text: Option<T>,
     ) -> Result<(), AllocError>
-        ensures none { text ≡ None → OnOk result (members_view self.new.members.entries ≡ with_member name.now null (members_view self.old.members.entries)) }
+        ensures ok { OnOk result (MatchOption text (members_view self.new.members.entries ≡ with_member name.now null (members_view self.old.members.entries))
+            (λ _. GainsText name.now (members_view self.old.members.entries) (members_view self.new.members.entries))) }
         ensures err { OnErr result (self.new.members.entries ≡ self.old.members.entries) }
     {
         match text {
@@ -84,7 +87,8 @@ impl JsonLine {
 
     /// Adds a member with an address in two hex digits. After `OutOfMemory` the object is unchanged.
     pub fn put_address(&mut self, name: &str, address: u8) -> Result<(), AllocError>
-        ensures { OnErr result (self.new.members.entries ≡ self.old.members.entries) }
+        ensures ok { OnOk result (GainsText name.now (members_view self.old.members.entries) (members_view self.new.members.entries)) }
+        ensures err { OnErr result (self.new.members.entries ≡ self.old.members.entries) }
     {
         self.put_text(name, format_args!("{address:02X}"))
     }
