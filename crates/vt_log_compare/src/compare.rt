@@ -96,7 +96,9 @@ impl Run {
         for end in line_ends(replay.text()) {
             self.take_line(reader.read(cursor.next_line(end))?)?;
             cursor.tell_progress(errors);
-            status = status.and(self.put_differences(telling, out)?);
+            if !self.differences.is_empty() {
+                status = status.and(self.put_differences(telling, out)?);
+            }
         }
         self.comparison.end(&mut self.differences)?;
         status = status.and(self.put_differences(telling, out)?);

@@ -52,10 +52,11 @@ impl Recorded {
             has_messages: false,
         };
         let mut reader = Reader::new(alloc);
+        let mut front = Front::default();
         let mut cursor = LineCursor::new(log);
         for end in line_ends(log) {
             let line = cursor.next_line(end);
-            if !recorded.is_told_by(line) || !is_of_interface(line, interface) {
+            if !recorded.is_told_by(line, &mut front) || !is_of_interface(line, interface) {
                 continue;
             }
             if let Ok(Line::Frame { frame, .. }) = reader.read(line)? {
@@ -68,11 +69,11 @@ impl Recorded {
 
     /// Whether a line has to be read. A frame as `candump -L` writes it has not if it is no claim, no request to load a stored pool, and no
     /// message of a terminal, or if a message of the recorded terminal is noted already.
-    fn is_told_by(&self, line: &[u8]) -> bool {
+    fn is_told_by<'a>(&self, line: &'a [u8], front: &mut Front<'a>) -> bool {
         if !self.has_frames {
             return true;
         }
-        let Some((id, data)) = frame_in(line) else {
+        let Some((id, data)) = front.frame_in(line) else {
             return true;
         };
         match id {
@@ -142,19 +143,48 @@ fn is_terminal(name: u64) -> bool {
     Name::from_raw(name).function() == VIRTUAL_TERMINAL
 }
 
-/// The eight digits of an ID and the text behind `#` in a line `(TIME) INTERFACE ID#DATA` with single spaces.
-fn frame_in(line: &[u8]) -> Option<(&[u8], &[u8])> {
-    let [b'(', ..] = line else {
-        return None;
-    };
-    let after_time = line.get(memchr(b' ', line)?.checked_add(1)?..)?;
-    let interface = memchr(b' ', after_time)?;
-    if interface == 0 {
-        return None;
+/// Where lines as `candump -L` writes them, `(TIME) INTERFACE ID#DATA` with single spaces, have their frames. Mostly a line has it where the
+/// line before it had it.
+#[derive(Clone, Copy, Default)]
+struct Front<'a> {
+    /// The index of the interface's text in the line.
+    index: usize,
+    /// The interface between two spaces; empty before the first line.
+    interface: &'a [u8],
+}
+
+impl<'a> Front<'a> {
+    /// The eight digits of the ID in a line, and the text behind `#`. `None` for a line of another form.
+    fn frame_in(&mut self, line: &'a [u8]) -> Option<(&'a [u8], &'a [u8])> {
+        let [b'(', ..] = line else {
+            return None;
+        };
+        if !self.is_in(line) {
+            *self = Front::of_line(line)?;
+        }
+        let end = self.index.checked_add(self.interface.len())?;
+        match line.get(end..)?.split_at_checked(8)? {
+            (id, [b'#', data @ ..]) => Some((id, data)),
+            _ => None,
+        }
     }
-    let frame = after_time.get(interface.checked_add(1)?..)?;
-    match frame.split_at_checked(8)? {
-        (id, [b'#', data @ ..]) => Some((id, data)),
-        _ => None,
+
+    /// Whether a line has this interface at this index.
+    fn is_in(&self, line: &[u8]) -> bool {
+        let has_it = |rest: &[u8]| rest.starts_with(self.interface);
+        !self.interface.is_empty() && line.get(self.index..).is_some_and(has_it)
+    }
+
+    /// The interface of a line from its first space to its second.
+    fn of_line(line: &'a [u8]) -> Option<Front<'a>> {
+        let index = memchr(b' ', line)?;
+        let (_, rest) = line.split_at_checked(index)?;
+        let length = memchr(b' ', rest.get(1..)?)?.checked_add(2)?;
+        // An interface has a name: two spaces alone pad one.
+        if length == 2 {
+            return None;
+        }
+        let interface = rest.get(..length)?;
+        Some(Front { index, interface })
     }
 }
