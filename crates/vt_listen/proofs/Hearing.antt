@@ -1,10 +1,12 @@
 -- What a frame says in each channel, and the transfers that it ends.
-use Rattle.std.proofs.Common.{◌≡◌, ◌<◌, ℕ, zero, suc, ◌^◌, eqb, cond, Bool, true, false, Option, Some, None, List, [], ◌∷◌, ◌++◌, refl, sym, ap, ◌∙◌, subst, ⊎_elim, append-nil, lit<, arith}
-use Rattle.std.specs.List.{Contains, cons_option}
+use Rattle.std.proofs.Common.{◌≡◌, ◌≢◌, ◌<◌, ◌≤◌, ◌+◌, ◌-◌, ℕ, length, zero, suc, ◌^◌, eqb, cond, Bool, true, false, Option, Some, None, List, [], ◌∷◌, ◌++◌, refl, sym, ap, ◌∙◌, subst, ⊎_elim, append-nil, lit<, arith}
+use Rattle.std.specs.List.{All, Contains, cons_option}
+use Rattle.std.specs.Prelude.{slice_index_or}
 use Rattle.std.specs.Ordering.{nat_cmp}
 use Rattle.std.specs.BTreeMap.{get}
-use Rattle.std.proofs.lemmas.Bool.{cases_eq, eq-eqb, ne_eqb}
-use Rattle.std.proofs.lemmas.List.Elements.{Contains-append_left, Contains-append_right, Contains-append_cases}
+use Rattle.std.proofs.lemmas.Bool.{cases_eq, cond_both, eq-eqb, eqb-false, ne_eqb}
+use Rattle.std.proofs.lemmas.List.{get_or_append_left, get_or-append_right, length-append}
+use Rattle.std.proofs.lemmas.List.Elements.{All-cons, All-nil, Contains-append_left, Contains-append_right, Contains-append_cases}
 use Rattle.vt_can.specs.declared.frames.frame.Frame.{Frame}
 use Rattle.vt_can.specs.frames.Identifier.{parts_of, pgn_of, destination_of}
 use Rattle.vt_can.specs.frames.Frame.{source_of}
@@ -133,6 +135,41 @@ broken_from frames frame ends o listener heard small small' says broken has =
 abbrev told_back : Ends → Option Part → Listener → Bool → List Broken
 told_back ends o listener one = cond one [] (told_by (swapped ends) o (get nat_cmp listener.transfers (channel_between (swapped ends))))
 
+-- at most one transfer is told of a channel, with its source
+told_by_once : (ends : Ends) (o : Option Part) (entry : Option Transfer) → length (told_by ends o entry) ≤ 1
+told_by_once ends None entry = omega arith
+told_by_once ends (Some part) None = omega arith
+told_by_once ends (Some (Request size pgn)) (Some transfer) = omega arith
+told_by_once ends (Some (Packet number bytes)) (Some transfer) = omega arith
+told_by_once ends (Some (Offset packets)) (Some transfer) = omega arith
+told_by_once ends (Some (Abort pgn)) (Some transfer) =
+    cond_both (eqb transfer.pgn pgn) (broken_of ends transfer ∷ []) [] (λ list. length list ≤ 1) (λ is. omega arith) (λ is_not. omega arith)
+
+one_from : (ends : Ends) (transfer : Transfer) → All (λ (broken : Broken). broken.source ≡ ends.source) (broken_of ends transfer ∷ [])
+one_from ends transfer =
+    All-cons (λ (broken : Broken). broken.source ≡ ends.source) (broken_of ends transfer) [] refl (All-nil (λ (broken : Broken). broken.source ≡ ends.source))
+
+told_by_source : (ends : Ends) (o : Option Part) (entry : Option Transfer) → All (λ broken. broken.source ≡ ends.source) (told_by ends o entry)
+told_by_source ends None entry = All-nil (λ (broken : Broken). broken.source ≡ ends.source)
+told_by_source ends (Some part) None = All-nil (λ (broken : Broken). broken.source ≡ ends.source)
+told_by_source ends (Some (Request size pgn)) (Some transfer) = one_from ends transfer
+told_by_source ends (Some (Packet number bytes)) (Some transfer) = All-nil (λ (broken : Broken). broken.source ≡ ends.source)
+told_by_source ends (Some (Offset packets)) (Some transfer) = All-nil (λ (broken : Broken). broken.source ≡ ends.source)
+told_by_source ends (Some (Abort pgn)) (Some transfer) =
+    cond_both (eqb transfer.pgn pgn) (broken_of ends transfer ∷ []) [] (λ list. All (λ (broken : Broken). broken.source ≡ ends.source) list)
+    (λ is. one_from ends transfer)
+    (λ is_not. All-nil (λ (broken : Broken). broken.source ≡ ends.source))
+
+told_back_once : (ends : Ends) (o : Option Part) (listener : Listener) (one : Bool) → length (told_back ends o listener one) ≤ 1
+told_back_once ends o listener true = omega arith
+told_back_once ends o listener false = told_by_once (swapped ends) o (get nat_cmp listener.transfers (channel_between (swapped ends)))
+
+told_back_source : (ends : Ends) (o : Option Part) (listener : Listener) (one : Bool)
+    → All (λ broken. (broken.source ≡ ends.destination) × (one ≡ false)) (told_back ends o listener one)
+told_back_source ends o listener true k d within = absurd (omega (arith, within))
+told_back_source ends o listener false k d within =
+    (told_by_source (swapped ends) o (get nat_cmp listener.transfers (channel_between (swapped ends))) k d within, refl)
+
 module _ (frames : List Frame) (frame : Frame) (ends : Ends) (part : Part) (of : IsFrameOf frame ends part) (listener : Listener) (heard : HasHeard frames listener) where
   small_here : ends.source < 2 ^ 8
   small_here = let P : ℕ → Type 0 = λ n. n < 2 ^ 8 in subst P (sym of.source_is) (small_source frame)
@@ -207,16 +244,41 @@ module _ (frames : List Frame) (frame : Frame) (ends : Ends) (part : Part) (of :
       (cases_eq channel (channel_between (swapped ends))))
       (cases_eq channel (channel_between ends))
 
+  -- two ends differ in their sources, so a transfer is told once
+  each_once : (j k : ℕ) (d : Broken) → j < k → k < length (told_in_both ends part listener)
+      → slice_index_or (told_in_both ends part listener) j d ≢ slice_index_or (told_in_both ends part listener) k d
+  each_once j k d before within same =
+      let first = told_by ends (sent (Some part)) (get nat_cmp listener.transfers (channel_between ends)) in
+      let second = told_back ends (refused (Some part)) listener (eqb ends.source ends.destination) in
+      let long : length (first ++ second) ≡ length first + length second = length-append first second in
+      let one : length first ≤ 1 = told_by_once ends (sent (Some part)) (get nat_cmp listener.transfers (channel_between ends)) in
+      let other : length second ≤ 1 = told_back_once ends (refused (Some part)) listener (eqb ends.source ends.destination) in
+      let here : slice_index_or (first ++ second) j d ≡ slice_index_or first j d = get_or_append_left first second d j (omega (arith, before, within, long, one, other)) in
+      let there : slice_index_or (first ++ second) k d ≡ slice_index_or second (k - length first) d
+      = get_or-append_right first second (length first) k d refl (omega (arith, before, within, long, one, other)) in
+      let at_first : (slice_index_or first j d).source ≡ ends.source
+      = told_by_source ends (sent (Some part)) (get nat_cmp listener.transfers (channel_between ends)) j d (omega (arith, before, within, long, one, other)) in
+      let at_second : ((slice_index_or second (k - length first) d).source ≡ ends.destination) × (eqb ends.source ends.destination ≡ false)
+      = told_back_source ends (refused (Some part)) listener (eqb ends.source ends.destination) (k - length first) d (omega (arith, before, within, long, one, other)) in
+      eqb-false ends.source ends.destination at_second.1
+      (sym at_first ∙ ap (λ (it : Broken). it.source) (sym here ∙ same ∙ there) ∙ at_second.0)
+
   pub are_told : AreBrokenBy frames frame (told_in_both ends part listener)
-  are_told broken = (only_told broken, all_told broken)
+  are_told = record {
+    told = λ broken. (only_told broken, all_told broken);
+    once = each_once;
+  }
 
 -- a frame that says nothing ends no transfer
 pub none_broken : (frames : List Frame) (frame : Frame) → ((channel : ℕ) → said channel frame ≡ None) → AreBrokenBy frames frame []
-none_broken frames frame silent broken = (
-  λ has. absurd (none_contained broken has),
-  λ by. let P : Option Part → Type 0 = λ o. listeners.Ends broken.pgn o in
-      absurd (subst P (silent (channel_of by.extended broken.source broken.destination)) by.ended),
-)
+none_broken frames frame silent = record {
+  told = λ broken. (
+    λ has. absurd (none_contained broken has),
+    λ by. let P : Option Part → Type 0 = λ o. listeners.Ends broken.pgn o in
+        absurd (subst P (silent (channel_of by.extended broken.source broken.destination)) by.ended),
+  );
+  once = λ j k d before within. absurd (omega (arith, within));
+}
 
 -- what is told of each part
 none_back : (ends : Ends) (listener : Listener) (one : Bool) → told_back ends None listener one ≡ []

@@ -1,5 +1,5 @@
 -- A listener by the frames that it has heard. Every list of frames and of parts has the latest first.
-use Rattle.std.specs.Prelude.{◌≡◌, ◌≤◌, ◌<◌, ◌↔◌, ℕ, ◌^◌, Bool, Option, Some, None, List, IsSome, Contains}
+use Rattle.std.specs.Prelude.{◌≡◌, ◌≢◌, ◌≤◌, ◌<◌, ◌↔◌, ℕ, ◌^◌, Bool, Option, Some, None, List, IsSome, Contains, length, slice_index_or}
 use Rattle.std.specs.Ordering.{nat_cmp}
 use Rattle.std.specs.BTreeMap.{get}
 use Rattle.vt_can.specs.declared.frames.frame.Frame.{Frame}
@@ -70,6 +70,7 @@ pub record IsBrokenBy (frames : List Frame) (frame : Frame) (broken : Broken) : 
   pub ended : Ends broken.pgn (said (channel_of extended broken.source broken.destination) frame)
   pub missing : IsFirstMissing since broken.size broken.missing
 
--- a list has exactly the transfers that a frame ends before they are whole
-abbrev pub AreBrokenBy : List Frame → Frame → List Broken → Type 0
-AreBrokenBy frames frame list = (broken : Broken) → Contains list broken ↔ IsBrokenBy frames frame broken
+-- a list has exactly the transfers that a frame ends before they are whole, each once
+pub record AreBrokenBy (frames : List Frame) (frame : Frame) (list : List Broken) : Type 0 where
+  pub told : (broken : Broken) → Contains list broken ↔ IsBrokenBy frames frame broken
+  pub once : (j k : ℕ) (d : Broken) → j < k → k < length list → slice_index_or list j d ≢ slice_index_or list k d

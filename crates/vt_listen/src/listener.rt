@@ -1,6 +1,6 @@
 //! Hears frames and puts messages together.
 
-ghost use Rattle.std.specs.Prelude.{◌≡◌, ◌≢◌, ℕ, Some, List, [], ◌∷◌, ◌++◌, map, OnOk, IfOk};
+ghost use Rattle.std.specs.Prelude.{◌≡◌, ◌≢◌, ℕ, Some, List, [], ◌∷◌, ◌++◌, length, map, OnOk, IfOk};
 ghost use Rattle.std.specs.Ordering.{nat_cmp};
 ghost use Rattle.std.specs.BTreeMap.{get};
 ghost use Rattle.vt_can.specs.declared.frames.frame.Frame.{Frame as CanFrame};
@@ -73,6 +73,13 @@ impl Listener {
             Part::Abort { pgn } => self.abort(ends, pgn, broken)?,
         }
         Ok(None)
+    }
+
+    /// The number of transfers that are still open.
+    pub fn open_count(&self) -> usize
+        ensures { result ≡ length self.now.transfers.entries }
+    {
+        self.transfers.len()
     }
 
     /// Appends to `broken` the transfers that are still open, by rising identifiers of their packets. After `OutOfMemory` the first
