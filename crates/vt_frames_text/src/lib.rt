@@ -4,7 +4,7 @@
 //!   pools, other than uploads.
 //! - `TpControl`, `EtpControl` and `Packet` are the frames of the transport protocols; `ClaimSentence`, `GroupRequest`,
 //!   `MasterSentence` and `MemberSentence` those of addresses and working sets. Each is written by its `Display`.
-//! - `HexBytes`, `QuotedText`, `Destination`, `Count`, `ShownScale` and `PlainMessage` are their parts.
+//! - `HexByte`, `HexBytes`, `QuotedText`, `Destination`, `Count`, `ShownScale` and `PlainMessage` are their parts.
 //!
 //! docs/PROFILE.md, "Commands" and "Other messages", has the messages.
 #![tactic(auto)]
@@ -18,5 +18,5 @@ mod transport;
 pub use addresses::{ClaimSentence, GroupRequest, MasterSentence, MemberSentence, ParameterGroup};
 pub use functions::{MAINTENANCE, SELECT_INPUT, error_of, function_name};
 pub use pool_requests::{DELETE_VERSION, GET_VERSIONS, LOAD_VERSION, PoolRequest, STORE_VERSION};
-pub use shown::{Count, Destination, HexBytes, PlainMessage, QuotedText, ShownScale};
+pub use shown::{Count, Destination, HexByte, HexBytes, PlainMessage, QuotedText, ShownScale};
 pub use transport::{EtpControl, Packet, TpControl};

@@ -5,18 +5,33 @@ use std::fmt;
 use vt_can::assigned::GLOBAL_ADDRESS;
 use vt_kinds::Scale;
 
+/// The digits of hex.
+const DIGITS: [u8; 16] = *b"0123456789ABCDEF";
+
+/// A byte in hex, two digits, as `A0`.
+#[derive(Clone, Copy, Drop)]
+pub struct HexByte(pub u8);
+
+impl fmt::Display for HexByte {
+    fn fmt<W: fmt::Write>(&self, f: &mut fmt::Formatter<W>) -> fmt::Result {
+        let high = DIGITS[usize::from(self.0 >> 4)];
+        let low = DIGITS[usize::from(self.0 & 0xF)];
+        f.write_str(str::from_utf8(&[high, low]).unwrap_or_default())
+    }
+}
+
 /// Bytes in hex, two digits each, as `A0 64 00`, or `no bytes`.
 #[derive(Clone, Copy, Drop)]
 pub struct HexBytes<'a>(pub &'a [u8]);
 
 impl fmt::Display for HexBytes<'_> {
     fn fmt<W: fmt::Write>(&self, f: &mut fmt::Formatter<W>) -> fmt::Result {
-        if self.0.is_empty() {
+        let Some((first, rest)) = self.0.split_first() else {
             return f.write_str("no bytes");
-        }
-        for (index, byte) in self.0.iter().enumerate() {
-            let space = if index == 0 { "" } else { " " };
-            write!(f, "{space}{byte:02X}")?;
+        };
+        write!(f, "{}", HexByte(*first))?;
+        for byte in rest {
+            write!(f, " {}", HexByte(*byte))?;
         }
         Ok(())
     }
@@ -46,7 +61,7 @@ impl fmt::Display for Destination {
     fn fmt<W: fmt::Write>(&self, f: &mut fmt::Formatter<W>) -> fmt::Result {
         match self.0 {
             None | Some(GLOBAL_ADDRESS) => f.write_str("all"),
-            Some(address) => write!(f, "{address:02X}"),
+            Some(address) => write!(f, "{}", HexByte(address)),
         }
     }
 }

@@ -5,11 +5,11 @@ ghost use Rattle.vt_trace.specs.Lines.{Gains};
 ghost use Rattle.vt_trace.specs.Traces.{IsHead};
 
 use crate::lines::put_line;
-use std::alloc::{AllocError, Global};
-use std::fmt;
+use std::alloc::AllocError;
+use std::fmt::{self, Write};
 use vt_can::{Action, Skipped};
 use vt_findings_text::Names;
-use vt_frames_text::{Destination, QuotedText};
+use vt_frames_text::{Destination, HexByte, QuotedText};
 use vt_listen::SentMessage;
 use vt_messages_text::{MessageSentence, Sentence};
 use vt_objects::{ObjectId, push_number};
@@ -17,16 +17,17 @@ use vt_objects::{ObjectId, push_number};
 /// The microseconds of a second.
 const SECOND: u64 = 1_000_000;
 
-/// Appends the first line of a trace: the number of a line, and what it says.
+/// Appends the first line of a trace: the number of a line, and what it says. `words` is a buffer.
 pub(crate) fn put_head<T: fmt::Display + Drop>(
-    alloc: Global,
     number: u64,
     head: T,
+    words: &mut String,
     text: &mut Vec<u8>,
 ) -> Result<(), AllocError>
     ensures { OnOk result (Gains (IsHead number) text.old.items text.new.items) }
 {
-    let words = format!(in alloc; "{head}")?;
+    words.clear();
+    write!(words, "{head}").map_err(|_| AllocError)?;
     push_number(text, b"", number)?;
     put_line(b" ", words.as_bytes(), text)
 }
@@ -70,9 +71,9 @@ pub(crate) struct AddressedSentence<'a>(pub(crate) Sentence<'a>);
 impl fmt::Display for AddressedSentence<'_> {
     fn fmt<W: fmt::Write>(&self, f: &mut fmt::Formatter<W>) -> fmt::Result {
         let id = self.0.frame.id;
-        let source = id.source();
+        let source = HexByte(id.source());
         let destination = Destination(id.destination());
-        write!(f, "{source:02X} to {destination}: {}", self.0)
+        write!(f, "{source} to {destination}: {}", self.0)
     }
 }
 

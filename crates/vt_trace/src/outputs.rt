@@ -7,39 +7,41 @@ ghost use Rattle.vt_trace.specs.Traces.{AreOutputLines, IsOutputLine};
 
 use crate::heads::AddressedSentence;
 use crate::lines::put_line;
-use std::alloc::{AllocError, Global};
+use std::alloc::AllocError;
+use std::fmt::Write;
 use vt_can::write_frame;
 use vt_findings_text::Names;
 use vt_messages_text::Sentence;
 use vt_server::{OperatorFault, OperatorRefusal, Output, Terminal};
 
-/// Appends the lines of a terminal's outputs, in their order.
+/// Appends the lines of a terminal's outputs, in their order. `words` is a buffer.
 pub(crate) fn put_outputs(
-    alloc: Global,
     outputs: &[Output],
     terminal: &Terminal,
     names: &Names,
+    words: &mut String,
     text: &mut Vec<u8>,
 ) -> Result<(), AllocError>
     ensures { OnOk result (Gains (AreOutputLines outputs.now) text.old.items text.new.items) }
 {
     for output in outputs {
-        put_output(alloc, output, terminal, names, text)?;
+        put_output(output, terminal, names, words, text)?;
     }
     Ok(())
 }
 
-/// Appends the line of an output: a frame, or a refusal to the operator.
+/// Appends the line of an output: a frame, or a refusal to the operator. `words` is a buffer.
 fn put_output(
-    alloc: Global,
     output: &Output,
     terminal: &Terminal,
     names: &Names,
+    words: &mut String,
     text: &mut Vec<u8>,
 ) -> Result<(), AllocError>
     ensures { OnOk result (Gains (IsOutputLine output.now) text.old.items text.new.items) }
 {
     text.extend_from_slice(b"    ")?;
+    words.clear();
     match output {
         Output::Frame(frame) => {
             let sentence = Sentence {
@@ -47,12 +49,12 @@ fn put_output(
                 terminal,
                 names,
             };
-            let words = format!(in alloc; "{}", AddressedSentence(sentence))?;
+            write!(words, "{}", AddressedSentence(sentence)).map_err(|_| AllocError)?;
             text.extend_from_slice(&write_frame(frame))?;
             put_line(b"  ", words.as_bytes(), text)
         }
         Output::Refused(fault) => {
-            let words = format!(in alloc; "{fault}")?;
+            write!(words, "{fault}").map_err(|_| AllocError)?;
             text.extend_from_slice(b"operator ")?;
             text.extend_from_slice(refusal_name(*fault).as_bytes())?;
             put_line(b"  ", words.as_bytes(), text)

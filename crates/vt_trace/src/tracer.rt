@@ -30,6 +30,8 @@ pub struct Tracer<'a> {
     screen: Vec<u8>,
     // The buffer for the next screen.
     drawn: Vec<u8>,
+    // The buffer for the words of a line.
+    words: String,
     // The terminal's outputs at the last line.
     outputs: Vec<Output>,
     // The messages in packets, as far as they have come.
@@ -54,6 +56,7 @@ impl<'a> Tracer<'a> {
             names,
             screen,
             drawn: Vec::new(alloc),
+            words: String::new(alloc),
             outputs: Vec::new(alloc),
             listener: Listener::new(alloc),
             broken: Vec::new(alloc),
@@ -74,7 +77,12 @@ impl<'a> Tracer<'a> {
     {
         match reading {
             Ok(line) => self.trace_read(number, line, terminal, text),
-            Err(fault) => put_head(self.alloc, number, format_args!("faulty: {fault}"), text),
+            Err(fault) => put_head(
+                number,
+                format_args!("faulty: {fault}"),
+                &mut self.words,
+                text,
+            ),
         }
     }
 
@@ -94,12 +102,17 @@ impl<'a> Tracer<'a> {
             Line::Operator(action) => {
                 let action = *action;
                 let names = self.names;
-                put_head(self.alloc, number, ActionHead { action, names }, text)?;
+                put_head(number, ActionHead { action, names }, &mut self.words, text)?;
                 self.trace_input(&Input::Operator(action), terminal, text)
             }
             Line::Skipped(skipped) => {
                 let words = skipped_words(*skipped);
-                put_head(self.alloc, number, format_args!("skipped: {words}"), text)
+                put_head(
+                    number,
+                    format_args!("skipped: {words}"),
+                    &mut self.words,
+                    text,
+                )
             }
             Line::Comment => Ok(()),
         }
@@ -129,7 +142,7 @@ impl<'a> Tracer<'a> {
             sentence,
             whole: whole.as_ref(),
         };
-        put_head(self.alloc, number, head, text)?;
+        put_head(number, head, &mut self.words, text)?;
         let frame = copy_of(frame)?;
         self.trace_input(&Input::Frame { time, frame }, terminal, text)
     }
@@ -147,7 +160,7 @@ impl<'a> Tracer<'a> {
         self.outputs.clear();
         terminal.step(input, &mut self.outputs)?;
         let names = self.names;
-        put_outputs(self.alloc, &self.outputs, terminal, names, text)?;
+        put_outputs(&self.outputs, terminal, names, &mut self.words, text)?;
         self.put_new_screen(terminal, text)
     }
 
