@@ -1,2 +1,2 @@
-pub mod OwnCounts
-pub mod Sums
+pub mod SeenBefore
+pub mod Senders

@@ -1,7 +1,5 @@
 -- How much was sent.
-use Rattle.std.specs.Prelude.{◌≡◌, ◌<◌, ℕ, ◌+◌, ◌*◌, ◌-◌, ◌^◌, List, min, sum_by, unwrap_or}
-use Rattle.std.specs.Ordering.{nat_cmp}
-use Rattle.std.specs.BTreeMap.{BTreeMap, get}
+use Rattle.std.specs.Prelude.{◌≡◌, ◌<◌, ℕ, ◌+◌, ◌*◌, ◌-◌, ◌^◌, List, min, sum_by, slice_index_or}
 use Rattle.vt_traffic.specs.declared.counts.Counts.{Counts}
 
 -- no frames
@@ -20,9 +18,9 @@ with_frame counts length = record {
   bits = more counts.bits (67 + 8 * length);
 }
 
--- how much a source has sent
-abbrev pub counts_in : BTreeMap ℕ Counts → ℕ → Counts
-counts_in counts source = unwrap_or (get nat_cmp counts source) nothing
+-- how much a source has sent, by the counts of all addresses
+abbrev pub counts_in : List Counts → ℕ → Counts
+counts_in counts source = slice_index_or counts source nothing
 
 -- the frames sum up to a number, unless it is the greatest of 64 bits
 abbrev pub SumUpTo : List Counts → ℕ → Type 0

@@ -3,5 +3,6 @@ pub mod Loads
 pub mod Passages
 pub mod Reports
 pub mod Shares
+pub mod Sightings
 pub mod Spans
 pub mod Traffics

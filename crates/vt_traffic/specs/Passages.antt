@@ -1,4 +1,4 @@
--- The transfers of a log.
+-- How the transfers of a log are counted.
 use Rattle.std.specs.Prelude.{◌≡◌, ℕ, Option, None, Some, List, length}
 use Rattle.vt_can.specs.declared.frames.frame.Frame.{Frame}
 use Rattle.vt_listen.specs.declared.broken.Broken.{Broken}

@@ -3,9 +3,9 @@ use Rattle.std.specs.Prelude.{◌≡◌, ◌<◌, ◌-◌, ◌^◌, ℕ, All, le
 use Rattle.vt_traffic.specs.declared.report.TrafficReport.{TrafficReport}
 use Rattle.vt_traffic.specs.declared.traffic.Traffic.{Traffic}
 use Rattle.vt_traffic.specs.Loads.{load_of}
-use Rattle.vt_traffic.specs.Shares.{share_of}
+use Rattle.vt_traffic.specs.Shares.{share_of, senders}
 use Rattle.vt_traffic.specs.Spans.{HasSpan}
-use Rattle.vt_traffic.specs.Traffics.{counts_from, total_of}
+use Rattle.vt_traffic.specs.Traffics.{counts_from, total_of, twice_of}
 
 -- the microseconds from the first frame to the last one
 abbrev pub microseconds_of : TrafficReport → ℕ
@@ -22,7 +22,7 @@ pub record HasNoSpan (report : TrafficReport) : Type 0 where
 pub record IsReportOn (traffic : Traffic) (report : TrafficReport) : Type 0 where
   pub total : report.total ≡ total_of traffic
   -- one share for each source that has sent a frame, by rising addresses, with its counts and its load
-  pub sources : report.shares.items ≡ map (share_of (microseconds_of report)) traffic.sources.counts.entries
+  pub sources : report.shares.items ≡ map (share_of (microseconds_of report) traffic.sources.counts) (senders traffic.sources.counts)
   pub shares : All (λ share. share.counts ≡ counts_from traffic share.source) report.shares.items
   -- the frames of the sources sum up to those of all, unless there are more than a number holds
   pub sums : report.total.frames < 2 ^ 64 - 1 → sum_by (λ share. share.counts.frames) report.shares.items ≡ report.total.frames
@@ -32,3 +32,4 @@ pub record IsReportOn (traffic : Traffic) (report : TrafficReport) : Type 0 wher
   pub broken : report.transfers.broken ≡ traffic.transfers.counted.broken
   -- each transfer that is open is not ended
   pub unended : report.transfers.unended ≡ length traffic.transfers.listener.transfers.entries
+  pub seen_twice : report.seen_twice ≡ twice_of traffic

@@ -38,8 +38,8 @@ pub struct TrafficReport {
     pub shares: Vec<Share>,
     /// How the transfers went.
     pub transfers: Transfers,
-    /// How many frames were the same, by identifier and data, as one of the 63 frames before them that was at most a millisecond earlier:
-    /// recorded on two interfaces.
+    /// How many frames were the same, by identifier and data, as one of the 63 frames before them that was at most a millisecond earlier,
+    /// as where two interfaces record one bus.
     pub seen_twice: u64,
 }
 

@@ -23,15 +23,19 @@ enum SenderFrame {
 impl SenderFrame {
     /// `None` for any other frame.
     fn of_frame(frame: &Frame) -> Option<SenderFrame> {
+        let group = frame.id.pgn();
+        if !matches!(group, TP_CM | TP_DT | ETP_CM | ETP_DT) {
+            return None;
+        }
         let [control, _, _, _, _, _, _, _] = frame.bytes.as_slice() else {
             return None;
         };
         let channel = Channel {
-            is_extended: matches!(frame.id.pgn(), ETP_CM | ETP_DT),
+            is_extended: matches!(group, ETP_CM | ETP_DT),
             source: frame.id.source(),
             destination: frame.id.destination()?,
         };
-        match (frame.id.pgn(), *control) {
+        match (group, *control) {
             (TP_CM, TP_RTS) | (ETP_CM, ETP_RTS) => Some(SenderFrame::Request(channel)),
             (TP_DT | ETP_DT, _) => Some(SenderFrame::Packet(channel)),
             _ => None,
@@ -64,7 +68,7 @@ impl Requests {
         }
     }
 
-    /// Notes a request in place of an earlier one in its channel, and counts a packet.
+    /// Notes a request in place of an earlier one in its channel, or counts a packet since the request.
     pub(crate) fn note(&mut self, line: u64, time: u64, frame: &Frame) -> Result<(), AllocError> {
         match SenderFrame::of_frame(frame) {
             Some(SenderFrame::Request(channel)) => {

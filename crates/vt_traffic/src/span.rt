@@ -1,10 +1,10 @@
 //! The first and the last frame.
 
-ghost use Rattle.std.specs.Prelude.{◌≡◌};
+ghost use Rattle.std.specs.Prelude.{◌≡◌, ◌≤◌, IfSome};
 ghost use Rattle.vt_traffic.specs.Spans.{with_frame_at};
 
 /// The first and the last frame.
-#[derive(Clone, Copy)]
+#[derive(Clone, Copy, Default)]
 pub(crate) struct Span {
     pub(crate) first_line: u64,
     pub(crate) last_line: u64,
@@ -16,7 +16,8 @@ pub(crate) struct Span {
 impl Span {
     /// A span with one more frame. No span is that before the first frame.
     pub(crate) fn with_frame_at(line: u64, time: u64, before: Option<Span>) -> Span
-        ensures { result ≡ with_frame_at line time before }
+        ensures span { result ≡ with_frame_at line time before }
+        ensures later { IfSome before (λ span. span.last_time ≤ result.last_time) }
     {
         match before {
             Some(span) => Span {

@@ -3,7 +3,7 @@
 ghost use Rattle.std.specs.Prelude.{◌≡◌, ℕ, OnOk, IfOk, None, []};
 ghost use Rattle.vt_traffic.specs.Counted.{nothing};
 ghost use Rattle.vt_traffic.specs.Reports.{IsReportOn};
-ghost use Rattle.vt_traffic.specs.Traffics.{counts_from, total_of, CountsFrame, HasTaken};
+ghost use Rattle.vt_traffic.specs.Traffics.{counts_from, total_of, twice_of, CountsFrame, HasTaken, HasSighted};
 
 use crate::counts::Counts;
 use crate::load::load_of;
@@ -17,7 +17,8 @@ use vt_can::Frame;
 
 /// What the frames of a log come to.
 ///
-/// The memory grows with the number of sources and of open transfers, and of these with the packets that came.
+/// The memory grows with the number of channels whose last request has not led to a whole message, and with the packets of the open
+/// transfers.
 #[derive(Drop)]
 pub struct Traffic {
     sources: Sources,
@@ -33,6 +34,10 @@ impl Traffic {
         ensures total { total_of result ≡ nothing }
         ensures span { result.span ≡ None }
         ensures taken { HasTaken [] result }
+        ensures sighted { HasSighted [] result }
+        ensures whole { result.transfers.counted.whole ≡ 0 }
+        ensures broken { result.transfers.counted.broken ≡ 0 }
+        ensures twice { twice_of result ≡ 0 }
     {
         Traffic {
             sources: Sources::new(alloc),
@@ -47,12 +52,12 @@ impl Traffic {
     pub fn take(&mut self, line: u64, time: u64, frame: &Frame) -> Result<(), AllocError>
         ensures { OnOk result (CountsFrame line time self.old self.new frame.now) }
     {
-        self.sources
-            .add_frame(frame.id.source(), frame.bytes.len())?;
+        self.sources.add_frame(frame.id.source(), frame.bytes.len());
         let span = Span::with_frame_at(line, time, self.span);
         self.span = Some(span);
         self.sightings.take(span.last_time, frame)?;
-        self.transfers.take(line, span.last_time, frame)
+        self.transfers.take(line, span.last_time, frame)?;
+        Ok(())
     }
 
     /// How much a source has sent.
@@ -73,12 +78,7 @@ impl Traffic {
     pub fn report(&self) -> Result<TrafficReport, AllocError>
         ensures { IfOk result (IsReportOn self.now) }
     {
-        let span = self.span.unwrap_or(Span {
-            first_line: 0,
-            last_line: 0,
-            first_time: 0,
-            last_time: 0,
-        });
+        let span = self.span.unwrap_or_default();
         let microseconds = span.last_time.saturating_sub(span.first_time);
         Ok(TrafficReport {
             first_line: span.first_line,
@@ -88,7 +88,7 @@ impl Traffic {
             total: self.sources.total,
             load: load_of(self.sources.total.bits, microseconds),
             shares: self.sources.shares(microseconds)?,
-            transfers: self.transfers.counted()?,
+            transfers: self.transfers.report(),
             seen_twice: self.sightings.seen_twice(),
         })
     }

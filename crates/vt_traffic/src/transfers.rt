@@ -1,6 +1,6 @@
 //! Transfers of messages in packets.
 
-ghost use Rattle.std.specs.Prelude.{◌≡◌, ◌∷◌, List, [], IfOk, OnOk, length};
+ghost use Rattle.std.specs.Prelude.{◌≡◌, ◌∷◌, List, [], OnOk, length};
 ghost use Rattle.vt_can.specs.declared.frames.frame.Frame.{Frame as CanFrame};
 ghost use Rattle.vt_listen.specs.Listeners.{HasHeard};
 ghost use Rattle.vt_traffic.specs.Counted.{more};
@@ -17,13 +17,13 @@ use vt_listen::{Broken, Listener, SentMessage};
 pub struct Transfers {
     /// How many became whole.
     pub whole: u64,
-    /// How many were broken off: by an abort, or by a new request before the last packet.
+    /// How many were broken off: by an abort, or by a new request before all of their packets had come.
     pub broken: u64,
     /// How many were open at the end of the log.
     pub unended: u64,
-    /// How many packets came beyond those that their message needed, until it was whole.
+    /// How many packets came beyond those that their message needed, of the messages that became whole.
     pub repeated_packets: u64,
-    /// The one that took the longest time; the first of them if there are several.
+    /// The one of those that became whole that took the longest time; the first of them if there are several.
     pub longest: Option<LongTransfer>,
 }
 
@@ -38,7 +38,7 @@ pub struct LongTransfer {
     pub destination: u8,
     /// The bytes of the message.
     pub bytes: u64,
-    /// The microseconds from the request to the last packet.
+    /// The microseconds from the request to the packet that made the message whole.
     pub time: u64,
 }
 
@@ -81,7 +81,6 @@ fn longer(first: Option<LongTransfer>, second: LongTransfer) -> LongTransfer {
 /// The open transfers, and what was counted of them.
 #[derive(Drop)]
 pub(crate) struct TransferCounter {
-    alloc: Global,
     listener: Listener,
     broken: Vec<Broken>,
     requests: Requests,
@@ -91,10 +90,11 @@ pub(crate) struct TransferCounter {
 impl TransferCounter {
     /// No transfers. Does not allocate.
     pub(crate) fn new(alloc: Global) -> TransferCounter
-        ensures { HasHeard [] result.listener }
+        ensures heard { HasHeard [] result.listener }
+        ensures whole { result.counted.whole ≡ 0 }
+        ensures broken { result.counted.broken ≡ 0 }
     {
         TransferCounter {
-            alloc,
             listener: Listener::new(alloc),
             broken: Vec::new(alloc),
             requests: Requests::new(alloc),
@@ -121,16 +121,14 @@ impl TransferCounter {
     }
 
     /// How the transfers went so far.
-    pub(crate) fn counted(&self) -> Result<Transfers, AllocError>
-        ensures whole { IfOk result (λ transfers. transfers.whole ≡ self.now.counted.whole) }
-        ensures broken { IfOk result (λ transfers. transfers.broken ≡ self.now.counted.broken) }
-        ensures unended { IfOk result (λ transfers. transfers.unended ≡ length self.now.listener.transfers.entries) }
+    pub(crate) fn report(&self) -> Transfers
+        ensures whole { result.whole ≡ self.now.counted.whole }
+        ensures broken { result.broken ≡ self.now.counted.broken }
+        ensures unended { result.unended ≡ length self.now.listener.transfers.entries }
     {
-        let mut unended = Vec::new(self.alloc);
-        self.listener.unended(&mut unended)?;
-        Ok(Transfers {
-            unended: unended.len() as u64,
+        Transfers {
+            unended: self.listener.open_count() as u64,
             ..self.counted
-        })
+        }
     }
 }
