@@ -1,3 +1,3 @@
 pub mod PairSets
 pub mod ShownMask
-pub mod ToldMasks
+pub mod Splits

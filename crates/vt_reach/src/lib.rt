@@ -1,4 +1,4 @@
-//! What a replay reaches of the pools in a log: the masks that were shown, the objects that were drawn, and the macros that can have run.
+//! What a replay reaches of the pools in a log: the masks that were shown, the objects that were drawn, and the macros that may have run.
 //!
 //! - `Reach` is told of each line: by `before`, and by `after` with the terminal's outputs.
 //! - `Reach::sets` returns a `SetReach` for each working set that had a pool: what was reached, and what never was, each as a
@@ -17,6 +17,7 @@ mod reached;
 mod report;
 mod sets;
 mod shown_masks;
+mod split;
 
 pub use reach::Reach;
 pub use report::{PoolObject, ReachText, SetReach};

@@ -1,4 +1,7 @@
-//! Macros that can have run.
+//! Macros that may have run.
+
+ghost use Rattle.std.specs.Prelude.{◌≡◌};
+ghost use Rattle.vt_reach.specs.Reports.{is_reached};
 
 use std::alloc::{AllocError, Global};
 use std::collections::BTreeSet;
@@ -7,7 +10,7 @@ use vt_objects::{
 };
 use vt_verify::{macro_bytes, macro_command};
 
-/// The macros of a working set that can have run: those at events that were raised, and those at events that their commands may raise.
+/// The macros of a working set that may have run: those at events that were raised, and those at events that their commands may raise.
 /// What a command of a macro may raise is judged by its row alone, and by no test of a value, so that none is left out that ran.
 #[derive(Drop)]
 pub(crate) struct ReachedMacros {
@@ -31,8 +34,10 @@ impl ReachedMacros {
         }
     }
 
-    /// Whether a macro can have run.
-    pub(crate) fn contains(&self, id: ObjectId) -> bool {
+    /// Whether a macro may have run.
+    pub(crate) fn contains(&self, id: ObjectId) -> bool
+        ensures { result ≡ is_reached self.now id }
+    {
         match u8::try_from(id.raw()) {
             Ok(id) => self.reached.contains(&id),
             Err(_) => false,

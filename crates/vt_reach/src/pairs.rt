@@ -44,7 +44,8 @@ impl Pairs {
 
     /// Whether a pair is in the set.
     pub(crate) fn contains(&self, pair: (u8, u16)) -> bool
-        ensures { IsTrue result ↔ Contains self.now.pairs.keys pair }
+        ensures found { result ≡ contains pair_cmp self.now.pairs pair }
+        ensures has { IsTrue result ↔ Contains self.now.pairs.keys pair }
     {
         self.pairs.contains(&pair)
     }

@@ -64,8 +64,8 @@ impl Reach {
 
     /// What was reached of each working set that had a pool, by rising addresses.
     pub fn sets(&self) -> Result<Vec<SetReach>, AllocError>
-        // Each noted set is told, in this order. Each noted mask of it that was shown is told to be shown, and no other; none that was shown is
-        // told to be never shown.
+        // Each noted set is told, by rising addresses, with each object that was noted of it: among those that were reached or among those
+        // that never were.
         ensures { IfOk result (λ sets. AllZip (TellsOf self.now.shown_masks) self.now.sets.sets.entries sets.items) }
     {
         let mut sets = Vec::new(self.alloc);

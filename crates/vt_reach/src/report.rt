@@ -1,9 +1,11 @@
 //! What was reached of a working set, and what never was.
 
-ghost use Rattle.std.specs.Prelude.{◌≡◌, OnOk, IfOk};
+ghost use Rattle.std.specs.Prelude.{◌≡◌, IfOk};
+ghost use Rattle.vt_reach.specs.Reports.{is_drawn};
 
 use crate::reached::Reached;
 use crate::shown_masks::ShownMasks;
+use crate::split::Split;
 use std::alloc::{AllocError, Global};
 use std::fmt;
 use vt_findings_text::{Label, Names};
@@ -35,14 +37,14 @@ pub struct SetReach {
     pub objects_drawn: Vec<PoolObject>,
     /// The other objects of the kinds that are drawn, and keys.
     pub objects_never: Vec<PoolObject>,
-    /// The macros that can have run.
+    /// The macros that may have run.
     pub macros_reached: Vec<PoolObject>,
     /// The other macros.
     pub macros_never: Vec<PoolObject>,
 }
 
 impl SetReach {
-    ghost use Rattle.vt_reach.specs.Reports.{TellsOf, TellsMore, KeepsMasks};
+    ghost use Rattle.vt_reach.specs.Reports.{TellsOf};
 
     /// What was reached of a set.
     pub(crate) fn of_set(
@@ -53,78 +55,41 @@ impl SetReach {
     ) -> Result<SetReach, AllocError>
         ensures { IfOk result (TellsOf shown_masks.now (address, set.now)) }
     {
-        let mut reach = SetReach {
-            address,
-            done: set.done,
-            refused: set.refused,
-            masks_shown: Vec::new(alloc),
-            masks_never: Vec::new(alloc),
-            objects_drawn: Vec::new(alloc),
-            objects_never: Vec::new(alloc),
-            macros_reached: Vec::new(alloc),
-            macros_never: Vec::new(alloc),
-        };
+        let mut masks = Split::new(alloc);
+        let mut objects = Split::new(alloc);
+        let mut macros = Split::new(alloc);
         for (id, kind) in set.kinds.iter() {
+            let was_shown = shown_masks.contains(address, *id);
             let was_drawn = set.drawn.contains(id);
-            let was_reached = set.macros.contains(*id);
+            let is_reached = set.macros.contains(*id);
             let object = PoolObject {
                 id: *id,
                 kind: *kind,
             };
-            reach.put_mask(&object, shown_masks)?;
-            reach.put_object(&object, was_drawn)?;
-            reach.put_macro(&object, was_reached)?;
+            masks.put(&object, was_shown, Kinds::Masks.contains(*kind))?;
+            objects.put(&object, was_drawn, is_drawn(*kind))?;
+            macros.put(&object, is_reached, Kinds::Macros.contains(*kind))?;
         }
-        Ok(reach)
-    }
-
-    /// Puts an object among the masks that were shown, or among the others if it is a mask.
-    fn put_mask(&mut self, object: &PoolObject, shown_masks: &ShownMasks) -> Result<(), AllocError>
-        ensures address { self.new.address ≡ self.old.address }
-        ensures told { OnOk result (TellsMore shown_masks.now object.now self.old self.new) }
-    {
-        if shown_masks.contains(self.address, object.id) {
-            self.masks_shown.push(*object)?;
-        } else if Kinds::Masks.contains(object.kind) {
-            self.masks_never.push(*object)?;
-        }
-        Ok(())
-    }
-
-    /// Puts an object among those that were drawn, or among the others if it is of a kind that is drawn.
-    fn put_object(&mut self, object: &PoolObject, was_drawn: bool) -> Result<(), AllocError>
-        ensures address { self.new.address ≡ self.old.address }
-        ensures told { KeepsMasks self.old self.new }
-    {
-        if was_drawn {
-            self.objects_drawn.push(*object)?;
-        } else if is_drawn(object.kind) {
-            self.objects_never.push(*object)?;
-        }
-        Ok(())
-    }
-
-    /// Puts an object among the macros that can have run, or among the others if it is a macro.
-    fn put_macro(&mut self, object: &PoolObject, was_reached: bool) -> Result<(), AllocError>
-        ensures address { self.new.address ≡ self.old.address }
-        ensures told { KeepsMasks self.old self.new }
-    {
-        if was_reached {
-            self.macros_reached.push(*object)?;
-        } else if object.kind == Kind::Macro {
-            self.macros_never.push(*object)?;
-        }
-        Ok(())
+        Ok(SetReach {
+            address,
+            done: set.done,
+            refused: set.refused,
+            masks_shown: masks.reached,
+            masks_never: masks.never,
+            objects_drawn: objects.reached,
+            objects_never: objects.never,
+            macros_reached: macros.reached,
+            macros_never: macros.never,
+        })
     }
 }
 
 /// Whether objects of a kind are drawn below a mask or a soft key mask. A pointer is not: the object that it points to is.
-fn is_drawn(kind: Kind) -> bool {
-    match kind {
-        Kind::ObjectPointer => false,
-        Kind::Key => true,
-        _ => Kinds::DrawnInWorkingSet.contains(kind),
-    }
+fn is_drawn(kind: Kind) -> bool
+    ensures { result ≡ is_drawn kind }
+{
+    Kinds::AllButPointers.contains(kind)
+        && (Kinds::Keys.contains(kind) || Kinds::DrawnInWorkingSet.contains(kind))
 }
 
 /// What was reached of a working set, which its `Display` writes with the names of objects: a line for the commands, and below it one each for

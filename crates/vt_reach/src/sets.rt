@@ -11,9 +11,6 @@ use vt_machine::Live;
 use vt_objects::{Event, ObjectId, SortedStore};
 use vt_server::{Output, Terminal};
 
-/// The highest address of a working set.
-const HIGHEST_ADDRESS: u8 = 253;
-
 /// The working sets that had a pool, by their addresses.
 #[derive(Drop)]
 pub(crate) struct Sets {
@@ -56,7 +53,7 @@ impl Sets {
         self.begin(terminal)?;
         let line = self.take_line(terminal);
         self.note_answers(outputs, line.mask, terminal)?;
-        // From the loss of the address on no line raises an event, the one of the loss neither, and a line of the operator never loses it.
+        // The line with which the address is lost raises no event, and no line after it does. An operator's line never loses the address.
         if !terminal.is_lost() {
             self.note_events(outputs, &line, terminal)?;
         }
@@ -110,7 +107,7 @@ impl Sets {
         if self.has_begun {
             return Ok(());
         }
-        for address in 0..=HIGHEST_ADDRESS {
+        for address in 0..=u8::MAX {
             self.note_pool(address, terminal)?;
         }
         self.note_drawing(terminal)?;
@@ -142,19 +139,18 @@ impl Sets {
         let Some((address, answer)) = Answer::in_frame(frame) else {
             return Ok(());
         };
-        if matches!(answer, Answer::Pool) {
-            return self.note_pool(address, terminal);
-        }
-        let Some(set) = self.sets.get_mut(&address) else {
-            return Ok(());
-        };
         match answer {
-            Answer::Done(effect) => set.note_done(terminal.set(address), mask, effect),
+            Answer::Pool => self.note_pool(address, terminal),
+            Answer::Done(effect) => match self.sets.get_mut(&address) {
+                Some(set) => set.note_done(terminal.set(address), mask, effect),
+                None => Ok(()),
+            },
             Answer::Refused => {
-                set.count_refused();
+                if let Some(set) = self.sets.get_mut(&address) {
+                    set.count_refused();
+                }
                 Ok(())
             }
-            Answer::Pool => Ok(()),
         }
     }
 

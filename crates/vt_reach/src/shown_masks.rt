@@ -5,7 +5,7 @@ ghost use Rattle.std.specs.Option.{option_map};
 ghost use Rattle.vt_server.specs.States.{state_of};
 ghost use Rattle.vt_server.specs.shown.DisplayValues.{found_pool};
 ghost use Rattle.vt_server.specs.shown.ShownSet.{pool_shown};
-ghost use Rattle.vt_reach.specs.ShownMasks.{HasShown, Adds, AddsShown};
+ghost use Rattle.vt_reach.specs.ShownMasks.{HasShown, Adds, AddsShown, was_shown};
 
 use crate::pairs::Pairs;
 use std::alloc::{AllocError, Global};
@@ -52,7 +52,8 @@ impl ShownMasks {
 
     /// Whether a mask was shown of the set at an address.
     pub(crate) fn contains(&self, address: u8, mask: ObjectId) -> bool
-        ensures { IsTrue result ↔ HasShown self.now address mask }
+        ensures found { result ≡ was_shown self.now address mask }
+        ensures has { IsTrue result ↔ HasShown self.now address mask }
     {
         self.masks.contains((address, mask.raw()))
     }

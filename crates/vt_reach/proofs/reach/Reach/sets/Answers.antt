@@ -2,7 +2,7 @@ use Rattle.std.proofs.Common.{rules, ◌≡◌, map}
 use Rattle.std.proofs.lemmas.List.{map_push}
 use Rattle.std.proofs.lemmas.Map.Iter.{iter_end}
 use Rattle.std.specs.Map.Iter.{deref_pair}
-use Rattle.vt_reach.proofs.ToldMasks.{AllZip-joins}
+use Rattle.vt_reach.proofs.Splits.{AllZip-joins}
 use Rattle.vt_reach.specs.Reports.{TellsOf}
 use Rattle.vt_reach.proofs.reach.Reach.sets.Goals as goal
 
