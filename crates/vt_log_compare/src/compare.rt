@@ -47,7 +47,7 @@ pub fn run_compare<F: Open, W: Write, E: Messages>(
     Ok(status)
 }
 
-/// Says on `errors` that the recorded terminal has said nothing to an implement.
+/// Says on `errors` that the log has no message of the recorded terminal.
 fn tell_no_message<F: Program, E: Write>(options: &ReplayOptions<'_>, files: &F, errors: &mut E) {
     let _ = writeln!(
         errors,

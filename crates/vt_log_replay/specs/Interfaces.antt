@@ -1,4 +1,4 @@
--- The reading of a line of a log of which one interface may be wanted.
+-- The reading of a line of a log, of all interfaces or of one.
 use Rattle.std.specs.Prelude.{◌≡◌, true, false, ℕ, Option, List, Result, Ok}
 use Rattle.std.specs.Option.{option_map}
 use Rattle.vt_can.specs.declared.lines.line.LineFault.{LineFault}

@@ -33,7 +33,7 @@ pub struct Recorded {
     pub loads: Vec<Load>,
     /// Whether there is a frame.
     pub has_frames: bool,
-    /// Whether a frame of the terminal to an implement is in the log.
+    /// Whether a message of the terminal is in the log, to an implement or to all.
     pub has_messages: bool,
 }
 
@@ -67,8 +67,8 @@ impl Recorded {
         Ok(recorded)
     }
 
-    /// Whether a line has to be read. A frame as `candump -L` writes it has not if it is no claim, no request to load a stored pool, and no
-    /// message of a terminal, or if a message of the recorded terminal is noted already.
+    /// Whether a line has to be read: claims, requests to load a stored pool, messages of a terminal while none of the recorded terminal
+    /// is noted, and each line of another form than `candump -L` writes.
     fn is_told_by<'a>(&self, line: &'a [u8], front: &mut Front<'a>) -> bool {
         if !self.has_frames {
             return true;
@@ -143,8 +143,8 @@ fn is_terminal(name: u64) -> bool {
     Name::from_raw(name).function() == VIRTUAL_TERMINAL
 }
 
-/// Where lines as `candump -L` writes them, `(TIME) INTERFACE ID#DATA` with single spaces, have their frames. Mostly a line has it where the
-/// line before it had it.
+/// The place of the interface in a line as `candump -L` writes it, `(TIME) INTERFACE ID#DATA` with single spaces. The next line mostly has its
+/// interface at the same place.
 #[derive(Clone, Copy, Default)]
 struct Front<'a> {
     /// The index of the interface's text in the line.

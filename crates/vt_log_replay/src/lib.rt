@@ -1,4 +1,4 @@
-//! What the subcommands of `segyolant_log` need that read a log or replay it.
+//! What subcommands of `segyolant_log` need to read a log and to replay it.
 //!
 //! - A `Replay` is a log with all that its replay needs: `Replay::terminal` is the terminal before the first line, `Replay::text` has
 //!   the lines, a `LogReader` reads them, and `input_of` gives the input of a line. `Recorded` is what the log tells of the recorded

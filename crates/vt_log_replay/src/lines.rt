@@ -4,7 +4,7 @@ use crate::messages::Messages;
 use memchr::{Memchr, memchr_iter};
 use std::iter::{Chain, Once, once};
 
-/// A run tells how far it has come at each of so many lines.
+/// The number of lines between two tellings of progress.
 const LINES_BETWEEN: u64 = 4096;
 
 /// The text of a log without the newline at its end, so that a split at newlines gives its lines.

@@ -11,7 +11,7 @@ use vt_can::{Line, LineFault};
 use vt_files::Program;
 use vt_recorded::{Reader, interface_in, is_of_interface};
 
-/// Reads the lines of a log, of which all frames are taken or those of one interface.
+/// Reads the lines of a log, and takes all of its frames or those of one interface.
 #[derive(Drop)]
 pub struct LogReader<'a> {
     reader: Reader,
@@ -30,7 +30,7 @@ impl<'a> LogReader<'a> {
             interface,
             remarks: Remarks {
                 first: Vec::new(alloc),
-                place: 0,
+                index: 0,
                 has_several_interfaces: false,
                 faults: 0,
             },
@@ -78,8 +78,8 @@ impl<'a> LogReader<'a> {
 struct Remarks {
     /// The interface of the first frame, between two spaces; empty before it.
     first: Vec<u8>,
-    /// The index at which the last line with a frame names its interface, and the space before it.
-    place: usize,
+    /// The index of the space before the interface, in the last line whose interface was looked for.
+    index: usize,
     /// Whether frames of several interfaces were read.
     has_several_interfaces: bool,
     /// The number of lines with a fault.
@@ -109,19 +109,27 @@ impl Remarks {
             return Ok(());
         }
         let name = interface_in(line).unwrap_or(&[]);
-        self.place = memchr(b' ', line).unwrap_or(0);
+        self.index = memchr(b' ', line).unwrap_or(0);
         if self.first.is_empty() {
             self.first.push(b' ')?;
             self.first.extend_from_slice(name)?;
             self.first.push(b' ')?;
         }
-        self.has_several_interfaces |= self.first.trim_ascii() != name;
+        self.has_several_interfaces |= !self.is_first(name);
         Ok(())
+    }
+
+    /// Whether an interface is the first one.
+    fn is_first(&self, name: &[u8]) -> bool {
+        match self.first.as_slice() {
+            [_, first @ .., _] => first == name,
+            _ => false,
+        }
     }
 
     /// Whether a line names the first interface where the line before it did. A time with more digits moves that place.
     fn is_of_first(&self, line: &[u8]) -> bool {
         let is_there = |rest: &[u8]| rest.starts_with(&self.first);
-        !self.first.is_empty() && line.get(self.place..).is_some_and(is_there)
+        !self.first.is_empty() && line.get(self.index..).is_some_and(is_there)
     }
 }

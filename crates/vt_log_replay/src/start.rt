@@ -22,8 +22,8 @@ pub struct LoadedSet {
     pub owner: u8,
 }
 
-/// Reads the pool of the set that is there from the start, if there is one. The status `NotJudged` is the error of a pool that is not there or not
-/// acceptable, which `errors` says.
+/// Reads the pool of the set that is there from the start, if there is one. A pool that cannot be read or is not accepted gives the error
+/// `NotJudged`, and `errors` says why.
 pub fn read_set<F: Open, E: Write>(
     alloc: Global,
     set: Option<StartSet<'_>>,

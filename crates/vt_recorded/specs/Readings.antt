@@ -6,7 +6,7 @@ use Rattle.vt_can.specs.lines.Line.{IsContent, ReadsAs}
 use Rattle.vt_can.specs.lines.Readings.{ParsedLine}
 use Rattle.vt_recorded.specs.PlainForms.{plain_form}
 
--- whether a line may be in the form of another recorder: its fault is of the time or of the shape
+-- whether a reading stands as it is: it has no fault, or another one than that of the time or of the shape
 abbrev pub is_of_form : Result ParsedLine LineFault → Bool
 is_of_form (Ok line) = true
 is_of_form (Err Time) = false

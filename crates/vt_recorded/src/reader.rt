@@ -55,7 +55,7 @@ fn content_of(line: &[u8]) -> &[u8]
     }
 }
 
-/// Whether a line has the form of `candump -L`, or a fault that its plain form has too.
+/// Whether a reading stands as it is: it has no fault, or another one than that of the time or of the shape.
 fn is_of_form(reading: &Result<Line<'_>, LineFault>) -> bool
     ensures { result ≡ is_of_form (reading_of reading.now) }
 {
