@@ -1,12 +1,6 @@
-//! Tests of what logs tell: lines of other recorders, messages put together by listeners, and runs of vt_log_tool.
+//! Tests of the runs of `segyolant_log`, and of what a log tells before its replay.
 #![tactic(auto)]
 
-#[cfg(test)]
-mod lines;
-#[cfg(test)]
-mod listener;
-#[cfg(test)]
-mod reach;
 #[cfg(test)]
 mod recorded;
 #[cfg(test)]
@@ -17,9 +11,5 @@ mod replays;
 mod runs;
 #[cfg(test)]
 mod shelf;
-#[cfg(test)]
-mod trace;
-#[cfg(test)]
-mod traffic;
 #[cfg(test)]
 mod want_of_memory;

@@ -64,6 +64,11 @@ pub(crate) const SPACED: &[u8] = b" (1.000000)  can0  14E72680   [8]  A0 64 00 0
  (1.100000)  can1  14E72680   [8]  A0 64 00 01 FF FF FF FF
 ";
 
+/// One interface whose name ends in a tab.
+pub(crate) const TABBED: &[u8] = b"(1.000000) can0\t 14E72680#A0640000FFFFFFFF
+(1.100000) can0\t 14E72680#A0640001FFFFFFFF
+";
+
 /// A key that the operator presses twice and releases, while a container is hidden.
 pub(crate) const PRESSED: &[u8] = b"# the key 400
 (1.000000) can0 14E72680#A0640000FFFFFFFF

@@ -301,18 +301,6 @@ fn numbers_are_lines_of_json_too(rt: HostRuntime) -> Result<(), Fail> {
 }
 
 #[test]
-fn several_interfaces_are_told(rt: HostRuntime) -> Result<(), Fail> {
-    let run = Run {
-        words: &["s", "draw", "interfaces.log", "--out", "screens"],
-        status: Status::Clean,
-        text: "line 0: screen none\n",
-        written: "== screens is made\n",
-        has_messages: true,
-    };
-    expect_run(&rt, &run)
-}
-
-#[test]
 fn an_upload_has_numbers(rt: HostRuntime) -> Result<(), Fail> {
     expect_prints(&rt, &STATISTICS)
 }

@@ -224,3 +224,27 @@ fn a_pool_that_cannot_be_written_is_told(rt: HostRuntime) -> Result<(), Fail> {
     };
     expect_run(&rt, &run)
 }
+
+#[test]
+fn several_interfaces_are_told(rt: HostRuntime) -> Result<(), Fail> {
+    let run = Run {
+        words: &["s", "draw", "interfaces.log", "--out", "screens"],
+        status: Status::Clean,
+        text: "line 0: screen none\n",
+        written: "== screens is made\n",
+        has_messages: true,
+    };
+    expect_run(&rt, &run)
+}
+
+#[test]
+fn an_interface_may_end_in_a_tab(rt: HostRuntime) -> Result<(), Fail> {
+    let run = Run {
+        words: &["s", "draw", "tabbed.log", "--out", "screens"],
+        status: Status::Clean,
+        text: "line 0: screen none\n",
+        written: "== screens is made\n",
+        has_messages: false,
+    };
+    expect_run(&rt, &run)
+}

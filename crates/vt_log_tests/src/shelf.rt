@@ -2,6 +2,7 @@
 
 use crate::recordings::{
     ALONE, DIFFERS, INTERFACES, KEYED_POOL, LATE, MISSING, NAMES, OWN, PRESSED, SPACED, STORED,
+    TABBED,
 };
 use std::alloc::Global;
 use std::io::{self, Error, ErrorKind, Write};
@@ -140,6 +141,7 @@ impl Open for Shelf {
             "stored.log" => Ok(STORED),
             "interfaces.log" => Ok(INTERFACES),
             "spaced.log" => Ok(SPACED),
+            "tabbed.log" => Ok(TABBED),
             "pressed.log" => Ok(PRESSED),
             "keyed" => Ok(KEYED_POOL),
             "names" => Ok(NAMES),
