@@ -1,6 +1,6 @@
 -- The cases of the plain forms.
 use Rattle.std.proofs.Common.{◌≡◌, ◌==◌, ◌<◌, ◌-◌, ℕ, zero, suc, true, false, List, [], ◌++◌, length, take, drop, codes, refl, sym, arith, ap}
-use Rattle.vt_recorded.specs.PlainForms.{word_length, unpadded, word, after_word, starts_with_byte, is_pair, pairs, data_form, frame_form}
+use Rattle.vt_recorded.specs.PlainForms.{word_length, unpadded, word, after_word, starts_with_byte, is_of_fd, is_pair, pairs, data_form, frame_form}
 
 pub word_is : (text : List ℕ) → word text ≡ take (word_length (unpadded text)) (unpadded text)
 unfolding word
@@ -18,9 +18,13 @@ pub bytes_form : (text : List ℕ) → starts_with_byte 114 (word text) ≡ fals
 unfolding data_form
 bytes_form text is = rw is refl
 
-pub bracket_form : (third fourth rest : List ℕ) → starts_with_byte 91 fourth ≡ true → frame_form third fourth rest ≡ third ++ codes "#" ++ data_form rest
+pub fd_form : (third fourth rest : List ℕ) → starts_with_byte 91 fourth ≡ true → is_of_fd fourth ≡ true → frame_form third fourth rest ≡ third ++ codes "##"
 unfolding frame_form
-bracket_form third fourth rest is = rw is refl
+fd_form third fourth rest is fd = rw (is, fd) refl
+
+pub bracket_form : (third fourth rest : List ℕ) → starts_with_byte 91 fourth ≡ true → is_of_fd fourth ≡ false → frame_form third fourth rest ≡ third ++ codes "#" ++ data_form rest
+unfolding frame_form
+bracket_form third fourth rest is classic = rw (is, classic) refl
 
 pub bare_form : (third fourth rest : List ℕ) → starts_with_byte 91 fourth ≡ false → (length fourth == 0) ≡ true → frame_form third fourth rest ≡ third
 unfolding frame_form

@@ -49,11 +49,16 @@ pairs (suc most) text = if is_pair (word text) then word text ++ pairs most (aft
 unfoldable pub data_form : List ℕ → List ℕ
 data_form text = if starts_with_byte 114 (word text) then codes "R" else pairs 8 text
 
+-- a number of bytes in brackets, as [8]; that of a CAN FD frame has two digits, as [08]
+abbrev pub is_of_fd : List ℕ → Bool
+is_of_fd word = length word == 4
+
 -- The words behind the time and the interface: an ID, the number of bytes in brackets, and the bytes, as candump writes them; or a
 -- frame, and perhaps the direction.
 unfoldable pub frame_form : List ℕ → List ℕ → List ℕ → List ℕ
 frame_form third fourth rest =
-    if starts_with_byte 91 fourth then third ++ codes "#" ++ data_form rest
+    if starts_with_byte 91 fourth && is_of_fd fourth then third ++ codes "##"
+    else if starts_with_byte 91 fourth then third ++ codes "#" ++ data_form rest
     else if length fourth == 0 then third
     else third ++ codes " " ++ fourth
 

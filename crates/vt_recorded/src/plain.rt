@@ -1,7 +1,7 @@
 //! The plain form of a line.
 
 ghost use Rattle.std.specs.Prelude.{◌≡◌, ◌++◌, OnOk};
-ghost use Rattle.vt_recorded.specs.PlainForms.{word, after_word, is_pair, pairs, data_form, frame_form, plain_form};
+ghost use Rattle.vt_recorded.specs.PlainForms.{word, after_word, is_of_fd, is_pair, pairs, data_form, frame_form, plain_form};
 
 use crate::words::{next_word, starts_with};
 use std::alloc::AllocError;
@@ -28,7 +28,11 @@ fn put_frame(text: &[u8], plain: &mut Vec<u8>) -> Result<(), AllocError>
     plain.extend_from_slice(third)?;
     if starts_with(b'[', fourth) {
         plain.push(b'#')?;
-        put_data(rest, plain)?;
+        if is_of_fd(fourth) {
+            plain.push(b'#')?;
+        } else {
+            put_data(rest, plain)?;
+        }
         return Ok(());
     }
     if !fourth.is_empty() {
@@ -36,6 +40,13 @@ fn put_frame(text: &[u8], plain: &mut Vec<u8>) -> Result<(), AllocError>
         plain.extend_from_slice(fourth)?;
     }
     Ok(())
+}
+
+/// Whether a number of bytes in brackets is that of a CAN FD frame, which has two digits.
+fn is_of_fd(word: &[u8]) -> bool
+    ensures { result ≡ is_of_fd word.now }
+{
+    word.len() == 4
 }
 
 /// Appends the data of a frame.

@@ -3,7 +3,7 @@
 ghost use Rattle.std.specs.Prelude.{◌≡◌, IfOk};
 ghost use Rattle.vt_can.specs.lines.Line.{IsContent};
 ghost use Rattle.vt_can.specs.lines.Readings.{reading_of};
-ghost use Rattle.vt_recorded.specs.Readings.{is_of_form, IsReadingOf};
+ghost use Rattle.vt_recorded.specs.Readings.{is_of_form, is_of_frame, IsReadingOf};
 
 use crate::plain::put_plain_form;
 use std::alloc::{AllocError, Global};
@@ -28,7 +28,9 @@ impl Reader {
         &self.plain
     }
 
-    /// Reads a line, given without its newline. A fault is that of the line as it stands.
+    /// Reads a line, given without its newline. The inner result has the fault of the line as it stands. After `OutOfMemory` the reader
+    /// can be used again.
+    #[inline]
     pub fn read<'a>(&'a mut self, line: &'a [u8]) -> Result<Result<Line<'a>, LineFault>, AllocError>
         ensures { IfOk result (λ reading. IsReadingOf line.now (reading_of reading)) }
     {
@@ -38,10 +40,11 @@ impl Reader {
         }
         self.plain.clear();
         put_plain_form(content_of(line), &mut self.plain)?;
-        match parse_line(&self.plain) {
-            Ok(plain) => Ok(Ok(plain)),
-            Err(_) => Ok(reading),
+        let plain = parse_line(&self.plain);
+        if is_of_frame(&plain) {
+            return Ok(plain);
         }
+        Ok(reading)
     }
 }
 
@@ -53,6 +56,13 @@ fn content_of(line: &[u8]) -> &[u8]
         [content @ .., b'\r'] => content,
         _ => line,
     }
+}
+
+/// Whether a frame was read, or a frame to be ignored.
+fn is_of_frame(reading: &Result<Line<'_>, LineFault>) -> bool
+    ensures { result ≡ is_of_frame (reading_of reading.now) }
+{
+    matches!(reading, Ok(Line::Frame { .. } | Line::Skipped(_)))
 }
 
 /// Whether a reading stands as it is: it has no fault, or another one than that of the time or of the shape.

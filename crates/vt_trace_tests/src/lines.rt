@@ -50,13 +50,16 @@ const FRAMES: [(&[u8], &[u8]); 10] = [
 ];
 
 /// Lines with a fault, which is that of the line as it stands.
-const FAULTS: [(&[u8], LineFault); 6] = [
+const FAULTS: [(&[u8], LineFault); 9] = [
     (b"can0  14E72680   [2]  01 02", LineFault::Time),
     (b" ", LineFault::Time),
     (b"(1.000000)  can0", LineFault::Shape),
     (b"(1.000000)  can0  14G72680   [2]  01 02", LineFault::Shape),
     (b"(1.000000) can0 14G72680#", LineFault::Hex),
     (b"! jump", LineFault::Operator),
+    (b" ! press 400", LineFault::Time),
+    (b" # a b", LineFault::Time),
+    (b" ! text 301 AB CD", LineFault::Time),
 ];
 
 fn expect_frame(
@@ -92,10 +95,12 @@ fn faults_are_those_of_lines_as_they_stand(rt: HostRuntime) -> Result<(), Fail> 
 }
 
 #[test]
-fn remote_frames_are_skipped(rt: HostRuntime) -> Result<(), Fail> {
+fn remote_frames_and_those_of_can_fd_are_skipped(rt: HostRuntime) -> Result<(), Fail> {
     let mut reader = Reader::new(rt.alloc());
     let line = b"(1.000000)  can0  14E72680   [8]  remote request";
     assert!(rt; matches!(reader.read(line)?, Ok(Line::Skipped(Skipped::Remote))));
+    let line = b"(1.000000)  can0  14E72680  [08]  12 FF FF FF FF FF FF FF";
+    assert!(rt; matches!(reader.read(line)?, Ok(Line::Skipped(Skipped::Fd))));
     Ok(())
 }
 

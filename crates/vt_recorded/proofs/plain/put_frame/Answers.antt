@@ -1,11 +1,16 @@
 use Rattle.std.proofs.Common.{arith}
 use Rattle.std.proofs.lemmas.Grind.{common_steps}
 use Rattle.vt_recorded.specs.PlainForms.{word, after_word}
-use Rattle.vt_recorded.proofs.Forms.{bracket_form, bare_form, directed_form}
+use Rattle.vt_recorded.proofs.Forms.{fd_form, bracket_form, bare_form, directed_form}
 use Rattle.vt_recorded.proofs.plain.put_frame.Goals as goal
 
-pub returns-then-starts_with : goal.returns-then-starts_with
-returns-then-starts_with c =
+pub returns-in_ok-push-2 : goal.returns-in_ok-push-2
+returns-in_ok-push-2 c =
+    let text = c.args.text.now in
+    grind (arith, common_steps, fd_form (word text) (word (after_word text)) (after_word (after_word text)))
+
+pub returns-in_ok-put_data : goal.returns-in_ok-put_data
+returns-in_ok-put_data c =
     let text = c.args.text.now in
     grind (arith, common_steps, bracket_form (word text) (word (after_word text)) (after_word (after_word text)))
 
