@@ -2,7 +2,7 @@
 use Rattle.std.proofs.Common.{◌≡◌, ◌∙◌, ℕ, ◌<◌, ◌≤◌, List, [], ◌∷◌, ◌++◌, map, Option, Some, None, Ok, Err, refl, sym, ap, subst, arith, append_assoc}
 use Rattle.std.proofs.lemmas.List.{append-nil}
 use Rattle.vt_answers.specs.Comparisons.{HasCompared, HasComparedMore, point_at}
-use Rattle.vt_answers.specs.Conversations.{Converses, LogLine, Point, SaysAt, Sends, nothing, one_more, recorded_by, status_after, time_after}
+use Rattle.vt_answers.specs.Conversations.{Converses, LogLine, Point, SaysAt, nothing, one_more, recorded_by, status_after, time_after}
 use Rattle.vt_answers.specs.declared.comparison.Comparison.{Comparison}
 use Rattle.vt_answers.specs.declared.difference.Difference.{Difference}
 use Rattle.vt_answers.specs.declared.difference.Difference.TheVariants.{OursAlone}
@@ -16,6 +16,7 @@ use Rattle.vt_answers.proofs.Matching.{matched-answered, matched-asked, matched-
 use Rattle.vt_answers.proofs.OpenInOrder.{AreAt, AreInTime, all-in-time, asked-in-time, in-time-append, open-asked, open-back, open-removed}
 use Rattle.vt_answers.proofs.SaidAt.{recorded_by-at, said_by-at}
 use Rattle.vt_can.specs.lines.Readings.{FrameAt, OperatorAction, SkippedFrame, CommentLine}
+use Rattle.vt_logs.specs.LineEffects.{Sends}
 use Rattle.vt_logs.specs.Texts.{LineReading}
 use Rattle.vt_server.specs.declared.output.Output.{Output}
 use Rattle.vt_server.specs.Terminals.{State}

@@ -4,14 +4,12 @@ use Rattle.std.specs.Option.{option_to_list}
 use Rattle.std.specs.Str.{bytes_eq}
 use Rattle.vt_answers.specs.declared.said.Said.{Said}
 use Rattle.vt_answers.specs.Messages.{said_by, said_in}
+use Rattle.vt_can.specs.Assigned.{VT_STATUS, VT_TO_ECU}
 use Rattle.vt_can.specs.declared.frames.frame.Frame.{Frame}
 use Rattle.vt_can.specs.frames.Identifier.{parts_of, pgn_of}
-use Rattle.vt_can.specs.lines.Readings.{ParsedLine, FrameAt, OperatorAction, SkippedFrame, CommentLine}
-use Rattle.vt_logs.specs.LineEffects.{IsInputOfLine}
+use Rattle.vt_can.specs.lines.Readings.{FrameAt, OperatorAction, SkippedFrame, CommentLine}
+use Rattle.vt_logs.specs.LineEffects.{Sends}
 use Rattle.vt_logs.specs.Texts.{LineReading}
-use Rattle.vt_server.specs.Judgements.{IsJudgedRight}
-use Rattle.vt_server.specs.Outputs.{outputs_of}
-use Rattle.vt_server.specs.Steps.{JudgedInput, step}
 use Rattle.vt_server.specs.Terminals.{State}
 use Rattle.vt_server.specs.declared.output.Output.{Output}
 
@@ -26,34 +24,16 @@ pub record Point : Type 0 where
   pub now : ℕ
   pub status : List ℕ
 
--- ---- this terminal
-
--- This terminal takes the input of a line, with right judgements of pools, and sends its outputs.
-pub record TakesAndSends (from : State) (line : ParsedLine) (to : State) (sent : List Output) : Type 0 where
-  pub event : JudgedInput
-  pub of_line : IsInputOfLine line event
-  pub judged : IsJudgedRight from event
-  pub state : to ≡ (step from event).after
-  pub outputs : sent ≡ outputs_of (step from event).sent
-
--- It takes a line as it was read. Of a line that is no input nothing comes.
-abbrev pub Sends : State → LineReading → State → List Output → Type 0
-Sends from (Ok (FrameAt time frame)) to sent = TakesAndSends from (FrameAt time frame) to sent
-Sends from (Ok (OperatorAction action)) to sent = TakesAndSends from (OperatorAction action) to sent
-Sends from (Ok (SkippedFrame why)) to sent = (to ≡ from) × (sent ≡ [])
-Sends from (Ok CommentLine) to sent = (to ≡ from) × (sent ≡ [])
-Sends from (Err fault) to sent = (to ≡ from) × (sent ≡ [])
-
 -- ---- the recorded terminal
 
 -- whether a message is a status message
 abbrev pub is_status : List ℕ → Bool
 is_status [] = false
-is_status (function ∷ rest) = function == 0xFE
+is_status (function ∷ rest) = function == VT_STATUS
 
 -- whether a frame is a message of the terminal at an address
 abbrev pub is_message_of : ℕ → Frame → Bool
-is_message_of own frame = (parts_of frame.id).source == own && pgn_of (parts_of frame.id) == 0xE600
+is_message_of own frame = (parts_of frame.id).source == own && pgn_of (parts_of frame.id) == VT_TO_ECU
 
 -- whether a frame repeats the last status message, as terminals do each second
 abbrev pub repeats : List ℕ → Frame → Bool

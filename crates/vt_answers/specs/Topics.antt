@@ -3,17 +3,23 @@ use Rattle.std.specs.Prelude.{ℕ, ◌+◌, ◌==◌, ◌&&◌, Bool, true, fals
 use Rattle.std.specs.List.{list_any}
 use Rattle.byteorder.specs.Endian.{little_number}
 use Rattle.vt_answers.specs.declared.topic.Topic.{Topic}
+use Rattle.vt_can.specs.Assigned.{VT_TO_ECU}
 use Rattle.vt_can.specs.declared.frames.frame.Frame.{Frame}
 use Rattle.vt_can.specs.frames.Identifier.{parts_of, pgn_of, destination_of}
+use Rattle.vt_commands.specs.Functions as functions
 
--- the functions whose replies name an object in bytes 2 and 3: the commands on an object, but for Change String Value (B3)
+-- the functions whose replies name an object in bytes 2 and 3: the commands on an object, but for Change String Value
 abbrev pub name_an_object : List ℕ
-name_an_object = 0xA0 ∷ 0xA1 ∷ 0xA5 ∷ 0xA6 ∷ 0xA7 ∷ 0xA8 ∷ 0xA9 ∷ 0xAA ∷ 0xAB ∷ 0xAC ∷ 0xAD ∷ 0xAE ∷ 0xAF ∷ 0xB0 ∷ 0xB1 ∷ 0xB4 ∷ 0xBE ∷ []
+name_an_object =
+    functions.HIDE_SHOW ∷ functions.ENABLE_DISABLE ∷ functions.CHANGE_CHILD_LOCATION ∷ functions.CHANGE_SIZE ∷ functions.CHANGE_BACKGROUND_COLOUR
+    ∷ functions.CHANGE_NUMERIC_VALUE ∷ functions.CHANGE_END_POINT ∷ functions.CHANGE_FONT_ATTRIBUTES ∷ functions.CHANGE_LINE_ATTRIBUTES ∷ functions.CHANGE_FILL_ATTRIBUTES
+    ∷ functions.CHANGE_ACTIVE_MASK ∷ functions.CHANGE_SOFT_KEY_MASK ∷ functions.CHANGE_ATTRIBUTE ∷ functions.CHANGE_PRIORITY ∷ functions.CHANGE_LIST_ITEM
+    ∷ functions.CHANGE_CHILD_POSITION ∷ functions.EXECUTE_MACRO ∷ []
 
 -- the bytes before the object in the replies to a function, if they name one
 abbrev pub object_place : ℕ → Option ℕ
 object_place function =
-    if function == 0xB3 then Some 3
+    if function == functions.CHANGE_STRING_VALUE then Some 3
     else if list_any (λ other. function == other) name_an_object then Some 1
     else None
 
@@ -34,7 +40,7 @@ message_topic (Some destination) (function ∷ rest) =
 
 -- the topic of a frame: only messages of terminals, parameter group E600, have one
 abbrev pub topic_of : Frame → Option Topic
-topic_of frame = if pgn_of (parts_of frame.id) == 0xE600 then message_topic (destination_of (parts_of frame.id)) frame.bytes.items else None
+topic_of frame = if pgn_of (parts_of frame.id) == VT_TO_ECU then message_topic (destination_of (parts_of frame.id)) frame.bytes.items else None
 
 -- ---- the same topic
 

@@ -151,7 +151,8 @@ impl Comparison {
         Ok(())
     }
 
-    /// Ends the comparison: appends the questions that are still open, which have no answer in the log.
+    /// Ends the comparison: appends the questions that are still open, which have no answer in the log. After `OutOfMemory` some of them are
+    /// appended.
     pub fn end(&mut self, differences: &mut Vec<Difference>) -> Result<(), AllocError>
         ensures { OnOk result ((own wait : ℕ) (start : Point) (lines : List LogLine) (told : List Told) (state : State)
             → HasCompared own wait start lines told state self.old → HasToldAll own wait start lines told differences.old.items differences.new.items) }

@@ -9,27 +9,19 @@ use Rattle.vt_can.specs.lines.Actions.{ActionValue}
 use Rattle.vt_can.specs.lines.Readings.{FrameAt, OperatorAction}
 use Rattle.vt_logs.specs.EarlyEnds.{Begins, BreaksOff, IsFrontOfPrint}
 use Rattle.vt_logs.specs.Progress.{Writes}
-use Rattle.vt_logs.specs.LineEffects.{ReplayState, Follows, FollowsInput, IsInputOfLine, TakesInputLine, TakesReading, input_line}
+use Rattle.vt_logs.specs.LineEffects.{ReplayState, Follows, FollowsInput, TakesInputLine, TakesReading, input_line}
 use Rattle.vt_logs.specs.Texts.{line_fault_text, new_screen, output_text}
 use Rattle.vt_logs.proofs.EarlyEndInLines.{begins_later, begins_more}
-use Rattle.vt_server.specs.Judgements.{IsEventOf}
+use Rattle.vt_logs.proofs.SentByInputs.{event_of_line}
 use Rattle.vt_server.specs.Outputs.{outputs_of}
 use Rattle.vt_server.specs.shown.Screens.{IsScreenOf}
 use Rattle.vt_server.specs.States.{TakesInput}
-use Rattle.vt_server.specs.Steps as steps
-use Rattle.vt_server.specs.Steps.{JudgedInput, step}
+use Rattle.vt_server.specs.Steps.{step}
 use Rattle.vt_server.specs.Terminals.{State}
 use Rattle.vt_server.specs.declared.input.Input.{Input}
-use Rattle.vt_server.specs.declared.input.Input.TheVariants as inputs
 use Rattle.vt_server.specs.declared.output.Output.{Output}
 
 -- ---- inputs
-
-event_of_line : (input : Input) (event : JudgedInput) → IsEventOf input event → IsInputOfLine (input_line input) event
-event_of_line (inputs.Frame time frame) (steps.FrameAt at heard verdict) is = is
-event_of_line (inputs.Frame time frame) (steps.ActionAt action shown) is = absurd is
-event_of_line (inputs.Operator action) (steps.FrameAt at heard verdict) is = absurd is
-event_of_line (inputs.Operator action) (steps.ActionAt action_taken shown) is = is
 
 -- The text of a line whose input the terminal took.
 pub input_prints : (a b : ReplayState) (input : Input) (before after : List Output) → before ≡ [] → TakesInput a.state input b.state before after → IsScreenOf b.state b.screen

@@ -4,4 +4,5 @@ mod EarlyEndOfLog
 mod InputOfLine
 mod LongLines
 mod ReplayInvariants
+pub mod SentByInputs
 mod TakenLines

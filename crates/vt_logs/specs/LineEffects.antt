@@ -12,6 +12,7 @@ use Rattle.vt_server.specs.Steps.{JudgedInput, step}
 use Rattle.vt_server.specs.Terminals.{State}
 use Rattle.vt_server.specs.declared.input.Input.{Input}
 use Rattle.vt_server.specs.declared.input.Input.TheVariants as inputs
+use Rattle.vt_server.specs.declared.output.Output.{Output}
 
 -- A replay between two lines: the terminal, and the screen printed last.
 pub record ReplayState : Type 0 where
@@ -71,12 +72,30 @@ TakesReadings from n (r ∷ rs) to text = TakesFirst from n r (λ middle rest. T
 
 -- ---- the terminal alone, whatever is printed
 
+-- The terminal takes the input of a line, with right judgements of pools, and sends these outputs.
+pub record SendsByInput (from : State) (line : ParsedLine) (to : State) (sent : List Output) : Type 0 where
+  pub event : JudgedInput
+  pub of_line : IsInputOfLine line event
+  pub judged : IsJudgedRight from event
+  pub state : to ≡ (step from event).after
+  pub outputs : sent ≡ outputs_of (step from event).sent
+
+-- The terminal takes a line as it was read. One that is no input changes nothing, and nothing is sent.
+abbrev pub Sends : State → LineReading → State → List Output → Type 0
+Sends from (Ok (FrameAt time frame)) to sent = SendsByInput from (FrameAt time frame) to sent
+Sends from (Ok (OperatorAction action)) to sent = SendsByInput from (OperatorAction action) to sent
+Sends from (Ok (SkippedFrame why)) to sent = (to ≡ from) × (sent ≡ [])
+Sends from (Ok CommentLine) to sent = (to ≡ from) × (sent ≡ [])
+Sends from (Err fault) to sent = (to ≡ from) × (sent ≡ [])
+
+-- The terminal takes the input of a line, with right judgements of pools.
 pub record FollowsInput (from : State) (line : ParsedLine) (to : State) : Type 0 where
   pub event : JudgedInput
   pub of_line : IsInputOfLine line event
   pub judged : IsJudgedRight from event
   pub state : to ≡ (step from event).after
 
+-- The terminal takes a line as it was read. One that is no input changes nothing.
 abbrev pub Follows : State → LineReading → State → Type 0
 Follows from (Ok (FrameAt time frame)) to = FollowsInput from (FrameAt time frame) to
 Follows from (Ok (OperatorAction action)) to = FollowsInput from (OperatorAction action) to

@@ -50,8 +50,8 @@ fn put_output<W: Sink>(output: &Output, writer: &mut W) -> Result<(), ReplayFaul
     }
 }
 
-/// The number and the name of a refusal to the operator.
-fn refusal_name(fault: OperatorFault) -> &'static str
+/// The number and the name of a refusal to the operator, as a replay prints them, such as `1 NotShown`.
+pub fn refusal_name(fault: OperatorFault) -> &'static str
     ensures { result.now ≡ refusal_name fault }
 {
     match fault {

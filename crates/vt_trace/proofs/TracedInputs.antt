@@ -5,21 +5,17 @@ use Rattle.vt_can.specs.declared.lines.line.LineFault.{LineFault}
 use Rattle.vt_can.specs.declared.lines.line.Skipped.{Skipped}
 use Rattle.vt_can.specs.lines.Actions.{ActionValue}
 use Rattle.vt_can.specs.lines.Readings.{ParsedLine, FrameAt, OperatorAction, SkippedFrame, CommentLine}
-use Rattle.vt_logs.specs.LineEffects.{IsInputOfLine, input_line}
+use Rattle.vt_logs.proofs.SentByInputs.{input_sends}
+use Rattle.vt_logs.specs.LineEffects.{Sends, SendsByInput, input_line}
 use Rattle.vt_logs.specs.Texts.{LineReading}
-use Rattle.vt_server.specs.Judgements.{IsEventOf}
-use Rattle.vt_server.specs.Outputs.{outputs_of}
 use Rattle.vt_server.specs.States.{TakesInput}
-use Rattle.vt_server.specs.Steps as steps
-use Rattle.vt_server.specs.Steps.{JudgedInput, step}
 use Rattle.vt_server.specs.Terminals.{State}
 use Rattle.vt_server.specs.declared.input.Input.{Input}
-use Rattle.vt_server.specs.declared.input.Input.TheVariants as inputs
 use Rattle.vt_server.specs.declared.output.Output.{Output}
 use Rattle.vt_server.specs.shown.Screens.{IsScreenOf}
 use Rattle.vt_trace.specs.Changes.{changes}
 use Rattle.vt_trace.specs.Lines.{Gains}
-use Rattle.vt_trace.specs.Traces.{AreOutputLines, IsHead, IsHeadOf, SendsByInput, Sends, TracesInput, TracesLine}
+use Rattle.vt_trace.specs.Traces.{AreOutputLines, IsHead, IsHeadOf, TracesInput, TracesLine}
 use Rattle.vt_trace.proofs.ScreenLines.{no_changes}
 
 -- what follows from two facts on a success
@@ -28,22 +24,6 @@ on_ok_both (Ok x) f p q = f p q
 on_ok_both (Err e) f p q = tt
 
 -- ---- inputs
-
-event_of_line : (input : Input) (event : JudgedInput) → IsEventOf input event → IsInputOfLine (input_line input) event
-event_of_line (inputs.Frame time frame) (steps.FrameAt at heard verdict) is = is
-event_of_line (inputs.Frame time frame) (steps.ActionAt action shown) is = absurd is
-event_of_line (inputs.Operator action) (steps.FrameAt at heard verdict) is = absurd is
-event_of_line (inputs.Operator action) (steps.ActionAt action_taken shown) is = is
-
--- The terminal took an input, with no outputs before.
-input_sends : (from to : State) (input : Input) (before after : List Output) → before ≡ [] → TakesInput from input to before after → SendsByInput from (input_line input) to after
-input_sends from to input before after none taken = record {
-  event = taken.event;
-  of_line = event_of_line input taken.event taken.is_input;
-  judged = taken.judged;
-  state = taken.state;
-  outputs = taken.sent ∙ ap (λ (outputs : List Output). outputs ++ outputs_of (step from taken.event).sent) none;
-}
 
 -- A text gains the lines of the outputs at an input, and then the changes.
 pub gains_input : (from to : State) (input : Input) (before sent : List Output) (old new a b c : List ℕ) → before ≡ [] → TakesInput from input to before sent

@@ -2,13 +2,10 @@
 use Rattle.std.specs.Prelude.{◌≡◌, ℕ, false, nat_eq, List, [], ◌++◌, codes, Ok}
 use Rattle.std.specs.Fmt.{decimal}
 use Rattle.std.specs.List.{AllZip, starts_with}
-use Rattle.vt_can.specs.lines.Readings.{ParsedLine, FrameAt, OperatorAction, CommentLine}
+use Rattle.vt_can.specs.lines.Readings.{ParsedLine, CommentLine}
 use Rattle.vt_can.specs.lines.WrittenForms.{frame_text}
-use Rattle.vt_logs.specs.LineEffects.{IsInputOfLine}
+use Rattle.vt_logs.specs.LineEffects.{Sends, SendsByInput}
 use Rattle.vt_logs.specs.Texts.{LineReading, newline, refusal_name}
-use Rattle.vt_server.specs.Judgements.{IsJudgedRight}
-use Rattle.vt_server.specs.Outputs.{outputs_of}
-use Rattle.vt_server.specs.Steps.{JudgedInput, step}
 use Rattle.vt_server.specs.Terminals.{State}
 use Rattle.vt_server.specs.declared.output.Output.{Output}
 use Rattle.vt_server.specs.declared.output.Output.TheVariants as outputs
@@ -51,20 +48,6 @@ IsHeadOf number (Ok CommentLine) head = head ≡ []
 IsHeadOf number _ head = IsHead number head
 
 -- ---- a line
-
--- The terminal takes the input of a line, with right judgements of pools, and sends these outputs.
-pub record SendsByInput (from : State) (line : ParsedLine) (to : State) (sent : List Output) : Type 0 where
-  pub event : JudgedInput
-  pub of_line : IsInputOfLine line event
-  pub judged : IsJudgedRight from event
-  pub state : to ≡ (step from event).after
-  pub outputs : sent ≡ outputs_of (step from event).sent
-
--- The terminal takes a line. One that is no input changes nothing, and nothing is sent.
-abbrev pub Sends : State → LineReading → State → List Output → Type 0
-Sends from (Ok (FrameAt time frame)) to sent = SendsByInput from (FrameAt time frame) to sent
-Sends from (Ok (OperatorAction action)) to sent = SendsByInput from (OperatorAction action) to sent
-Sends from _ to sent = (to ≡ from) × (sent ≡ [])
 
 -- The terminal takes the input of a line, and its outputs are told, and how its screen changes from the old text to the new one.
 pub record TracesInput (from : State) (line : ParsedLine) (to : State) (old new added : List ℕ) : Type 0 where

@@ -41,7 +41,7 @@ pub struct Tracer<'a> {
 }
 
 impl<'a> Tracer<'a> {
-    /// A tracer before the first line, with the screen that the terminal has.
+    /// A tracer before the first line, with the screen that the terminal has. `OutOfMemory` if an allocation is refused.
     pub fn new(
         alloc: Global,
         names: &'a Names,
