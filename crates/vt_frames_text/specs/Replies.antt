@@ -1,15 +1,22 @@
 -- Where the replies of a terminal have their error byte (docs/PROFILE.md, "Commands: all rows", "End of Object Pool (12)").
 use Rattle.std.specs.Prelude.{◌==◌, ◌||◌, ℕ, if◌then◌else◌, Option, None, Some, List, [], ◌∷◌}
 use Rattle.std.specs.List.{slice_get}
+use Rattle.vt_can.specs.Assigned.{END_OF_POOL}
+use Rattle.vt_commands.specs.Functions as functions
 
 -- the index of the error byte in the reply of a function
 abbrev pub error_place : ℕ → Option ℕ
 error_place f =
-    if f == 0xA3 || f == 0xA4 || f == 0xB2 || f == 0x12 then Some 1
-    else if f == 0xA6 || f == 0xA8 || f == 0xA9 || f == 0xAA || f == 0xAB || f == 0xAC || f == 0xAD || f == 0xBE then Some 3
-    else if f == 0xA0 || f == 0xA1 || f == 0xA7 || f == 0xAF || f == 0xB0 then Some 4
-    else if f == 0xA5 || f == 0xAE || f == 0xB3 || f == 0xB4 then Some 5
-    else if f == 0xB1 then Some 6
+    if f == functions.CONTROL_AUDIO || f == functions.SET_VOLUME || f == functions.DELETE_POOL
+    || f == END_OF_POOL then Some 1
+    else if f == functions.CHANGE_SIZE || f == functions.CHANGE_NUMERIC_VALUE || f == functions.CHANGE_END_POINT
+    || f == functions.CHANGE_FONT_ATTRIBUTES || f == functions.CHANGE_LINE_ATTRIBUTES || f == functions.CHANGE_FILL_ATTRIBUTES
+    || f == functions.CHANGE_ACTIVE_MASK || f == functions.EXECUTE_MACRO then Some 3
+    else if f == functions.HIDE_SHOW || f == functions.ENABLE_DISABLE || f == functions.CHANGE_BACKGROUND_COLOUR
+    || f == functions.CHANGE_ATTRIBUTE || f == functions.CHANGE_PRIORITY then Some 4
+    else if f == functions.CHANGE_CHILD_LOCATION || f == functions.CHANGE_SOFT_KEY_MASK || f == functions.CHANGE_STRING_VALUE
+    || f == functions.CHANGE_CHILD_POSITION then Some 5
+    else if f == functions.CHANGE_LIST_ITEM then Some 6
     else None
 
 -- the error byte at its place

@@ -5,18 +5,17 @@ use std::fmt;
 use vt_can::assigned::GLOBAL_ADDRESS;
 use vt_kinds::Scale;
 
-/// The digits of hex.
-const DIGITS: [u8; 16] = *b"0123456789ABCDEF";
-
 /// A byte in hex, two digits, as `A0`.
 #[derive(Clone, Copy, Drop)]
 pub struct HexByte(pub u8);
 
 impl fmt::Display for HexByte {
     fn fmt<W: fmt::Write>(&self, f: &mut fmt::Formatter<W>) -> fmt::Result {
-        let high = DIGITS[usize::from(self.0 >> 4)];
-        let low = DIGITS[usize::from(self.0 & 0xF)];
-        f.write_str(str::from_utf8(&[high, low]).unwrap_or_default())
+        let mut digits = [0; 2];
+        // A byte has two digits, so this does not fail.
+        let _ = hex::encode_to_slice([self.0], &mut digits);
+        digits.make_ascii_uppercase();
+        f.write_str(str::from_utf8(&digits).unwrap_or_default())
     }
 }
 

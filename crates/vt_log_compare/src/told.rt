@@ -5,7 +5,7 @@ use std::fmt;
 use std::io::{self, Write};
 use vt_answers::{Difference, Said, Tally, Topic};
 use vt_findings_text::Names;
-use vt_frames_text::{Destination, PoolRequest, error_of, function_name};
+use vt_frames_text::{Destination, HexByte, PoolRequest, error_of, function_name};
 use vt_json_lines::JsonLine;
 use vt_log_replay::Load;
 use vt_log_words::Format;
@@ -224,17 +224,7 @@ impl fmt::Display for Bytes<'_> {
     }
 }
 
-/// An error byte, in hex.
-#[derive(Clone, Copy)]
-struct ErrorByte(u8);
-
-impl fmt::Display for ErrorByte {
-    fn fmt<W: fmt::Write>(&self, f: &mut fmt::Formatter<W>) -> fmt::Result {
-        write!(f, "{:02X}", self.0)
-    }
-}
-
 /// The error byte of a message, if it has one.
-fn error_in(said: &Said) -> Option<ErrorByte> {
-    error_of(said.bytes.as_slice()).map(ErrorByte)
+fn error_in(said: &Said) -> Option<HexByte> {
+    error_of(said.bytes.as_slice()).map(HexByte)
 }
