@@ -27,10 +27,12 @@ pub fn run_stats<F: Open, W: Write, E: Messages>(
         replay.tell_no_frame(files, errors);
         return Ok(Status::NotJudged);
     }
+    let terminal = replay.terminal()?;
+    let reach = Reach::new(alloc, &terminal)?;
     let mut run = Run {
-        terminal: replay.terminal()?,
+        terminal,
         traffic: Traffic::new(alloc),
-        reach: Reach::new(alloc),
+        reach,
         outputs: Vec::new(alloc),
     };
     let mut reader = replay.reader();
@@ -73,7 +75,7 @@ impl Run {
         number: u64,
         reading: Result<Line<'_>, LineFault>,
     ) -> Result<(), AllocError> {
-        self.reach.before(&reading, &self.terminal)?;
+        self.reach.before(&reading, &self.terminal);
         if let Ok(Line::Frame { time, frame }) = &reading {
             self.traffic.take(number, *time, frame)?;
         }

@@ -1,3 +1,4 @@
+pub mod DrawnObjects
 pub mod PairSets
 pub mod Reaches
 pub mod Reports

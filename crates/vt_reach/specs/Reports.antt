@@ -11,6 +11,7 @@ use Rattle.vt_reach.specs.declared.report.PoolObject.{PoolObject}
 use Rattle.vt_reach.specs.declared.report.SetReach.{SetReach}
 use Rattle.vt_reach.specs.declared.shown_masks.ShownMasks.{ShownMasks}
 use Rattle.vt_reach.specs.declared.split.Split.{Split}
+use Rattle.vt_reach.specs.DrawnObjects.{was_drawn}
 use Rattle.vt_reach.specs.ShownMasks.{was_shown}
 
 -- an object by its ID and its kind
@@ -46,7 +47,7 @@ pub record TellsOf (shown : ShownMasks) (noted : ℕ × Reached) (reach : SetRea
   pub refused : reach.refused ≡ noted.1.refused
   pub masks_shown : reach.masks_shown.items ≡ objects_that (λ entry. was_shown shown noted.0 entry.0) noted.1.kinds.entries
   pub masks_never : reach.masks_never.items ≡ objects_that (λ entry. not (was_shown shown noted.0 entry.0) && is_member Masks entry.1) noted.1.kinds.entries
-  pub objects_drawn : reach.objects_drawn.items ≡ objects_that (λ entry. contains nat_cmp noted.1.drawn entry.0) noted.1.kinds.entries
-  pub objects_never : reach.objects_never.items ≡ objects_that (λ entry. not (contains nat_cmp noted.1.drawn entry.0) && is_drawn entry.1) noted.1.kinds.entries
+  pub objects_drawn : reach.objects_drawn.items ≡ objects_that (λ entry. was_drawn noted.1.drawn entry.0) noted.1.kinds.entries
+  pub objects_never : reach.objects_never.items ≡ objects_that (λ entry. not (was_drawn noted.1.drawn entry.0) && is_drawn entry.1) noted.1.kinds.entries
   pub macros_reached : reach.macros_reached.items ≡ objects_that (λ entry. is_reached noted.1.macros entry.0) noted.1.kinds.entries
   pub macros_never : reach.macros_never.items ≡ objects_that (λ entry. not (is_reached noted.1.macros entry.0) && is_member Macros entry.1) noted.1.kinds.entries

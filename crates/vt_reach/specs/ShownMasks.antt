@@ -1,19 +1,18 @@
 -- The masks that were shown, by the addresses of their sets.
-use Rattle.std.specs.Prelude.{◌≡◌, ◌≢◌, ◌↔◌, ◌⊎◌, ℕ, Bool, Option, Some, None, Contains}
-use Rattle.std.specs.BTreeSet.{contains}
+use Rattle.std.specs.Prelude.{◌≡◌, ◌≢◌, ◌↔◌, ◌⊎◌, ℕ, Bool, Option, Some, None, IsTrue}
 use Rattle.vt_kinds.specs.Ids.{null_id}
 use Rattle.vt_machine.specs.SetStates.{SetState, active_in}
-use Rattle.vt_reach.specs.PairSets.{pair_cmp}
+use Rattle.vt_reach.specs.PairSets.{has_pair}
 use Rattle.vt_server.specs.Terminals.{State}
 use Rattle.vt_server.specs.shown.ShownSet.{pool_shown}
 use Rattle.vt_reach.specs.declared.shown_masks.ShownMasks.{ShownMasks}
 
 -- a mask was shown of the set at an address
-abbrev pub HasShown : ShownMasks → ℕ → ℕ → Type 0
-HasShown shown address mask = Contains shown.masks.pairs.keys (address, mask)
-
 abbrev pub was_shown : ShownMasks → ℕ → ℕ → Bool
-was_shown shown address mask = contains pair_cmp shown.masks.pairs (address, mask)
+was_shown shown address mask = has_pair shown.masks.pairs (address, mask)
+
+abbrev pub HasShown : ShownMasks → ℕ → ℕ → Type 0
+HasShown shown address mask = IsTrue (was_shown shown address mask)
 
 -- a mask of the set at an address joins those that were shown: the others stay, and no other joins
 abbrev pub Adds : (ℕ → ℕ → Type 0) → (ℕ → ℕ → Type 0) → ℕ → ℕ → Type 0

@@ -1,7 +1,7 @@
 //! The objects that a mask draws, and its soft keys (docs/PROFILE.md, "The drawing").
 
+use crate::drawn::Drawn;
 use std::alloc::AllocError;
-use std::collections::BTreeSet;
 use vt_objects::{Child, InputList, Object, ObjectId, SortedStore, Store};
 use vt_shown::{is_element, number_shown, resolve, soft_key_mask};
 use vt_verify::TERMINAL_LIMITS;
@@ -9,12 +9,12 @@ use vt_verify::TERMINAL_LIMITS;
 /// The most members of a chain of objects, each of which includes the next.
 const MOST_MEMBERS: u8 = TERMINAL_LIMITS.inclusions + 1;
 
-/// Puts the IDs of the elements that a mask and its soft keys show, each once, in `drawn`, which holds no ID before. Takes time that grows
-/// with the number of their entries.
-pub(crate) fn put_drawn(
+/// Puts the elements that a mask and its soft keys show into the drawing, which has none before. Takes time that grows with the number of
+/// their entries.
+pub(crate) fn put_drawing(
     store: &SortedStore,
     mask: ObjectId,
-    drawn: &mut BTreeSet<ObjectId>,
+    drawn: &mut Drawn,
 ) -> Result<(), AllocError> {
     let Some(object) = store.get(mask) else {
         return Ok(());
@@ -34,19 +34,27 @@ fn put_element(
     store: &SortedStore,
     depth: u8,
     id: ObjectId,
-    drawn: &mut BTreeSet<ObjectId>,
+    drawn: &mut Drawn,
 ) -> Result<(), AllocError> {
     if depth == 0 {
         return Ok(());
     }
     match resolve(store, id) {
         Some((id, object)) if is_element(object) => {
-            if drawn.insert(id)? {
+            if is_new(store, id, drawn)? {
                 put_within(store, depth - 1, object, drawn)?;
             }
             Ok(())
         }
         _ => Ok(()),
+    }
+}
+
+/// Puts an element into the drawing. Returns whether the drawing did not have it.
+fn is_new(store: &SortedStore, id: ObjectId, drawn: &mut Drawn) -> Result<bool, AllocError> {
+    match store.place(id) {
+        Some(index) => drawn.put(index, id),
+        None => Ok(false),
     }
 }
 
@@ -56,7 +64,7 @@ fn put_within(
     store: &SortedStore,
     depth: u8,
     object: &Object<Vec<u8>>,
-    drawn: &mut BTreeSet<ObjectId>,
+    drawn: &mut Drawn,
 ) -> Result<(), AllocError> {
     for child in children(object) {
         put_element(store, depth, child.id, drawn)?;

@@ -1,9 +1,8 @@
 //! Sets of pairs.
 
-ghost use Rattle.std.specs.Prelude.{◌≡◌, ◌↔◌, ◌⊎◌, ℕ, Contains, IfSome, IsTrue, OnOk};
-ghost use Rattle.std.specs.BTreeSet.{contains};
+ghost use Rattle.std.specs.Prelude.{◌≡◌, ◌↔◌, ◌⊎◌, ℕ, IfSome, IsTrue, OnOk};
 ghost use Rattle.std.proofs.Props.{props};
-ghost use Rattle.vt_reach.specs.PairSets.{pair_cmp};
+ghost use Rattle.vt_reach.specs.PairSets.{has_pair};
 
 use std::alloc::{AllocError, Global};
 use std::collections::BTreeSet;
@@ -14,13 +13,13 @@ pub(crate) struct Pairs {
     pairs: BTreeSet<(u8, u16)>,
     /// The pair that was put last.
     last: Option<(u8, u16)>,
-    ghost is_in: { IfSome last (λ pair. IsTrue (contains pair_cmp pairs pair)) } by { Prim.hlevel props },
+    ghost is_in: { IfSome last (λ pair. IsTrue (has_pair pairs pair)) } by { Prim.hlevel props },
 }
 
 impl Pairs {
     /// No pairs. Does not allocate.
     pub(crate) fn new(alloc: Global) -> Pairs
-        ensures { (pair : ℕ × ℕ) → ¬ Contains result.pairs.keys pair }
+        ensures { (pair : ℕ × ℕ) → ¬ IsTrue (has_pair result.pairs pair) }
     {
         Pairs {
             pairs: BTreeSet::new(alloc),
@@ -30,7 +29,7 @@ impl Pairs {
 
     /// Puts a pair into the set.
     pub(crate) fn put(&mut self, pair: (u8, u16)) -> Result<(), AllocError>
-        ensures { OnOk result ((other : ℕ × ℕ) → Contains self.new.pairs.keys other ↔ (Contains self.old.pairs.keys other ⊎ (other ≡ pair))) }
+        ensures { OnOk result ((other : ℕ × ℕ) → IsTrue (has_pair self.new.pairs other) ↔ (IsTrue (has_pair self.old.pairs other) ⊎ (other ≡ pair))) }
     {
         if let Some(last) = self.last {
             if last == pair {
@@ -44,8 +43,7 @@ impl Pairs {
 
     /// Whether a pair is in the set.
     pub(crate) fn contains(&self, pair: (u8, u16)) -> bool
-        ensures found { result ≡ contains pair_cmp self.now.pairs pair }
-        ensures has { IsTrue result ↔ Contains self.now.pairs.keys pair }
+        ensures { result ≡ has_pair self.now.pairs pair }
     {
         self.pairs.contains(&pair)
     }

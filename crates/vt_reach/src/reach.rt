@@ -1,11 +1,11 @@
 //! What a replay reaches.
 
-ghost use Rattle.std.specs.Prelude.{ℕ, OnOk, IfOk};
+ghost use Rattle.std.specs.Prelude.{◌≡◌, ◌↔◌, ℕ, OnOk, IfOk};
 ghost use Rattle.std.specs.List.{AllZip};
 ghost use Rattle.vt_server.specs.States.{state_of};
 ghost use Rattle.vt_reach.specs.Reaches.{WasShown};
 ghost use Rattle.vt_reach.specs.Reports.{TellsOf};
-ghost use Rattle.vt_reach.specs.ShownMasks.{AddsShown};
+ghost use Rattle.vt_reach.specs.ShownMasks.{AddsShown, ShowsMask};
 
 use crate::report::SetReach;
 use crate::sets::Sets;
@@ -20,8 +20,9 @@ use vt_server::{Output, Terminal};
 /// replaced, what was reached of it stays, and new objects join; an ID counts once.
 ///
 /// A macro counts as reached if an event at which it is listed was raised, or may have been raised by a macro that counts. So more macros may
-/// count than ran, but never fewer: what a command of a macro raises is judged without its values, and a number or a text that the
-/// operator enters counts as new. From the loss of the terminal's address on, no line raises an event.
+/// count than ran, but never fewer: what a command of a macro raises is judged without its values, a number or a text that the operator
+/// enters counts as new, and an input counts as selected until the operator selects another one. From the loss of the terminal's address
+/// on, no line raises an event.
 #[derive(Drop)]
 pub struct Reach {
     alloc: Global,
@@ -30,27 +31,27 @@ pub struct Reach {
 }
 
 impl Reach {
-    /// Nothing is reached. Does not allocate.
-    pub fn new(alloc: Global) -> Reach
-        ensures { (address mask : ℕ) → ¬ WasShown result address mask }
+    /// Notes the pools that a terminal has before the first line, and what it shows. `OutOfMemory` if an allocation is refused.
+    pub fn new(alloc: Global, terminal: &Terminal) -> Result<Reach, AllocError>
+        // No mask was shown but the active mask of the shown set.
+        ensures { IfOk result (λ reach. (address mask : ℕ) → WasShown reach address mask ↔ ShowsMask (state_of terminal.now) address mask) }
     {
-        Reach {
+        let mut shown_masks = ShownMasks::new(alloc);
+        shown_masks.note(terminal)?;
+        let sets = Sets::new(alloc, terminal)?;
+        Ok(Reach {
             alloc,
-            shown_masks: ShownMasks::new(alloc),
-            sets: Sets::new(alloc),
-        }
+            shown_masks,
+            sets,
+        })
     }
 
-    /// Notes what a line may reach, before the terminal takes it, and what the terminal shows. After `OutOfMemory` this is of no more use.
-    pub fn before(
-        &mut self,
-        reading: &Result<Line<'_>, LineFault>,
-        terminal: &Terminal,
-    ) -> Result<(), AllocError>
-        ensures { OnOk result (AddsShown (WasShown self.old) (WasShown self.new) (state_of terminal.now)) }
+    /// Notes what a line may reach, before the terminal takes it.
+    pub fn before(&mut self, reading: &Result<Line<'_>, LineFault>, terminal: &Terminal)
+        // No mask joins those that were shown.
+        ensures { self.new.shown_masks ≡ self.old.shown_masks }
     {
-        self.shown_masks.note(terminal)?;
-        self.sets.before(reading, terminal)
+        self.sets.before(reading, terminal);
     }
 
     /// Notes what the terminal shows after a line, with its outputs. After `OutOfMemory` this is of no more use.
@@ -62,7 +63,7 @@ impl Reach {
         self.sets.after(outputs, terminal)
     }
 
-    /// What was reached of each working set that had a pool, by rising addresses.
+    /// What was reached of each working set that had a pool, by rising addresses. `OutOfMemory` if an allocation is refused.
     pub fn sets(&self) -> Result<Vec<SetReach>, AllocError>
         // Each noted set is told, by rising addresses, with each object that was noted of it: among those that were reached or among those
         // that never were.

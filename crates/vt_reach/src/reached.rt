@@ -1,22 +1,21 @@
 //! What was reached of the pools of a working set.
 
 use crate::answers::Effect;
-use crate::drawing::put_drawn;
+use crate::drawing::put_drawing;
+use crate::drawn::Drawn;
 use crate::line_before::Deed;
 use crate::macros::ReachedMacros;
 use std::alloc::{AllocError, Global};
-use std::collections::{BTreeMap, BTreeSet};
+use std::collections::BTreeMap;
 use vt_machine::Live;
-use vt_objects::{Event, Kind, ObjectId, SortedStore};
+use vt_objects::{Event, Kind, ObjectId, SortedStore, Store};
 
 /// What was reached of the pools of a working set.
 #[derive(Drop)]
 pub(crate) struct Reached {
-    alloc: Global,
     /// The kind of each object of its pools; of an object of several pools, the latest.
     pub(crate) kinds: BTreeMap<ObjectId, Kind>,
-    /// The objects that were drawn.
-    pub(crate) drawn: BTreeSet<ObjectId>,
+    pub(crate) drawn: Drawn,
     pub(crate) macros: ReachedMacros,
     /// How many commands were done.
     pub(crate) done: u64,
@@ -30,9 +29,8 @@ impl Reached {
     /// A working set without a pool. Does not allocate.
     pub(crate) fn new(alloc: Global) -> Reached {
         Reached {
-            alloc,
             kinds: BTreeMap::new(alloc),
-            drawn: BTreeSet::new(alloc),
+            drawn: Drawn::new(alloc),
             macros: ReachedMacros::new(alloc),
             done: 0,
             refused: 0,
@@ -46,17 +44,13 @@ impl Reached {
             self.kinds.insert(*id, object.kind())?;
         }
         self.macros.renew();
-        Ok(())
+        self.drawn.renew(store.count())
     }
 
     /// Notes the objects that a set draws where it is shown.
     pub(crate) fn note_drawing(&mut self, live: &Live<SortedStore>) -> Result<(), AllocError> {
-        let mut drawn = BTreeSet::new(self.alloc);
-        put_drawn(live.store(), live.active_mask(), &mut drawn)?;
-        for id in drawn.iter() {
-            self.drawn.insert(*id)?;
-        }
-        Ok(())
+        self.drawn.begin();
+        put_drawing(live.store(), live.active_mask(), &mut self.drawn)
     }
 
     /// Counts a command that is refused.
@@ -98,8 +92,7 @@ impl Reached {
         Ok(())
     }
 
-    /// Notes what an action of the operator raises on an object. Whether an entered value is new, and whether an input was selected before, is
-    /// not looked at.
+    /// Notes what an action of the operator raises on an object. Whether an entered value is new is not looked at.
     pub(crate) fn note_deed(
         &mut self,
         store: &SortedStore,
@@ -118,10 +111,12 @@ impl Reached {
         }
     }
 
-    /// Notes what the selection of an input raises.
+    /// Notes what the selection of an input raises. The one before counts as selected until then, also over a new pool.
     fn select(&mut self, store: &SortedStore, id: ObjectId) -> Result<(), AllocError> {
         if let Some(before) = self.selected {
-            self.macros.raise(store, before, Event::InputDeselected)?;
+            if before != id {
+                self.macros.raise(store, before, Event::InputDeselected)?;
+            }
         }
         self.selected = Some(id);
         self.macros.raise(store, id, Event::InputSelected)

@@ -60,7 +60,7 @@ impl SetReach {
         let mut macros = Split::new(alloc);
         for (id, kind) in set.kinds.iter() {
             let was_shown = shown_masks.contains(address, *id);
-            let was_drawn = set.drawn.contains(id);
+            let was_drawn = set.drawn.contains(*id);
             let is_reached = set.macros.contains(*id);
             let object = PoolObject {
                 id: *id,

@@ -18,30 +18,26 @@ pub(crate) struct Sets {
     pub(crate) sets: BTreeMap<u8, Reached>,
     /// What was known before the line that the terminal takes.
     line: Option<LineBefore>,
-    /// Whether the pools that were there from the start are noted.
-    has_begun: bool,
 }
 
 impl Sets {
-    /// No working sets. Does not allocate.
-    pub(crate) fn new(alloc: Global) -> Sets {
-        Sets {
+    /// The working sets that a terminal has before the first line, and what it draws.
+    pub(crate) fn new(alloc: Global, terminal: &Terminal) -> Result<Sets, AllocError> {
+        let mut sets = Sets {
             alloc,
             sets: BTreeMap::new(alloc),
             line: None,
-            has_begun: false,
+        };
+        for address in 0..=u8::MAX {
+            sets.note_pool(address, terminal)?;
         }
+        sets.note_drawing(terminal)?;
+        Ok(sets)
     }
 
     /// Notes what a line may reach, before the terminal takes it.
-    pub(crate) fn before(
-        &mut self,
-        reading: &Result<Line<'_>, LineFault>,
-        terminal: &Terminal,
-    ) -> Result<(), AllocError> {
-        self.begin(terminal)?;
+    pub(crate) fn before(&mut self, reading: &Result<Line<'_>, LineFault>, terminal: &Terminal) {
         self.line = Some(LineBefore::of_reading(reading, terminal));
-        Ok(())
     }
 
     /// Notes what a line has reached, from its outputs.
@@ -50,7 +46,6 @@ impl Sets {
         outputs: &[Output],
         terminal: &Terminal,
     ) -> Result<(), AllocError> {
-        self.begin(terminal)?;
         let line = self.take_line(terminal);
         self.note_answers(outputs, line.mask, terminal)?;
         // The line with which the address is lost raises no event, and no line after it does. An operator's line never loses the address.
@@ -99,19 +94,6 @@ impl Sets {
                 self.note_answer(frame, mask, terminal)?;
             }
         }
-        Ok(())
-    }
-
-    /// Notes the pools and the drawing that are there from the start.
-    fn begin(&mut self, terminal: &Terminal) -> Result<(), AllocError> {
-        if self.has_begun {
-            return Ok(());
-        }
-        for address in 0..=u8::MAX {
-            self.note_pool(address, terminal)?;
-        }
-        self.note_drawing(terminal)?;
-        self.has_begun = true;
         Ok(())
     }
 

@@ -1,6 +1,6 @@
 //! The masks that were shown.
 
-ghost use Rattle.std.specs.Prelude.{◌≡◌, ◌↔◌, ℕ, OnOk, IsTrue};
+ghost use Rattle.std.specs.Prelude.{◌≡◌, ℕ, OnOk};
 ghost use Rattle.std.specs.Option.{option_map};
 ghost use Rattle.vt_server.specs.States.{state_of};
 ghost use Rattle.vt_server.specs.shown.DisplayValues.{found_pool};
@@ -52,8 +52,7 @@ impl ShownMasks {
 
     /// Whether a mask was shown of the set at an address.
     pub(crate) fn contains(&self, address: u8, mask: ObjectId) -> bool
-        ensures found { result ≡ was_shown self.now address mask }
-        ensures has { IsTrue result ↔ HasShown self.now address mask }
+        ensures { result ≡ was_shown self.now address mask }
     {
         self.masks.contains((address, mask.raw()))
     }

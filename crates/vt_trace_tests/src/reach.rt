@@ -54,11 +54,11 @@ fn reach_of(
     terminal: &mut Terminal,
     lines: &[&[u8]],
 ) -> Result<Vec<SetReach>, Fail> {
-    let mut reach = Reach::new(rt.alloc());
+    let mut reach = Reach::new(rt.alloc(), terminal)?;
     let mut outputs = Vec::new(rt.alloc());
     for line in lines {
         let reading = parse_line(line);
-        reach.before(&reading, terminal)?;
+        reach.before(&reading, terminal);
         outputs.clear();
         match reading {
             Ok(Line::Frame { time, frame }) => {

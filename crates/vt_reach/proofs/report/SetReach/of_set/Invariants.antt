@@ -1,9 +1,8 @@
 use Rattle.std.specs.Prelude.{map}
-use Rattle.std.specs.BTreeSet.{contains}
 use Rattle.std.specs.Map.Iter.{deref_pair}
-use Rattle.std.specs.Ordering.{nat_cmp}
 use Rattle.vt_kinds.specs.declared.kinds.Kinds.TheVariants.{Masks, Macros}
 use Rattle.vt_kinds.specs.References.{is_member}
+use Rattle.vt_reach.specs.DrawnObjects.{was_drawn}
 use Rattle.vt_reach.specs.Reports.{IsSplitBy, is_drawn, is_reached}
 use Rattle.vt_reach.specs.ShownMasks.{was_shown}
 use Rattle.vt_reach.proofs.report.SetReach.of_set.Given as goal
@@ -11,5 +10,5 @@ use Rattle.vt_reach.proofs.report.SetReach.of_set.Given as goal
 abbrev pub invariant-loop-id : goal.invariant-loop-id
 invariant-loop-id l =
     IsSplitBy (λ entry. was_shown l.shown_masks l.address entry.0) (λ entry. is_member Masks entry.1) (map deref_pair l.yielded) l.masks
-    × IsSplitBy (λ entry. contains nat_cmp l.set.drawn entry.0) (λ entry. is_drawn entry.1) (map deref_pair l.yielded) l.objects
+    × IsSplitBy (λ entry. was_drawn l.set.drawn entry.0) (λ entry. is_drawn entry.1) (map deref_pair l.yielded) l.objects
     × IsSplitBy (λ entry. is_reached l.set.macros entry.0) (λ entry. is_member Macros entry.1) (map deref_pair l.yielded) l.macros
