@@ -12,16 +12,19 @@ use vt_server::Terminal;
 /// The highest number of lines before one whose fault is told.
 const MOST_LINES: u64 = 1 << 62;
 
-/// Returns a log with the expectations that it meets, in place of those that it had.
-pub fn bless(alloc: Global, log: &[u8], terminal: &mut Terminal) -> Result<Vec<u8>, ReplayFault>
+/// Returns a log with the expectations that it meets, in place of those that it had. After a fault, for want of memory or at a line of
+/// more than 4,096 bytes, the terminal has taken the lines before it.
+pub fn bless(alloc: Global, log: &[u8], terminal: &mut Terminal) -> Result<Blessed, ReplayFault>
     // No other line is changed.
-    ensures { IfOk result (λ blessed. without_expectations (lines_of blessed.items) ≡ without_expectations (lines_of log.now)) }
+    ensures { IfOk result (λ blessed. without_expectations (lines_of blessed.text.items) ≡ without_expectations (lines_of log.now)) }
 {
     let mut progress = Progress::new(alloc);
     let mut printed = Vec::new(alloc);
     let mut blessed = Blessed {
         text: Vec::new(alloc),
         lines: 0,
+        inputs: 0,
+        faults: 0,
     };
     progress.begin(terminal, &mut printed)?;
     blessed.put_expectations(&printed)?;
@@ -35,22 +38,38 @@ pub fn bless(alloc: Global, log: &[u8], terminal: &mut Terminal) -> Result<Vec<u
             };
             printed.clear();
             progress.end_line(line, terminal, &mut printed)?;
+            blessed.count(&progress.counts);
             blessed.put_line(b"", line)?;
             blessed.put_expectations(&printed)?;
         }
         rest = after;
     }
-    Ok(blessed.text)
+    Ok(blessed)
 }
 
-/// A log that is being written.
-#[derive(Drop)]
-struct Blessed {
-    text: Vec<u8>,
-    lines: u64,
+/// A log with the expectations that it meets.
+#[derive(Debug, Drop)]
+pub struct Blessed {
+    /// The log.
+    pub text: Vec<u8>,
+    /// The number of its lines.
+    pub lines: u64,
+    /// How many of its lines are frames or actions of the operator.
+    pub inputs: u64,
+    /// How many of its lines are faulty. Each is expected to stay so.
+    pub faults: u64,
 }
 
 impl Blessed {
+    /// Counts a line by its counts.
+    fn count(&mut self, line: &Counts)
+        ensures { self.new.text.items ≡ self.old.text.items }
+    {
+        let inputs = line.frames.saturating_add(line.operator);
+        self.inputs = self.inputs.saturating_add(inputs);
+        self.faults = self.faults.saturating_add(line.faults);
+    }
+
     /// Appends a line.
     fn put_line(&mut self, front: &[u8], line: &[u8]) -> Result<(), AllocError>
         ensures { OnOk result (self.new.text.items ≡ self.old.text.items ++ front.now ++ line.now ++ 10 ∷ []) }

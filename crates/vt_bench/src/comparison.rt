@@ -14,7 +14,8 @@ use vt_logs::{Progress, ReplayFault};
 use vt_server::Terminal;
 
 /// Replays a log, and returns each line that prints another text than its expectations, and first the first screen if it is another
-/// than the expectations before any other line.
+/// than the expectations before any other line. After a fault, for want of memory or at a line of more than 4,096 bytes, the terminal has
+/// taken the lines before it.
 pub fn differences(
     alloc: Global,
     log: &[u8],

@@ -13,6 +13,6 @@ mod difference;
 mod expectation;
 pub mod laws;
 
-pub use blessing::bless;
+pub use blessing::{Blessed, bless};
 pub use comparison::differences;
 pub use difference::Difference;

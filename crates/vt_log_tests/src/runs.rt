@@ -112,6 +112,17 @@ fn the_operator_is_told(rt: HostRuntime) -> Result<(), Fail> {
 (1.000000) can0 1CEB8026#0244454647FFFFFF\n\
 ! release 400\n\
 (2.000000) can1 14E68026#00009001E80307FF\n\
+(3.000000) can0 1CEC8026#100B0002FF00E600\n\
+(3.000000) can0 1CEB8026#0108600107414243\n\
+(3.000000) can0 1CEC2680#FF03FFFFFF00E600\n\
+(3.000000) can0 1CEB8026#0244454647FFFFFF\n\
+! text 352 ABCDEFG\n\
+(4.000000) can0 1CEC8026#100B0002FF00E600\n\
+(4.000000) can0 1CEC8026#10\n\
+(4.000000) can0 1CEB8026#0108600107414243\n\
+(4.000000) can0 1CEB8026#0244454647FFFFFF\n\
+(5.000000) can0 14E68026##\n\
+\x20! press 400\n\
 ? a fault\n";
     let run = Run {
         words: &["s", "operator", "told.log"],
@@ -151,7 +162,7 @@ fn only_a_log_that_changes_is_written(rt: HostRuntime) -> Result<(), Fail> {
         status: Status::Clean,
         text: "met.log: as it was\nunmet.log: written\n",
         written: "== unmet.log of 118 bytes\n",
-        has_messages: false,
+        has_messages: true,
     };
     expect_run(&rt, &run)
 }

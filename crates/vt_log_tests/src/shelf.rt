@@ -45,7 +45,8 @@ const TRANSFERS: &[u8] = b"(1.000000)  can0 1CEC2680#10230005FF00E700
 (1.200000)  can0 18C72781#0111000000000000
 ";
 
-/// What a recorded terminal told of its operator, one of it by the transport protocol, beside an operator line.
+/// What a recorded terminal told of its operator, beside an operator line: texts in packets too, of which the second is aborted, and a short
+/// frame follows the request of the third. Then comes a CAN FD frame, and a line with a space before an exclamation mark.
 const TOLD: &[u8] = b"! press 7
 (1.000000) can0 14E68026#00019001E80307FF
 (1.000000) can0 14E68026#01009101E80308FF
@@ -62,6 +63,16 @@ const TOLD: &[u8] = b"! press 7
 (1.000000) can0 1CEB8026#0108600107414243
 (1.000000) can0 1CEB8026#0244454647FFFFFF
 (2.000000)   can1  14E68026   [8]  00 00 90 01 E8 03 07 FF
+(3.000000) can0 1CEC8026#100B0002FF00E600
+(3.000000) can0 1CEB8026#0108600107414243
+(3.000000) can0 1CEC2680#FF03FFFFFF00E600
+(3.000000) can0 1CEB8026#0244454647FFFFFF
+(4.000000) can0 1CEC8026#100B0002FF00E600
+(4.000000) can0 1CEC8026#10
+(4.000000) can0 1CEB8026#0108600107414243
+(4.000000) can0 1CEB8026#0244454647FFFFFF
+(5.000000)   can0  14E68026  [12]  00 00 90 01 E8 03 07 FF FF FF FF FF
+ ! press 400
 ? a fault
 ";
 

@@ -89,25 +89,28 @@ impl Recording {
 
     /// Hears the frame of a line.
     fn hear(&mut self, number: u64, frame: &Frame) -> Result<(), AllocError> {
-        if frame.id.source() != self.own {
-            return Ok(());
+        if frame.id.source() == self.own {
+            if frame.id.pgn() == VT_TO_ECU {
+                return self.tell(number, frame.bytes.as_slice());
+            }
+            self.note_request(number, frame);
         }
-        let Some(destination) = frame.id.destination() else {
-            return Ok(());
-        };
-        match frame.id.pgn() {
-            VT_TO_ECU => self.tell(number, frame.bytes.as_slice()),
-            pgn => {
-                if pgn == TP_CM && frame.bytes.first() == Some(&TP_RTS) {
-                    self.requests[usize::from(destination)] = number;
-                }
-                self.broken.clear();
-                match self.listener.hear(frame, &mut self.broken)? {
-                    Some(sent) if sent.pgn == VT_TO_ECU => {
-                        self.tell(self.requests[usize::from(destination)], &sent.bytes)
-                    }
-                    _ => Ok(()),
-                }
+        self.broken.clear();
+        match self.listener.hear(frame, &mut self.broken)? {
+            Some(sent) if sent.source == self.own && sent.pgn == VT_TO_ECU => {
+                self.tell(self.requests[usize::from(sent.destination)], &sent.bytes)
+            }
+            _ => Ok(()),
+        }
+    }
+
+    /// Notes the line of a frame of the terminal, if the frame is a request to send a message in packets.
+    fn note_request(&mut self, number: u64, frame: &Frame) {
+        let bytes = frame.bytes.as_slice();
+        let is_request = frame.id.pgn() == TP_CM && matches!(bytes, [TP_RTS, _, _, _, _, _, _, _]);
+        if let Some(destination) = frame.id.destination() {
+            if is_request {
+                self.requests[usize::from(destination)] = number;
             }
         }
     }

@@ -5,7 +5,7 @@ ghost use Rattle.vt_log_tool.specs.Statuses.{status_of};
 
 use std::alloc::{AllocError, Global};
 use std::io::{self, Error, ErrorKind, Write};
-use vt_bench::{Difference, bless, differences};
+use vt_bench::{Blessed, Difference, bless, differences};
 use vt_files::{Open, Program, Save, read_file, save_file};
 use vt_log_replay::{LoadedSet, Status, new_terminal, read_set};
 use vt_log_words::{TerminalOptions, TestOptions};
@@ -72,7 +72,7 @@ impl Bench<'_> {
         }
     }
 
-    /// Writes a log anew, with the expectations that it meets, unless it has them already.
+    /// Writes a log anew, with the expectations that it meets, unless it has them already or no line of it can be read.
     fn bless<F: Save, W: Write, E: Write>(
         &self,
         path: &str,
@@ -86,17 +86,7 @@ impl Bench<'_> {
         }
         let mut terminal = self.new_terminal()?;
         match bless(self.alloc, log, &mut terminal) {
-            Ok(blessed) if blessed.as_slice() == log => {
-                writeln!(out, "{path}: as it was")?;
-                Ok(Status::Clean)
-            }
-            Ok(blessed) => {
-                if !save_file(path, &blessed, files, errors)? {
-                    return Ok(Status::NotJudged);
-                }
-                writeln!(out, "{path}: written")?;
-                Ok(Status::Clean)
-            }
+            Ok(blessed) => write_blessed(path, log, &blessed, files, out, errors),
             Err(fault) => not_replayed(path, fault, files, errors),
         }
     }
@@ -105,6 +95,37 @@ impl Bench<'_> {
     fn new_terminal(&self) -> io::Result<Terminal> {
         new_terminal(self.alloc, self.terminal, None, self.set)
     }
+}
+
+/// Writes a blessed log in place of the log, unless they are the same or no line can be read. Says on `errors` how many lines are faulty.
+fn write_blessed<F: Save, W: Write, E: Write>(
+    path: &str,
+    log: &[u8],
+    blessed: &Blessed,
+    files: &mut F,
+    out: &mut W,
+    errors: &mut E,
+) -> io::Result<Status> {
+    let faults = blessed.faults;
+    if faults > 0 {
+        let _ = writeln!(
+            errors,
+            "{}: {path}: {faults} of its lines are faulty; lines of candump -L are wanted, and operator writes those of other recorders so",
+            files.name()
+        );
+        if blessed.inputs == 0 {
+            return Ok(Status::NotJudged);
+        }
+    }
+    if blessed.text.as_slice() == log {
+        writeln!(out, "{path}: as it was")?;
+        return Ok(Status::Clean);
+    }
+    if !save_file(path, &blessed.text, files, errors)? {
+        return Ok(Status::NotJudged);
+    }
+    writeln!(out, "{path}: written")?;
+    Ok(Status::Clean)
 }
 
 /// Says why a log could not be replayed.

@@ -19,7 +19,7 @@ pub loop-line-preserved-in_ok-put_expectations-2 : goal.loop-line-preserved-in_o
 loop-line-preserved-in_ok-put_expectations-2 c = record {
   drawn = drawn-after _ _ _ c.in_ok-end_line.ensures.takes c.loop-line.invariant.drawn;
   kept = kept-other c.loop-line.blessed.text.items c.args.log.now c.loop-line.rest.now c.in-Some.line.now c.in-Some.after.now c.put_line.new.self.text.items c.put_expectations-then-not-is_expectation.new.self.text.items
-      c.loop-line.invariant.kept c.in-Some.ensures.lines (sym c.is_expectation.ensures ∙ c.if-not-is_expectation.true) c.in_ok-put_line.ensures c.in_ok-put_expectations-2.ensures;
+      c.loop-line.invariant.kept c.in-Some.ensures.lines (sym c.is_expectation.ensures ∙ c.if-not-is_expectation.true) (rw c.count.ensures at c.in_ok-put_line.ensures) c.in_ok-put_expectations-2.ensures;
 }
 
 pub loop-line-preserved : goal.loop-line-preserved
