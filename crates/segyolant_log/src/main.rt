@@ -29,7 +29,10 @@ fn run_words(rt: &HostRuntime) -> io::Result<Status> {
     let words: Vec<String> = match std::env::args(rt) {
         Ok(words) => words.collect(alloc)?,
         Err(error) if error.kind() == ErrorKind::InvalidData => {
-            let _ = writeln!(errors, "error: a word is not UTF-8");
+            let _ = writeln!(
+                errors,
+                "segyolant_log: a word of the command line is not UTF-8; a file with such a name can be renamed, or read as -, the standard input"
+            );
             return Ok(Status::NotJudged);
         }
         Err(error) => return Err(error),

@@ -49,9 +49,7 @@ fn is_done<E: Write>(
 fn cure_of(error: &Error) -> &'static str {
     match error.kind() {
         ErrorKind::NotFound => "; the folder around it is wanted first",
-        ErrorKind::NotADirectory => {
-            "; a folder is wanted there, and the path of one picture ends in .svg"
-        }
+        ErrorKind::NotADirectory => "; a folder is wanted there",
         _ => "",
     }
 }

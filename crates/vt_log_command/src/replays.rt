@@ -25,8 +25,8 @@ Status: 0 all answers are the same, 1 some are not, 2 not judged.";
 
 /// The text of help after the options of `draw`.
 const AFTER_DRAW: &str = "\
-A picture for each line of the log at which the text of the screen changed, as FOLDER/line-17.svg, and one of the first screen, if it
-shows a mask, as FOLDER/line-0.svg. Each is named on the standard output.";
+The screen after each line of the log at which its text changed, as FOLDER/line-17.svg, and the first one, as FOLDER/line-0.svg. Each
+is named on the standard output; a screen without a mask has no picture.";
 
 /// The text of help after the options of `stats`.
 const AFTER_STATS: &str = "\

@@ -18,7 +18,8 @@ Status: 0 nothing found, 1 something found, 2 not judged (words, file or memory)
   segyolant_log test suite.log                                whether each line prints what the lines #< behind it say
   segyolant_log test suite.log --bless                        writes these lines
 
-A log is as candump -L writes it, or candump -ta; the names of interfaces may be padded. - is the standard input.
+A log is as candump -L writes it. But for test, also as candump -ta writes it, and the names of interfaces may be padded. - is the
+standard input.
 
 docs/LOGS.md has examples.";
 
@@ -29,8 +30,8 @@ A line for each upload and update, from the first piece to its end, and below a 
   lines 3 to 14: pool of 80 to 26, 74 bytes in 11 pieces: accepted 7 objects -> pools/80-1.iop
   line 40: transfer of 80 to 26 broken off: 1785 bytes of parameter group E700, packet 7 is missing
 
-Packets that came twice or were sent again do no harm. Status: 0 all pools are accepted, 1 some are not, or a transfer or an upload
-did not end, 2 not judged.";
+Packets of a transfer that came twice or were sent again do no harm. Of a log of two interfaces of one bus take one, by --interface.
+Status: 0 all pools are accepted, 1 some are not, or a transfer or an upload did not end, 2 not judged.";
 
 /// The text of help after the options of `operator`.
 const AFTER_OPERATOR: &str = "\
@@ -43,7 +44,8 @@ lines that the log has already are left out. The choice of a working set cannot 
 /// The text of help after the options of `test`.
 const AFTER_TEST: &str = "\
 A line #< TEXT is an expectation: the line of the log before it has to print TEXT, in a replay as that of vt_replay. To every other
-reader of logs it is a comment. The expectations before any other line are those of the first screen.
+reader of logs it is a comment. The expectations before any other line are those of the first screen. Lines are read as candump -L
+writes them.
 
   (2.400000) can0 14E72680#A0640000FFFFFFFF
   #< 14E68026#A064000000FFFFFF
