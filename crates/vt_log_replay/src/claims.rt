@@ -38,7 +38,8 @@ pub struct Recorded {
 }
 
 impl Recorded {
-    /// What the lines of a log tell of the terminal at an address. Reads only the lines that can tell something.
+    /// What the lines of a log tell of the terminal at an address. Reads only the lines that can tell something. `OutOfMemory` if an
+    /// allocation is refused.
     pub fn in_log(
         alloc: Global,
         log: &[u8],

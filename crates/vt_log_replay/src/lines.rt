@@ -38,7 +38,7 @@ impl<'a> LineCursor<'a> {
         }
     }
 
-    /// The next line, which ends before the next of the `line_ends`.
+    /// The line from the end of the last one to `end`, which is the next of the `line_ends` of the text.
     pub fn next_line(&mut self, end: usize) -> &'a [u8] {
         let line = self.text.get(self.start..end).unwrap_or(&[]);
         self.start = end.saturating_add(1);

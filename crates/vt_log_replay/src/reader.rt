@@ -37,7 +37,9 @@ impl<'a> LogReader<'a> {
         }
     }
 
-    /// Reads a line, given without its newline. One of another interface counts as a comment.
+    /// Reads a line, given without its newline. One of another interface counts as a comment. The inner result has the fault of the line.
+    /// After `OutOfMemory` the reader is of no more use.
+    #[inline]
     pub fn read<'b>(&'b mut self, line: &'b [u8]) -> Result<Result<Line<'b>, LineFault>, AllocError>
         ensures { IfOk result (λ reading. IsReadingFrom (wanted self.old) line.now (reading_of reading)) }
     {

@@ -13,8 +13,8 @@ pub struct Share {
     pub source: u8,
     /// How much.
     pub counts: Counts,
-    /// The least load that this is of a bus of 250 kbit/s, in tenths of a percent. `None` if the first and the last frame of the log have one
-    /// time.
+    /// The load that this is of a bus of 250 kbit/s without stuffed bits, in tenths of a percent. `None` if the first and the last frame of the
+    /// log have one time.
     pub load: Option<u64>,
 }
 
@@ -32,7 +32,7 @@ pub struct TrafficReport {
     pub last_time: u64,
     /// How much all sources have sent.
     pub total: Counts,
-    /// The least load of a bus of 250 kbit/s, in tenths of a percent. `None` if the first and the last frame have one time.
+    /// The load of a bus of 250 kbit/s without stuffed bits, in tenths of a percent. `None` if the first and the last frame have one time.
     pub load: Option<u64>,
     /// The share of each source, by rising addresses.
     pub shares: Vec<Share>,

@@ -74,7 +74,7 @@ impl Traffic {
         self.sources.total
     }
 
-    /// What was counted so far.
+    /// What was counted so far. `OutOfMemory` if an allocation is refused.
     pub fn report(&self) -> Result<TrafficReport, AllocError>
         ensures { IfOk result (IsReportOn self.now) }
     {
