@@ -6,6 +6,7 @@
 
 mod draw;
 mod options;
+mod subcommands;
 mod words;
 
 pub use draw::{DrawOptions, Drawing, Origin, StartSet};

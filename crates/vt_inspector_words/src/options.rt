@@ -4,7 +4,7 @@ ghost use Rattle.std.specs.Prelude.{IsTrue, ◌↔◌};
 ghost use Rattle.vt_inspector_words.specs.Refusals.{AsksForHelp};
 
 use crate::draw::{DrawOptions, Origin, StartSet, area_of, draw_options};
-use crate::words::command;
+use crate::subcommands::SEGYOLANT;
 use clap::error::ErrorKind;
 use clap::{ArgMatches, Error};
 use std::alloc::{AllocError, Global};
@@ -213,20 +213,31 @@ impl From<AllocError> for UsageError<'_> {
 impl<'a> Options<'a> {
     /// Reads the words, of which the first is the program's name.
     pub fn parse<S: AsStr>(alloc: Global, words: &'a [S]) -> Result<Options<'a>, UsageError<'a>> {
-        let matches = command(alloc)?.try_get_matches_from(words)?;
-        let options = match matches.subcommand() {
-            Some(("why", matches)) => Options::Why(why_options(alloc, matches)?),
-            Some(("needs", matches)) => Options::Needs(needs_options(alloc, matches)?),
-            Some(("diff", matches)) => Options::Diff(diff_options(alloc, matches)?),
-            Some(("draw", matches)) => Options::Draw(draw_options(alloc, matches)?),
-            Some((_, matches)) => Options::Check(check_options(alloc, matches)?),
-            // clap refuses these words; its contract does not say so.
-            None => return Err(UsageError::NoSubcommand),
+        let matches = SEGYOLANT.command(alloc)?.try_get_matches_from(words)?;
+        // clap demands a subcommand; its contract does not say so.
+        let Some((name, matches)) = matches.subcommand() else {
+            return Err(UsageError::NoSubcommand);
         };
+        let options = Options::of_subcommand(alloc, name, matches)?;
         if options.inputs() > 1 {
             return Err(UsageError::InputTwice);
         }
         Ok(options)
+    }
+
+    /// The options of a subcommand of this name.
+    fn of_subcommand(
+        alloc: Global,
+        name: &str,
+        matches: &ArgMatches<'a>,
+    ) -> Result<Options<'a>, UsageError<'a>> {
+        Ok(match name {
+            "why" => Options::Why(why_options(alloc, matches)?),
+            "needs" => Options::Needs(needs_options(alloc, matches)?),
+            "diff" => Options::Diff(diff_options(alloc, matches)?),
+            "draw" => Options::Draw(draw_options(alloc, matches)?),
+            _ => Options::Check(check_options(alloc, matches)?),
+        })
     }
 
     /// How many of the files are the standard input.

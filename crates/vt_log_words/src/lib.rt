@@ -5,6 +5,9 @@
 
 mod options;
 mod refusal;
+mod replays;
+mod subcommands;
+mod words;
 
 pub use options::{
     CompareOptions, DrawOptions, Format, OperatorOptions, Options, PoolsOptions, ReplayOptions,

@@ -1,11 +1,11 @@
 //! The options that the words give.
 
 use crate::refusal::UsageError;
+use crate::subcommands::SEGYOLANT_LOG;
 use clap::ArgMatches;
 use hex::FromHex;
 use std::alloc::{AllocError, Global};
 use std::convert::AsStr;
-use vt_log_command::command;
 
 /// The options that the words give, by the subcommand.
 #[derive(Drop)]
@@ -146,22 +146,33 @@ const OWNER: u8 = 0x80;
 impl<'a> Options<'a> {
     /// Reads the words, of which the first is the program's name.
     pub fn parse<S: AsStr>(alloc: Global, words: &'a [S]) -> Result<Options<'a>, UsageError<'a>> {
-        let matches = command(alloc)?.try_get_matches_from(words)?;
-        let options = match matches.subcommand() {
-            Some(("operator", matches)) => Options::Operator(operator_options(matches)?),
-            Some(("trace", matches)) => Options::Trace(replay_options(alloc, matches)?),
-            Some(("compare", matches)) => Options::Compare(compare_options(alloc, matches)?),
-            Some(("draw", matches)) => Options::Draw(draw_options(alloc, matches)?),
-            Some(("stats", matches)) => Options::Stats(stats_options(alloc, matches)?),
-            Some(("test", matches)) => Options::Test(test_options(alloc, matches)?),
-            Some((_, matches)) => Options::Pools(pools_options(alloc, matches)?),
-            // clap refuses these words; its contract does not say so.
-            None => return Err(UsageError::NoSubcommand),
+        let matches = SEGYOLANT_LOG.command(alloc)?.try_get_matches_from(words)?;
+        // clap demands a subcommand; its contract does not say so.
+        let Some((name, matches)) = matches.subcommand() else {
+            return Err(UsageError::NoSubcommand);
         };
+        let options = Options::of_subcommand(alloc, name, matches)?;
         if options.inputs() > 1 {
             return Err(UsageError::InputTwice);
         }
         Ok(options)
+    }
+
+    /// The options of a subcommand of this name.
+    fn of_subcommand(
+        alloc: Global,
+        name: &str,
+        matches: &ArgMatches<'a>,
+    ) -> Result<Options<'a>, UsageError<'a>> {
+        Ok(match name {
+            "operator" => Options::Operator(operator_options(matches)?),
+            "trace" => Options::Trace(replay_options(alloc, matches)?),
+            "compare" => Options::Compare(compare_options(alloc, matches)?),
+            "draw" => Options::Draw(draw_options(alloc, matches)?),
+            "stats" => Options::Stats(stats_options(alloc, matches)?),
+            "test" => Options::Test(test_options(alloc, matches)?),
+            _ => Options::Pools(pools_options(alloc, matches)?),
+        })
     }
 
     /// How many of the files are the standard input.

@@ -1,9 +1,10 @@
 //! The whole command line.
 
-use crate::replays::{compare, draw, stats, trace};
-use crate::values::{format, interface, log, name, names, out, own, owner, pool};
-use clap::{Arg, ArgAction, Command};
-use std::alloc::{AllocError, Global};
+use crate::replays::{COMPARE, DRAW, STATS, TRACE};
+use crate::words::{
+    BLESS, FORMAT, INTERFACE, LOG, LOGS, NAME, NAMES, OWN, OWNER, POOL, POOLS_FOLDER,
+};
+use vt_command_line::{Program, Subcommand};
 
 /// The text of help after the subcommands.
 const AFTER_HELP: &str = "\
@@ -53,69 +54,31 @@ writes them.
 Status: 0 each line prints what is expected of it, 1 some line prints something else, 2 not judged.";
 
 /// The command line of `segyolant_log`.
-pub fn command<'a>(alloc: Global) -> Result<Command<'a>, AllocError> {
-    Command::new(alloc, "segyolant_log")
-        .version("0.1.0")
-        .about(
-            "Tells what recorded logs of an ISOBUS hold: uploaded pools, what was said and shown, and what differs",
-        )
-        .after_help(AFTER_HELP)
-        .subcommand_required(true)
-        .arg_required_else_help(true)
-        .subcommand(pools(alloc)?)?
-        .subcommand(operator(alloc)?)?
-        .subcommand(trace(alloc)?)?
-        .subcommand(compare(alloc)?)?
-        .subcommand(draw(alloc)?)?
-        .subcommand(stats(alloc)?)?
-        .subcommand(test(alloc)?)
-}
+pub(crate) const SEGYOLANT_LOG: Program<'static> = Program {
+    name: "segyolant_log",
+    version: "0.1.0",
+    about: "Tells what recorded logs of an ISOBUS hold: uploaded pools, what was said and shown, and what differs",
+    after_help: AFTER_HELP,
+    subcommands: &[POOLS, OPERATOR, TRACE, COMPARE, DRAW, STATS, TEST],
+};
 
-fn pools<'a>(alloc: Global) -> Result<Command<'a>, AllocError> {
-    Command::new(alloc, "pools")
-        .about("Prints every upload and update of an object pool, and what a terminal says of it")
-        .after_help(AFTER_POOLS)
-        .arg(log(alloc))?
-        .arg(out(
-            alloc,
-            "A folder for the pools, which is made if it is not there [default: write none]",
-        ))?
-        .arg(names(alloc))?
-        .arg(interface(alloc))?
-        .arg(format(alloc))
-}
+const POOLS: Subcommand<'static> = Subcommand {
+    name: "pools",
+    about: "Prints every upload and update of an object pool, and what a terminal says of it",
+    after_help: Some(AFTER_POOLS),
+    words: &[LOG, POOLS_FOLDER, NAMES, INTERFACE, FORMAT],
+};
 
-fn operator<'a>(alloc: Global) -> Result<Command<'a>, AllocError> {
-    Command::new(alloc, "operator")
-        .about("Prints a log with the operator's lines, as the recorded terminal told of them")
-        .after_help(AFTER_OPERATOR)
-        .arg(log(alloc))?
-        .arg(interface(alloc))?
-        .arg(own(alloc))
-}
+const OPERATOR: Subcommand<'static> = Subcommand {
+    name: "operator",
+    about: "Prints a log with the operator's lines, as the recorded terminal told of them",
+    after_help: Some(AFTER_OPERATOR),
+    words: &[LOG, INTERFACE, OWN],
+};
 
-fn test<'a>(alloc: Global) -> Result<Command<'a>, AllocError> {
-    Command::new(alloc, "test")
-        .about("Replays logs, and compares what each line prints with the expectations in the log")
-        .after_help(AFTER_TEST)
-        .arg(
-            Arg::new(alloc, "LOG")
-                .help("The files of the logs")
-                .action(ArgAction::Append)
-                .num_args(1..)
-                .required(true),
-        )?
-        .arg(
-            Arg::new(alloc, "bless")
-                .long("bless")
-                .help("Write each log anew, with the expectations that it meets")
-                .action(ArgAction::SetTrue),
-        )?
-        .arg(own(alloc))?
-        .arg(name(
-            alloc,
-            "The terminal's NAME, 16 hex digits [default: 20001D0000000001]",
-        ))?
-        .arg(pool(alloc))?
-        .arg(owner(alloc))
-}
+const TEST: Subcommand<'static> = Subcommand {
+    name: "test",
+    about: "Replays logs, and compares what each line prints with the expectations in the log",
+    after_help: Some(AFTER_TEST),
+    words: &[LOGS, BLESS, OWN, NAME, POOL, OWNER],
+};

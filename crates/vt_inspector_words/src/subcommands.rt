@@ -1,0 +1,95 @@
+//! The command line of the program, for `clap`.
+
+use crate::words::{
+    DENY, DRAWN_POOL, EVENT, FORMAT, KEY_SIZE, KEYS, MASK, MOST, NAMES, NEW, OLD, OUT, OWNER, POOL,
+    POOLS, SIZE, STATE,
+};
+use vt_command_line::{Program, Subcommand};
+
+/// The text of help after the subcommands.
+const AFTER_HELP: &str = "\
+Status: 0 nothing found, 1 something found, 2 not judged or not drawn (words, file, memory, or a pool that the subcommand cannot take)
+
+  segyolant check my.iop                                every fault, and warnings
+  segyolant check my.iop --names my.h --format github   the same, by names, for a workflow
+  segyolant check *.iop --format json --most 100        lines of JSON, at most 100 errors and warnings a pool
+  segyolant why my.iop 2002:24 --names my.h             what the event 24 of the object 2002 can cost, and why
+  segyolant needs my.iop --size 240x240 --keys 6        whether the pool fits a terminal
+  segyolant diff old.iop new.iop                        what is removed, changed and added
+  segyolant draw my.iop > my.svg                        the active mask with its soft keys, as SVG
+  segyolant draw my.iop --out masks --names my.h        all masks, and a page of them with every fault
+  segyolant draw my.iop --state my.log > my.svg         the mask that is shown at the end of a log
+
+docs/POOLS.md has the codes.";
+
+/// The text of help after the options of `check`.
+const AFTER_CHECK: &str = "\
+A line for each finding, FILE:OFFSET: SEVERITY[CODE NAME] SENTENCE:
+
+  my.iop:598: error[R03 Missing] Output Number 341 `tank_value`: font names object 104, which is not there
+
+  segyolant check my.iop --deny warnings
+  cat my.iop | segyolant check -";
+
+/// The text of help after the options of `why`.
+const AFTER_WHY: &str = "\
+The event with its macros, then each macro that it can run, with its commands and the events that they raise. Each number is the
+sum of those below it, up to 1000000000000.
+
+  segyolant why my.iop 2002:24";
+
+/// The text of help after the options of `draw`.
+const AFTER_DRAW: &str = "\
+A pool with errors is drawn as far as it can be read. A folder gets a picture ID.svg of each mask, and index.html with all of them and
+the lines of check. A log is replayed by the terminal of vt_replay. Status: 0 drawn, 1 drawn but the pool has errors, 2 not drawn.
+
+  segyolant draw my.iop > my.svg                        the active mask
+  segyolant draw my.iop --mask 2000 --out alarm.svg     another
+  segyolant draw my.iop --out masks --names my.h        all, with masks/index.html
+  segyolant draw my.iop --state my.log > my.svg         what is shown at the end of a log, with the pool at address 80
+  segyolant draw --state my.log > my.svg                the same with the pools that the log uploads alone
+  segyolant draw my.iop --size 240x240 --key-size 60x60 > small.svg";
+
+/// The command line.
+pub(crate) const SEGYOLANT: Program<'static> = Program {
+    name: "segyolant",
+    version: "0.1.0",
+    about: "Checks object pools for makers of ISOBUS implements: every fault at once, with its place and its cause",
+    after_help: AFTER_HELP,
+    subcommands: &[CHECK, WHY, NEEDS, DIFF, DRAW],
+};
+
+const CHECK: Subcommand<'static> = Subcommand {
+    name: "check",
+    about: "Prints every fault of object pools, and warnings",
+    after_help: Some(AFTER_CHECK),
+    words: &[POOLS, NAMES, FORMAT, MOST, DENY],
+};
+
+const WHY: Subcommand<'static> = Subcommand {
+    name: "why",
+    about: "Prints the steps that an event of an object pool can take, by macros and commands",
+    after_help: Some(AFTER_WHY),
+    words: &[POOL, EVENT, NAMES],
+};
+
+const NEEDS: Subcommand<'static> = Subcommand {
+    name: "needs",
+    about: "Prints what an object pool needs of a terminal, and whether a terminal has it",
+    after_help: None,
+    words: &[POOL, NAMES, SIZE, KEYS],
+};
+
+const DIFF: Subcommand<'static> = Subcommand {
+    name: "diff",
+    about: "Compares two object pools by the IDs of their objects",
+    after_help: None,
+    words: &[OLD, NEW, NAMES],
+};
+
+const DRAW: Subcommand<'static> = Subcommand {
+    name: "draw",
+    about: "Draws masks of an object pool with their soft keys, as SVG",
+    after_help: Some(AFTER_DRAW),
+    words: &[DRAWN_POOL, NAMES, STATE, OWNER, MASK, SIZE, KEY_SIZE, OUT],
+};
