@@ -6,7 +6,6 @@
 mod actions;
 mod operator;
 mod program;
-mod test;
 
 pub use program::run;
 pub use vt_files::{Files, Open, Program, Save};

@@ -1,11 +1,11 @@
 //! A run of the program, from its words to its status.
 
 use crate::operator::run_operator;
-use crate::test::run_test;
 use std::alloc::Global;
 use std::convert::AsStr;
 use std::io::{self, Write};
 use vt_files::{Open, Save};
+use vt_log_bench::run_test;
 use vt_log_compare::run_compare;
 use vt_log_pools::run_pools;
 use vt_log_replay::{Messages, Status};
@@ -26,17 +26,28 @@ pub fn run<S: AsStr, F: Open + Save, W: Write, E: Messages>(
         Ok(options) => options,
         Err(refusal) => return refuse(&refusal, out, errors),
     };
-    let status = match &options {
-        Options::Pools(options) => run_pools(alloc, options, files, out, errors)?,
-        Options::Operator(options) => run_operator(alloc, *options, files, out, errors)?,
-        Options::Trace(options) => run_trace(alloc, options, files, out, errors)?,
-        Options::Compare(options) => run_compare(alloc, options, files, out, errors)?,
-        Options::Draw(options) => run_draw(alloc, options, files, out, errors)?,
-        Options::Stats(options) => run_stats(alloc, options, files, out, errors)?,
-        Options::Test(options) => run_test(alloc, options, files, out, errors)?,
-    };
+    let status = run_subcommand(alloc, &options, files, out, errors)?;
     out.flush()?;
     Ok(status)
+}
+
+/// Runs a subcommand.
+fn run_subcommand<F: Open + Save, W: Write, E: Messages>(
+    alloc: Global,
+    options: &Options<'_>,
+    files: &mut F,
+    out: &mut W,
+    errors: &mut E,
+) -> io::Result<Status> {
+    match options {
+        Options::Pools(options) => run_pools(alloc, options, files, out, errors),
+        Options::Operator(options) => run_operator(alloc, *options, files, out, errors),
+        Options::Trace(options) => run_trace(alloc, options, files, out, errors),
+        Options::Compare(options) => run_compare(alloc, options, files, out, errors),
+        Options::Draw(options) => run_draw(alloc, options, files, out, errors),
+        Options::Stats(options) => run_stats(alloc, options, files, out, errors),
+        Options::Test(options) => run_test(alloc, options, files, out, errors),
+    }
 }
 
 fn refuse<W: Write, E: Write>(

@@ -1,7 +1,7 @@
 //! The subcommand `test`.
 
 ghost use Rattle.std.specs.Prelude.{◌≡◌, IfOk};
-ghost use Rattle.vt_log_tool.specs.Statuses.{status_of};
+ghost use Rattle.vt_log_bench.specs.Statuses.{status_of};
 
 use std::alloc::{AllocError, Global};
 use std::io::{self, Error, ErrorKind, Write};
@@ -16,7 +16,7 @@ use vt_server::Terminal;
 const MOST_BYTES: usize = 1 << 40;
 
 /// Tests each log in turn, or writes each anew. A log that cannot be read or replayed is named, and the others are tested all the same.
-pub(crate) fn run_test<F: Open + Save, W: Write, E: Write>(
+pub fn run_test<F: Open + Save, W: Write, E: Write>(
     alloc: Global,
     options: &TestOptions<'_>,
     files: &mut F,

@@ -1,0 +1,2 @@
+-- The definitions used in the contracts of vt_log_bench.
+pub mod Statuses

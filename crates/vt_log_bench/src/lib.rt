@@ -1,0 +1,8 @@
+//! The subcommand `test` of `segyolant_log`: whether each line of a log prints what is expected of it, and logs written anew.
+//!
+//! `run_test` runs it on its options, and returns the `Status` with which the program ends. docs/LOGS.md has the subcommand.
+#![tactic(auto)]
+
+mod test;
+
+pub use test::run_test;
