@@ -89,13 +89,13 @@ impl fmt::Display for FindingSentence<'_, '_> {
 fn note_sentence(note: Note) -> &'static str {
     match note {
         Note::Unread { .. } => {
-            "the bytes from here on cannot be read, so nothing is called missing or unused (R01, R03, R08, W02 not judged; all other codes only for the objects that were read)"
+            "the bytes from here on cannot be read, so nothing is called missing or unused (R01 NoWorkingSet, R03 Missing, R08 MacroMissing, W02 Unused not judged; all other codes only for the objects that were read)"
         }
         Note::UnknownTriggers => {
-            "a macro ends inside a command, so triggers are not known (R11, R12 not judged; R07 to R10 not for the commands of such a macro)"
+            "a macro ends inside a command, so triggers are not known (R11 MacroCircle, R12 OverBudget not judged; R07 MacroCommand, R08 MacroMissing, R09 MacroKind, R10 MacroValue not for the commands of such a macro)"
         }
         Note::UnknownCosts => {
-            "macros trigger each other in a circle, so costs are not known (R12 not judged)"
+            "macros trigger each other in a circle, so costs are not known (R12 OverBudget not judged)"
         }
     }
 }

@@ -21,7 +21,7 @@ w: 0 errors, 5 warnings, 6 objects; 4 not shown\n";
 /// Why no cost is known, in colours.
 const UNKNOWN: &str = "\
 cut macro:18: \x1b[1;31merror[R06 MacroBytes]\x1b[0m Macro 5: the bytes end inside a command\n\
-cut macro:0: \x1b[1;34mnote[N02 UnknownTriggers]\x1b[0m a macro ends inside a command, so triggers are not known (R11, R12 not judged; R07 to R10 not for the commands of such a macro)\n";
+cut macro:0: \x1b[1;34mnote[N02 UnknownTriggers]\x1b[0m a macro ends inside a command, so triggers are not known (R11 MacroCircle, R12 OverBudget not judged; R07 MacroCommand, R08 MacroMissing, R09 MacroKind, R10 MacroValue not for the commands of such a macro)\n";
 
 /// An Input Number with a wrong scale, which is not called too wide.
 const WRONG_SCALE: &str = "\
@@ -31,7 +31,7 @@ mended input: 1 error, 0 warnings, 4 objects\n";
 /// A pool that is cut short, none of whose objects is called unused.
 const CUT_SHORT: &str = "\
 unread:25: error[P01 Truncated] the bytes end inside this record\n\
-unread:25: note[N01 Unread] the bytes from here on cannot be read, so nothing is called missing or unused (R01, R03, R08, W02 not judged; all other codes only for the objects that were read)\n\
+unread:25: note[N01 Unread] the bytes from here on cannot be read, so nothing is called missing or unused (R01 NoWorkingSet, R03 Missing, R08 MacroMissing, W02 Unused not judged; all other codes only for the objects that were read)\n\
 unread: 1 error, 0 warnings, 3 objects\n";
 
 /// A run: its words, then its status, its output, and whether there are messages.
