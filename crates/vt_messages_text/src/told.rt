@@ -107,12 +107,21 @@ fn write_key<W: fmt::Write>(
     mask: ObjectId,
     code: u8,
 ) -> fmt::Result {
-    write!(f, "{}, ", objects.object(key))?;
-    match state {
-        0 => f.write_str("released")?,
-        1 => f.write_str("pressed")?,
-        2 => f.write_str("held")?,
-        _ => write!(f, "code {state}")?,
-    }
+    write!(f, "{}, {}", objects.object(key), KeyState(state))?;
     write!(f, ", on {}, key code {code}", objects.object(mask))
+}
+
+/// What became of a key or a button, by its number.
+#[derive(Clone, Copy, Drop)]
+struct KeyState(u8);
+
+impl fmt::Display for KeyState {
+    fn fmt<W: fmt::Write>(&self, f: &mut fmt::Formatter<W>) -> fmt::Result {
+        match self.0 {
+            0 => f.write_str("released"),
+            1 => f.write_str("pressed"),
+            2 => f.write_str("held"),
+            state => write!(f, "code {state}"),
+        }
+    }
 }
