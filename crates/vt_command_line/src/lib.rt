@@ -1,10 +1,10 @@
-//! Command lines as tables, for `clap`: a program, its subcommands, and their words.
+//! Command lines as tables, for `clap`: a program's subcommands and their arguments.
 //!
-//! `Program::command` builds the command that the table says.
+//! `CommandLine::command` makes the command of a table.
 #![tactic(auto)]
 
-mod program;
-mod word;
+mod argument;
+mod command_line;
 
-pub use program::{Program, Subcommand};
-pub use word::{Form, Values, Word};
+pub use argument::{Allowed, Argument, Form};
+pub use command_line::{CommandLine, Subcommand};

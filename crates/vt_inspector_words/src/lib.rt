@@ -4,10 +4,10 @@
 //! has the subcommands.
 #![tactic(auto)]
 
+mod arguments;
 mod draw;
 mod options;
 mod subcommands;
-mod words;
 
 pub use draw::{DrawOptions, Drawing, Origin, StartSet};
 pub use options::{

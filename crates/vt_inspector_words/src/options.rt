@@ -225,7 +225,7 @@ impl<'a> Options<'a> {
         Ok(options)
     }
 
-    /// The options of a subcommand of this name.
+    /// The options of the subcommand with this name, from its matches.
     fn of_subcommand(
         alloc: Global,
         name: &str,
@@ -236,7 +236,9 @@ impl<'a> Options<'a> {
             "needs" => Options::Needs(needs_options(alloc, matches)?),
             "diff" => Options::Diff(diff_options(alloc, matches)?),
             "draw" => Options::Draw(draw_options(alloc, matches)?),
-            _ => Options::Check(check_options(alloc, matches)?),
+            "check" => Options::Check(check_options(alloc, matches)?),
+            // clap takes no other name; its contract does not say so.
+            _ => return Err(UsageError::NoSubcommand),
         })
     }
 

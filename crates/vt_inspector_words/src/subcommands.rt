@@ -1,10 +1,10 @@
 //! The command line of the program, for `clap`.
 
-use crate::words::{
+use crate::arguments::{
     DENY, DRAWN_POOL, EVENT, FORMAT, KEY_SIZE, KEYS, MASK, MOST, NAMES, NEW, OLD, OUT, OWNER, POOL,
     POOLS, SIZE, STATE,
 };
-use vt_command_line::{Program, Subcommand};
+use vt_command_line::{CommandLine, Subcommand};
 
 /// The text of help after the subcommands.
 const AFTER_HELP: &str = "\
@@ -51,7 +51,7 @@ the lines of check. A log is replayed by the terminal of vt_replay. Status: 0 dr
   segyolant draw my.iop --size 240x240 --key-size 60x60 > small.svg";
 
 /// The command line.
-pub(crate) const SEGYOLANT: Program<'static> = Program {
+pub(crate) const SEGYOLANT: CommandLine<'static> = CommandLine {
     name: "segyolant",
     version: "0.1.0",
     about: "Checks object pools for makers of ISOBUS implements: every fault at once, with its place and its cause",
@@ -63,33 +63,33 @@ const CHECK: Subcommand<'static> = Subcommand {
     name: "check",
     about: "Prints every fault of object pools, and warnings",
     after_help: Some(AFTER_CHECK),
-    words: &[POOLS, NAMES, FORMAT, MOST, DENY],
+    arguments: &[POOLS, NAMES, FORMAT, MOST, DENY],
 };
 
 const WHY: Subcommand<'static> = Subcommand {
     name: "why",
     about: "Prints the steps that an event of an object pool can take, by macros and commands",
     after_help: Some(AFTER_WHY),
-    words: &[POOL, EVENT, NAMES],
+    arguments: &[POOL, EVENT, NAMES],
 };
 
 const NEEDS: Subcommand<'static> = Subcommand {
     name: "needs",
     about: "Prints what an object pool needs of a terminal, and whether a terminal has it",
     after_help: None,
-    words: &[POOL, NAMES, SIZE, KEYS],
+    arguments: &[POOL, NAMES, SIZE, KEYS],
 };
 
 const DIFF: Subcommand<'static> = Subcommand {
     name: "diff",
     about: "Compares two object pools by the IDs of their objects",
     after_help: None,
-    words: &[OLD, NEW, NAMES],
+    arguments: &[OLD, NEW, NAMES],
 };
 
 const DRAW: Subcommand<'static> = Subcommand {
     name: "draw",
     about: "Draws masks of an object pool with their soft keys, as SVG",
     after_help: Some(AFTER_DRAW),
-    words: &[DRAWN_POOL, NAMES, STATE, OWNER, MASK, SIZE, KEY_SIZE, OUT],
+    arguments: &[DRAWN_POOL, NAMES, STATE, OWNER, MASK, SIZE, KEY_SIZE, OUT],
 };

@@ -3,11 +3,11 @@
 //! `Options::parse` reads the words, and returns the `Options` of a subcommand or a `UsageError`. docs/LOGS.md has the subcommands.
 #![tactic(auto)]
 
+mod arguments;
 mod options;
 mod refusal;
 mod replays;
 mod subcommands;
-mod words;
 
 pub use options::{
     CompareOptions, DrawOptions, Format, OperatorOptions, Options, PoolsOptions, ReplayOptions,

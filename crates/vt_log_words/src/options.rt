@@ -158,7 +158,7 @@ impl<'a> Options<'a> {
         Ok(options)
     }
 
-    /// The options of a subcommand of this name.
+    /// The options of the subcommand with this name, from its matches.
     fn of_subcommand(
         alloc: Global,
         name: &str,
@@ -171,7 +171,9 @@ impl<'a> Options<'a> {
             "draw" => Options::Draw(draw_options(alloc, matches)?),
             "stats" => Options::Stats(stats_options(alloc, matches)?),
             "test" => Options::Test(test_options(alloc, matches)?),
-            _ => Options::Pools(pools_options(alloc, matches)?),
+            "pools" => Options::Pools(pools_options(alloc, matches)?),
+            // clap takes no other name; its contract does not say so.
+            _ => return Err(UsageError::NoSubcommand),
         })
     }
 

@@ -1,6 +1,6 @@
-//! The subcommands that replay a log to a terminal.
+//! The subcommands that take the arguments of a replay: `trace`, `compare`, `draw` and `stats`.
 
-use crate::words::{
+use crate::arguments::{
     FORMAT, INTERFACE, LOG, NAMES, OWN, OWNER, PICTURES_FOLDER, POOL, RECORDED_NAME, WAIT,
 };
 use vt_command_line::Subcommand;
@@ -38,14 +38,14 @@ pub(crate) const TRACE: Subcommand<'static> = Subcommand {
     name: "trace",
     about: "Prints each line of a log in words, with the answers of a terminal and the changes of its screen",
     after_help: Some(AFTER_TRACE),
-    words: &[NAMES, LOG, INTERFACE, OWN, RECORDED_NAME, POOL, OWNER],
+    arguments: &[NAMES, LOG, INTERFACE, OWN, RECORDED_NAME, POOL, OWNER],
 };
 
 pub(crate) const COMPARE: Subcommand<'static> = Subcommand {
     name: "compare",
     about: "Prints where the terminal in a log answered otherwise than this one",
     after_help: Some(AFTER_COMPARE),
-    words: &[
+    arguments: &[
         NAMES,
         WAIT,
         FORMAT,
@@ -62,7 +62,7 @@ pub(crate) const DRAW: Subcommand<'static> = Subcommand {
     name: "draw",
     about: "Draws the screen after each line of a log at which its text changed",
     after_help: Some(AFTER_DRAW),
-    words: &[
+    arguments: &[
         PICTURES_FOLDER,
         LOG,
         INTERFACE,
@@ -77,7 +77,7 @@ pub(crate) const STATS: Subcommand<'static> = Subcommand {
     name: "stats",
     about: "Prints what a log holds in numbers, and what it reached of each pool",
     after_help: Some(AFTER_STATS),
-    words: &[
+    arguments: &[
         NAMES,
         FORMAT,
         LOG,

@@ -1,10 +1,10 @@
 //! The whole command line.
 
-use crate::replays::{COMPARE, DRAW, STATS, TRACE};
-use crate::words::{
+use crate::arguments::{
     BLESS, FORMAT, INTERFACE, LOG, LOGS, NAME, NAMES, OWN, OWNER, POOL, POOLS_FOLDER,
 };
-use vt_command_line::{Program, Subcommand};
+use crate::replays::{COMPARE, DRAW, STATS, TRACE};
+use vt_command_line::{CommandLine, Subcommand};
 
 /// The text of help after the subcommands.
 const AFTER_HELP: &str = "\
@@ -54,7 +54,7 @@ writes them.
 Status: 0 each line prints what is expected of it, 1 some line prints something else, 2 not judged.";
 
 /// The command line of `segyolant_log`.
-pub(crate) const SEGYOLANT_LOG: Program<'static> = Program {
+pub(crate) const SEGYOLANT_LOG: CommandLine<'static> = CommandLine {
     name: "segyolant_log",
     version: "0.1.0",
     about: "Tells what recorded logs of an ISOBUS hold: uploaded pools, what was said and shown, and what differs",
@@ -66,19 +66,19 @@ const POOLS: Subcommand<'static> = Subcommand {
     name: "pools",
     about: "Prints every upload and update of an object pool, and what a terminal says of it",
     after_help: Some(AFTER_POOLS),
-    words: &[LOG, POOLS_FOLDER, NAMES, INTERFACE, FORMAT],
+    arguments: &[LOG, POOLS_FOLDER, NAMES, INTERFACE, FORMAT],
 };
 
 const OPERATOR: Subcommand<'static> = Subcommand {
     name: "operator",
     about: "Prints a log with the operator's lines, as the recorded terminal told of them",
     after_help: Some(AFTER_OPERATOR),
-    words: &[LOG, INTERFACE, OWN],
+    arguments: &[LOG, INTERFACE, OWN],
 };
 
 const TEST: Subcommand<'static> = Subcommand {
     name: "test",
     about: "Replays logs, and compares what each line prints with the expectations in the log",
     after_help: Some(AFTER_TEST),
-    words: &[LOGS, BLESS, OWN, NAME, POOL, OWNER],
+    arguments: &[LOGS, BLESS, OWN, NAME, POOL, OWNER],
 };

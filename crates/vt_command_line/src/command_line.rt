@@ -1,12 +1,12 @@
-//! Programs and their subcommands.
+//! Command lines and their subcommands.
 
-use crate::word::Word;
+use crate::argument::Argument;
 use clap::Command;
 use std::alloc::{AllocError, Global};
 
-/// A program with subcommands, of which one has to be given.
-pub struct Program<'a> {
-    /// Its name.
+/// The command line of a program with subcommands, of which one has to be given.
+pub struct CommandLine<'a> {
+    /// The name of the program.
     pub name: &'a str,
     /// Its version.
     pub version: &'a str,
@@ -24,14 +24,15 @@ pub struct Subcommand<'a> {
     pub name: &'a str,
     /// What it does, in a line of the help.
     pub about: &'a str,
-    /// The text of its help after the words.
+    /// The text of its help after the arguments.
     pub after_help: Option<&'a str>,
-    /// Its words: those without a name in the order in which they are given, all others in the order of its help.
-    pub words: &'a [Word<'a>],
+    /// Its arguments: positional ones in the order in which they are given, settings and flags in the order of the help.
+    pub arguments: &'a [Argument<'a>],
 }
 
-impl<'a> Program<'a> {
-    /// The command of the program, which shows its help if it is run with no word.
+impl<'a> CommandLine<'a> {
+    /// The command of the program for `clap`. Run with no word it shows its help, and without a subcommand it is refused. An error is
+    /// returned if memory is refused.
     pub fn command(&self, alloc: Global) -> Result<Command<'a>, AllocError> {
         let mut command = Command::new(alloc, self.name)
             .version(self.version)
@@ -53,8 +54,8 @@ impl<'a> Subcommand<'a> {
         if let Some(after_help) = self.after_help {
             command = command.after_help(after_help);
         }
-        for word in self.words {
-            command = command.arg(word.arg(alloc))?;
+        for argument in self.arguments {
+            command = command.arg(argument.arg(alloc))?;
         }
         Ok(command)
     }
