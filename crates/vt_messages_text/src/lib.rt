@@ -5,10 +5,7 @@
 //! `Display`. docs/PROFILE.md, "Commands" and "Other messages", has the messages.
 #![tactic(auto)]
 
-mod attributes;
-mod commands;
 mod error_bits;
-mod objects;
 mod replies;
 mod requests;
 mod sentence;

@@ -12,9 +12,11 @@ const NO_STEP: i16 = 127;
 
 /// A command with its fields, as ``Hide/Show Object: Container 100 `boom`, hide``. The object that the command changes stands first.
 #[derive(Clone, Copy, Drop)]
-pub(crate) struct CommandSentence<'a, 'b> {
-    pub(crate) command: &'b Command<'a>,
-    pub(crate) objects: Objects<'b>,
+pub struct CommandSentence<'a, 'b> {
+    /// The command.
+    pub command: &'b Command<'a>,
+    /// The objects of the working set that sends it.
+    pub objects: Objects<'b>,
 }
 
 impl fmt::Display for CommandSentence<'_, '_> {
