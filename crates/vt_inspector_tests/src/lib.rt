@@ -1,4 +1,5 @@
-//! Tests of the checker: runs of vt_inspector, and the circles of graphs.
+//! Tests of the checker: runs of vt_inspector that draw, that are in colours, or that are refused memory, and the circles of graphs. vt_pool_examples has
+//! the other runs.
 #![tactic(auto)]
 
 #[cfg(test)]

@@ -16,53 +16,11 @@ const WARNED: &[u8] = &[
     201, 0, 21, 7, 0, 0, 0, // the Number Variable 201, at 79
 ];
 
-/// The pool `POOL`, but its mask has another colour and its container is a Key.
-const RECOLOURED: &[u8] = &[
-    0, 0, 0, 0, 1, 0xE8, 3, 0, 0, 0, // the Working Set 0
-    0xE8, 3, 1, 9, 0xFF, 0xFF, 1, 0, 100, 0, 11, 0, 5, 0, // the Data Mask 1000
-    100, 0, 5, 0, 7, 0, 0, // the Key 100
-];
-
 /// A working set with a mask, and a macro whose command is cut short.
 const CUT_MACRO: &[u8] = &[
     0, 0, 0, 0, 1, 0xE8, 3, 0, 0, 0, // the Working Set 0
     0xE8, 3, 1, 0, 0xFF, 0xFF, 0, 0, // the Data Mask 1000, at 10
     5, 0, 28, 1, 0, 0xA0, // the Macro 5, at 18
-];
-
-/// A number in a field of 40 pixels whose decimals are wrong: as `5.0000000` it would be wider than its field.
-const MENDED: &[u8] = &[
-    0, 0, 0, 0, 1, 0xE8, 3, 0, 0, 0, // the Working Set 0
-    0xE8, 3, 1, 0, 0xFF, 0xFF, 1, 0, 45, 1, 0, 0, 0, 0, // the Data Mask 1000, at 10
-    45, 1, 12, 40, 0, 12, 0, 0, 200, 0, 0, 0xFF, 0xFF, 5, 0, 0, 0, 0, 0, 0, 0, 0, 0, 0x80, 0x3F, 8,
-    0, 0, 0, // the Output Number 301, at 24
-    200, 0, 23, 0, 2, 0, 0, 0, // the Font Attributes 200, of 8x12, at 53
-];
-
-/// An Input Number in a field of 40 pixels whose scale is wrong: with the scale 1 and 7 decimals it would be wider than its field.
-const MENDED_INPUT: &[u8] = &[
-    0, 0, 0, 0, 1, 0xE8, 3, 0, 0, 0, // the Working Set 0
-    0xE8, 3, 1, 0, 0xFF, 0xFF, 1, 0, 45, 1, 0, 0, 0, 0, // the Data Mask 1000, at 10
-    45, 1, 9, 40, 0, 12, 0, 0, 200, 0, 0, 0xFF, 0xFF, 5, 0, 0, 0, 0, 0, 0, 0, 9, 0, 0, 0, 0, 0, 0,
-    0, 0, 0, 0, 0, 7, 0, 0, 1, 0, // the Input Number 301, at 24
-    200, 0, 23, 0, 2, 0, 0, 0, // the Font Attributes 200, of 8x12, at 62
-];
-
-/// A Number Variable that no object names, before a record that is cut short.
-const UNREAD: &[u8] = &[
-    0, 0, 0, 0, 1, 0xE8, 3, 0, 0, 0, // the Working Set 0
-    0xE8, 3, 1, 0, 0xFF, 0xFF, 0, 0, // the Data Mask 1000, at 10
-    201, 0, 21, 7, 0, 0, 0, // the Number Variable 201, at 18
-    100, 0, 3, // the beginning of a Container, at 25
-];
-
-/// A key with a Rectangle that is wider than a key of 64x64.
-const WIDE_KEY: &[u8] = &[
-    0, 0, 0, 0, 1, 0xE8, 3, 0, 0, 0, // the Working Set 0
-    0xE8, 3, 1, 0, 0xB8, 0x0B, 0, 0, // the Data Mask 1000, at 10
-    0xB8, 0x0B, 4, 0, 1, 0, 10, 0, // the Soft Key Mask 3000, at 18
-    10, 0, 5, 0, 1, 1, 0, 20, 0, 0, 0, 0, 0, // the Key 10, at 26
-    20, 0, 14, 0xFF, 0xFF, 65, 0, 9, 0, 0, 0xFF, 0xFF, 0, // the Rectangle 20, at 39
 ];
 
 /// A pool with two masks, of which the alarm mask has a child that is missing.
@@ -165,11 +123,6 @@ impl Open for Shelf {
         match path {
             "pool" | "-" => Ok(POOL),
             "w" | "a:b,50%" => Ok(WARNED),
-            "mended" => Ok(MENDED),
-            "mended input" => Ok(MENDED_INPUT),
-            "unread" => Ok(UNREAD),
-            "wide key" => Ok(WIDE_KEY),
-            "recoloured" => Ok(RECOLOURED),
             "names" => Ok(NAMES),
             "masks" | "pools/<\"&>.iop" => Ok(MASKS),
             "astray" => Ok(ASTRAY),

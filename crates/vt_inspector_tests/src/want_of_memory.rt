@@ -1,7 +1,6 @@
 //! Runs that are refused memory: the bytes written by then begin the output, and a new run writes it all.
 
 use crate::pictures::picture_of;
-use crate::runs::WARNINGS;
 use crate::shelf::{COLOURED, Shelf};
 use std::alloc::{AllocError, Global};
 use std::io::ErrorKind;
@@ -54,6 +53,14 @@ fn expect_run(rt: &(impl Abort + AllocGlobal), wanted: &Run<'_>) -> Result<(), F
     assert_eq!(rt; out.as_slice(), text.as_bytes(), "{words:?}");
     Ok(())
 }
+
+const WARNINGS: &str = "\
+w:30: warning[W01 Replaced] Container 100 `box`: the record at 69 replaces this one\n\
+w:79: warning[W02 Unused] Number Variable 201 `rate`: no object names it\n\
+w:40: warning[W03 TextTooWide] Output String 300 `label`: 3 characters of 8 pixels in a field of 16\n\
+w:40: warning[W04 TextTooHigh] Output String 300 `label`: characters of 12 pixels in a field of 8\n\
+w:10: warning[W05 Outside] Data Mask 1000: child 1, Output String 300 `label`, of 16x8 at 465,0 reaches out of its area of 480x480\n\
+w: 0 errors, 5 warnings, 6 objects\n";
 
 const DIFFERENCES: &str = "\
 changed Data Mask 1000: children\n\
