@@ -16,6 +16,7 @@ use vt_server::Terminal;
 const MOST_BYTES: usize = 1 << 40;
 
 /// Tests each log in turn, or writes each anew. A log that cannot be read or replayed is named, and the others are tested all the same.
+/// The status is the worst of the logs. An error is returned if `out` cannot be written or memory is refused.
 pub fn run_test<F: Open + Save, W: Write, E: Write>(
     alloc: Global,
     options: &TestOptions<'_>,

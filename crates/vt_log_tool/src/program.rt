@@ -31,7 +31,7 @@ pub fn run<S: AsStr, F: Open + Save, W: Write, E: Messages>(
     Ok(status)
 }
 
-/// Runs a subcommand.
+/// Runs the subcommand of the options, and returns its status. An error is returned if `out` cannot be written or memory is refused.
 fn run_subcommand<F: Open + Save, W: Write, E: Messages>(
     alloc: Global,
     options: &Options<'_>,
