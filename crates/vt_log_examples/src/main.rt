@@ -7,12 +7,13 @@ mod shelf;
 use shelf::Shelf;
 use std::alloc::Global;
 use std::io::{self, BufWriter, Write};
-use vt_files::{Open, Save};
+use vt_files::{Files, Open, Save};
 use vt_log_tool::run;
 
 fn main(rt: HostRuntime) -> io::Result<()> {
+    let mut files = Files::new(&rt, "segyolant_log");
+    let runs = io::read_to_string(rt.alloc(), files.open("runs")?)?;
     let mut shelf = Shelf::new(&rt);
-    let runs = io::read_to_string(rt.alloc(), shelf.open("runs")?)?;
     let mut out = BufWriter::new(rt.alloc(), io::writer(&rt))?;
     for line in runs.lines() {
         if !line.is_empty() && !line.starts_with('#') {
