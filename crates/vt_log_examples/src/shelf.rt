@@ -7,7 +7,7 @@ use std::mem;
 use vt_files::{Files, Open, Opened, Program, Save};
 
 /// The files of the system, and before them those that the runs have saved. A saved file is kept in memory, so nothing is written to
-/// the disk. The folder `full` takes no file.
+/// the disk.
 #[derive(Drop)]
 pub(crate) struct Shelf<'a> {
     alloc: Global,
@@ -75,9 +75,6 @@ impl Open for Shelf<'_> {
 
 impl Save for Shelf<'_> {
     fn save(&mut self, path: &str, bytes: &[u8]) -> io::Result<()> {
-        if path.starts_with("full/") {
-            return Err(Error::from(ErrorKind::StorageFull));
-        }
         let key = String::from_str(self.alloc, path)?;
         self.saved.insert(key, Vec::from_slice(self.alloc, bytes)?)?;
         writeln!(self.notes, "saved {path}, {} bytes", bytes.len())

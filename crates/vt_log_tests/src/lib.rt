@@ -1,8 +1,14 @@
-//! Tests of what a log tells before its replay, and of runs of `segyolant_log` that are refused memory. vt_log_examples has the others.
+//! Tests of the runs of `segyolant_log`, and of what a log tells before its replay.
 #![tactic(auto)]
 
 #[cfg(test)]
 mod recorded;
+#[cfg(test)]
+mod recordings;
+#[cfg(test)]
+mod replays;
+#[cfg(test)]
+mod runs;
 #[cfg(test)]
 mod shelf;
 #[cfg(test)]

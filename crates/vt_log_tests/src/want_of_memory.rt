@@ -10,7 +10,7 @@ use vt_log_tool::{Status, run};
 /// A run, or `None` if it was refused memory.
 fn run_on(alloc: Global, words: &[&str], out: &mut Vec<u8>) -> Result<Option<Status>, Fail> {
     let mut errors = Vec::new(alloc);
-    let mut files = Shelf;
+    let mut files = Shelf::new(alloc);
     match run(alloc, words, &mut files, out, &mut errors) {
         Ok(Status::NotJudged) => Ok(None),
         Ok(status) => Ok(Some(status)),
@@ -24,8 +24,8 @@ const RUNS: [&[&str]; 5] = [
     &["s", "pools", "transfers.log"],
     &["s", "operator", "told.log"],
     &["s", "test", "met.log"],
-    &["s", "trace", "pressed.log", "--pool", "keyed.iop"],
-    &["s", "compare", "unanswered.log", "--pool", "pool.iop"],
+    &["s", "trace", "pressed.log", "--pool", "keyed"],
+    &["s", "compare", "missing.log", "--pool", "pool"],
 ];
 
 fn expect_same(rt: &(impl Abort + AllocGlobal), words: &[&str]) -> Result<(), Fail> {
