@@ -3,7 +3,7 @@
 use crate::said::Said;
 
 /// What a recorded terminal sends otherwise than this one.
-#[derive(Debug, Drop)]
+#[derive(Drop)]
 pub enum Difference {
     /// An answer with other bytes than its question.
     Differ {

@@ -12,7 +12,7 @@ use vt_can::Frame;
 use vt_can::assigned::{VT_STATUS, VT_TO_ECU};
 
 /// Where a frame stands in a log.
-#[derive(Clone, Copy, Debug, PartialEq, Eq)]
+#[derive(Clone, Copy, PartialEq, Eq)]
 pub(crate) struct Place {
     /// The address of the recorded terminal.
     pub(crate) own: u8,

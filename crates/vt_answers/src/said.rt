@@ -9,7 +9,7 @@ use std::alloc::AllocError;
 use vt_can::Frame;
 
 /// A message of a terminal, and where in the log it is said.
-#[derive(Clone, Debug, Drop)]
+#[derive(Clone, Drop)]
 pub struct Said {
     /// The number of the line.
     pub line: u64,

@@ -1,7 +1,7 @@
 //! The numbers of answers, by sort.
 
 /// How many messages were compared, and how many were not.
-#[derive(Clone, Copy, Debug, Default, PartialEq, Eq)]
+#[derive(Clone, Copy, Default, PartialEq, Eq)]
 pub struct Tally {
     /// Answers that equal their questions.
     pub same: u64,

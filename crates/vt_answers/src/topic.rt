@@ -9,7 +9,7 @@ use vt_can::assigned::VT_TO_ECU;
 use vt_commands::function;
 
 /// What a message of a terminal is about.
-#[derive(Clone, Copy, Debug, PartialEq, Eq)]
+#[derive(Clone, Copy, PartialEq, Eq)]
 pub struct Topic {
     /// The address to which the message goes, 255 for all.
     pub destination: u8,

@@ -48,7 +48,7 @@ pub fn bless(alloc: Global, log: &[u8], terminal: &mut Terminal) -> Result<Bless
 }
 
 /// A log with the expectations that it meets.
-#[derive(Debug, Drop)]
+#[derive(Drop)]
 pub struct Blessed {
     /// The log.
     pub text: Vec<u8>,

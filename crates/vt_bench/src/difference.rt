@@ -1,7 +1,7 @@
 //! Lines that print something else than is expected.
 
 /// A line that prints something else than is expected.
-#[derive(Debug, Drop)]
+#[derive(Drop)]
 pub struct Difference {
     /// The number of the line, from 1; 0 for the first screen.
     pub line: u64,

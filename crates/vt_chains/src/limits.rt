@@ -1,7 +1,7 @@
 //! The limits of a pool.
 
 /// The greatest length of a chain of inclusions, and the greatest cost of a macro or an event.
-#[derive(Clone, Copy, Debug, PartialEq, Eq)]
+#[derive(Clone, Copy, PartialEq, Eq)]
 pub struct Limits {
     /// The most inclusions in a chain.
     pub inclusions: u8,

@@ -4,7 +4,7 @@ ghost use Rattle.std.specs.Prelude.{◌≡◌};
 ghost use Rattle.vt_commands.specs.Events.{event_number, event_at, is_listable};
 
 /// An event of an object (ISO 11783-6; docs/PROFILE.md, "Event numbers").
-#[derive(Clone, Copy, Debug, Default, PartialEq, Eq)]
+#[derive(Clone, Copy, Default, PartialEq, Eq)]
 pub enum Event {
     /// A macro runs by its ID. This event belongs to macros alone, and no macro entry may list it.
     #[default]

@@ -9,7 +9,7 @@ use arrayvec::ArrayVec;
 use vt_kinds::ObjectId;
 
 /// An event raised on an object.
-#[derive(Clone, Copy, Debug, Default, PartialEq, Eq)]
+#[derive(Clone, Copy, Default, PartialEq, Eq)]
 pub struct Raised {
     /// The object.
     pub id: ObjectId,

@@ -9,7 +9,7 @@ use crate::command::Command;
 use vt_kinds::{Kind, Kinds, ObjectId, ValueType};
 
 /// An object ID in a command, and the objects allowed there for a command in a macro.
-#[derive(Clone, Copy, Debug, PartialEq, Eq)]
+#[derive(Clone, Copy, PartialEq, Eq)]
 pub struct Target {
     /// The ID, or NULL.
     pub id: ObjectId,

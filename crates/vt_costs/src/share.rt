@@ -6,7 +6,7 @@ use vt_objects::ObjectId;
 pub const MOST_STEPS: u64 = 1_000_000_000_000;
 
 /// An event of an object, and the most steps that it can take.
-#[derive(Clone, Copy, Debug, PartialEq, Eq)]
+#[derive(Clone, Copy, PartialEq, Eq)]
 pub struct EventCost {
     /// The object.
     pub id: ObjectId,
@@ -17,7 +17,7 @@ pub struct EventCost {
 }
 
 /// A command of a macro, or an event that a command of it may raise.
-#[derive(Clone, Copy, Debug, PartialEq, Eq)]
+#[derive(Clone, Copy, PartialEq, Eq)]
 pub enum Share {
     /// A command, by its offset in the macro's bytes and its function, with the most steps that it can take: one for itself, and
     /// those of the events up to the next command.
@@ -30,7 +30,7 @@ pub enum Share {
 }
 
 /// A macro, and the most steps that it can take.
-#[derive(Debug, Drop)]
+#[derive(Drop)]
 pub struct MacroCost {
     /// The ID of the macro.
     pub id: u8,

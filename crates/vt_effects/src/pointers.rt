@@ -18,7 +18,7 @@ use vt_kinds::{Kind, Object, ObjectId, Slot, slots};
 use vt_stores::Store;
 
 /// A value of a pointer, and the kind of the value's object.
-#[derive(Clone, Copy, Debug, PartialEq, Eq)]
+#[derive(Clone, Copy, PartialEq, Eq)]
 pub(crate) struct Pointed {
     /// The pointer.
     pub(crate) pointer: ObjectId,

@@ -15,7 +15,7 @@ use vt_kinds::{InputList, Object, ObjectId};
 use vt_stores::Store;
 
 /// The replacement of a pointer's value or of a list's item by a command.
-#[derive(Clone, Copy, Debug, PartialEq, Eq)]
+#[derive(Clone, Copy, PartialEq, Eq)]
 pub(crate) struct Replacement {
     /// The pointer or the list.
     pub(crate) holder: ObjectId,

@@ -15,14 +15,14 @@ const GREATEST_SIZE: u32 = 1_048_576;
 const MOST_PACKETS: u32 = 255;
 
 /// The fields of a request to send (RTS).
-#[derive(Clone, Copy, Debug)]
+#[derive(Clone, Copy)]
 pub(crate) struct Opening {
     pub(crate) size: u32,
     pub(crate) pgn: u32,
 }
 
 /// A frame within a session.
-#[derive(Clone, Copy, Debug)]
+#[derive(Clone, Copy)]
 pub(crate) enum Part {
     // A data packet offset (DPO), which announces `count` packets after the first `offset` packets.
     Offset { count: u8, offset: u32 },
@@ -30,7 +30,7 @@ pub(crate) enum Part {
 }
 
 /// A frame of the extended transport protocol, decoded for a receiver.
-#[derive(Clone, Copy, Debug)]
+#[derive(Clone, Copy)]
 pub(crate) enum EtpFrame {
     Rts(Opening),
     Part(Part),
@@ -39,7 +39,7 @@ pub(crate) enum EtpFrame {
 }
 
 /// A reply of this node in a session.
-#[derive(Clone, Copy, Debug)]
+#[derive(Clone, Copy)]
 pub(crate) enum Reply {
     ClearToSend { count: u8, next: u32, pgn: u32 },
     End { size: u32, pgn: u32 },

@@ -10,7 +10,7 @@ use vt_pool::PoolFault;
 
 /// The printed code of a finding, a warning or a note, with its name, as `Missing`. Its letter is P for faults of records, R for
 /// rules of a pool, W for warnings and N for notes, and its number is that of docs/POOLS.md.
-#[derive(Clone, Copy, Debug, PartialEq, Eq)]
+#[derive(Clone, Copy, PartialEq, Eq)]
 pub struct Code {
     /// The letter and the number.
     pub code: &'static str,

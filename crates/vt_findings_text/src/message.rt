@@ -8,7 +8,7 @@ use crate::item::Item;
 use std::fmt;
 
 /// The severity of a message.
-#[derive(Clone, Copy, Debug, PartialEq, Eq)]
+#[derive(Clone, Copy, PartialEq, Eq)]
 pub enum Severity {
     /// A terminal refuses the pool.
     Error,

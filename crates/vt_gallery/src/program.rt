@@ -15,7 +15,7 @@ use vt_objects::ObjectId;
 use vt_picture::draw;
 
 /// What comes of a run.
-#[derive(Clone, Copy, Debug, PartialEq, Eq)]
+#[derive(Clone, Copy, PartialEq, Eq)]
 pub enum Outcome {
     /// All is drawn, and the pool has no errors.
     Clean,

@@ -5,7 +5,7 @@ use vt_findings_text::Source;
 use vt_objects::{ObjectId, Store};
 
 /// Why no mask is drawn.
-#[derive(Clone, Copy, Debug, PartialEq, Eq)]
+#[derive(Clone, Copy, PartialEq, Eq)]
 pub(crate) enum Refusal {
     /// The pool has no masks.
     NoMasks,

@@ -13,7 +13,7 @@ use vt_raster::{Format, Run};
 use vt_svg::{Attribute, Element, Paint, Point, along};
 
 /// The pixels of one colour in bytes of one value.
-#[derive(Clone, Copy, Debug, PartialEq, Eq)]
+#[derive(Clone, Copy, PartialEq, Eq)]
 pub(crate) struct Stroke {
     /// The colour number.
     pub(crate) colour: u8,

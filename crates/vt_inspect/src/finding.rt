@@ -9,7 +9,7 @@ use vt_pool::PoolFault;
 use vt_verify::{Chain, Reference};
 
 /// The position of a reference in its object.
-#[derive(Clone, Copy, Debug, PartialEq, Eq)]
+#[derive(Clone, Copy, PartialEq, Eq)]
 pub enum Spot {
     /// A field or a list entry.
     Slot(Place),
@@ -22,7 +22,7 @@ pub enum Spot {
 }
 
 /// A reference and its position in its object.
-#[derive(Clone, Copy, Debug, PartialEq, Eq)]
+#[derive(Clone, Copy, PartialEq, Eq)]
 pub struct ReferenceAt {
     /// The object, the referenced ID and the allowed kinds.
     pub reference: Reference,
@@ -31,7 +31,7 @@ pub struct ReferenceAt {
 }
 
 /// A fault of a pool: a fault of a record, or a rule of a pool with one of its culprits.
-#[derive(Debug, Drop)]
+#[derive(Drop)]
 pub enum Finding {
     /// A record has a fault; `at` in the fault is an index of the pool's bytes.
     Record(PoolFault),
@@ -82,7 +82,7 @@ pub enum Finding {
 }
 
 /// The place of a finding.
-#[derive(Clone, Copy, Debug, PartialEq, Eq)]
+#[derive(Clone, Copy, PartialEq, Eq)]
 pub enum FindingPlace {
     /// A byte of the pool.
     Byte(usize),

@@ -13,7 +13,7 @@ use vt_pool::PoolFault;
 use vt_reading::{ObjectRecord, PoolReading, ReplacedRecord, read_past_faults};
 
 /// What was not judged, and why.
-#[derive(Clone, Copy, Debug, PartialEq, Eq)]
+#[derive(Clone, Copy, PartialEq, Eq)]
 pub enum Note {
     /// The bytes from `at` on could not be read, so nothing is called missing: rules 1, 3 and 8 were not judged. The other
     /// rules were judged only for the objects that were read.

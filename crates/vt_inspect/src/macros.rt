@@ -58,7 +58,7 @@ fn put_if_cut(
 }
 
 /// A rule of one macro command.
-#[derive(Clone, Copy, Debug, PartialEq, Eq)]
+#[derive(Clone, Copy, PartialEq, Eq)]
 pub(crate) enum CommandRule {
     /// Macros may have the command.
     IsAllowed,

@@ -109,7 +109,7 @@ fn put_triggers_if(
 }
 
 /// A rule of references.
-#[derive(Clone, Copy, Debug, PartialEq, Eq)]
+#[derive(Clone, Copy, PartialEq, Eq)]
 pub(crate) enum ReferenceRule {
     Missing,
     WrongKind,

@@ -12,7 +12,7 @@ use vt_items::{items_of, summary_of};
 use vt_needs::{TERMINAL_SIZES, warnings};
 
 /// The form of the lines.
-#[derive(Clone, Copy, Debug, PartialEq, Eq)]
+#[derive(Clone, Copy, PartialEq, Eq)]
 enum Lines {
     Text(Look),
     Json,

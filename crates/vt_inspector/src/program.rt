@@ -17,7 +17,7 @@ use vt_inspect::{Inspection, Note};
 use vt_inspector_words::{Options, UsageError};
 
 /// The status with which a run ends.
-#[derive(Clone, Copy, Debug, PartialEq, Eq)]
+#[derive(Clone, Copy, PartialEq, Eq)]
 pub enum Status {
     /// Nothing was found.
     Clean,
@@ -50,7 +50,7 @@ impl Status {
 }
 
 /// How the output looks.
-#[derive(Clone, Copy, Debug, PartialEq, Eq)]
+#[derive(Clone, Copy, PartialEq, Eq)]
 pub enum Look {
     /// Text alone, for files and other programs.
     Plain,

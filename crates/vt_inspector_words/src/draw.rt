@@ -21,7 +21,7 @@ pub struct DrawOptions<'a> {
 }
 
 /// Where the objects come from.
-#[derive(Clone, Copy, Debug, PartialEq, Eq)]
+#[derive(Clone, Copy, PartialEq, Eq)]
 pub enum Origin<'a> {
     /// The file of a pool.
     Pool(&'a str),
@@ -35,7 +35,7 @@ pub enum Origin<'a> {
 }
 
 /// A working set that is there from the start of a log.
-#[derive(Clone, Copy, Debug, PartialEq, Eq)]
+#[derive(Clone, Copy, PartialEq, Eq)]
 pub struct StartSet<'a> {
     /// The file of its pool.
     pub pool: &'a str,
@@ -44,7 +44,7 @@ pub struct StartSet<'a> {
 }
 
 /// What is drawn, and where.
-#[derive(Clone, Copy, Debug, PartialEq, Eq)]
+#[derive(Clone, Copy, PartialEq, Eq)]
 pub enum Drawing<'a> {
     /// A picture of one mask.
     Picture {

@@ -29,7 +29,7 @@ pub enum Options<'a> {
 }
 
 /// The form of the output.
-#[derive(Clone, Copy, Debug, PartialEq, Eq)]
+#[derive(Clone, Copy, PartialEq, Eq)]
 pub enum Format {
     /// Lines for people.
     Text,

@@ -7,7 +7,7 @@ use std::alloc::{AllocError, Global};
 use std::marker::Model;
 
 /// A child object, with its position in its parent in pixels.
-#[derive(Clone, Copy, Debug, PartialEq, Eq)]
+#[derive(Clone, Copy, PartialEq, Eq)]
 pub struct Child {
     pub id: ObjectId,
     pub x: i16,
@@ -15,21 +15,21 @@ pub struct Child {
 }
 
 /// An event of an object and the macro that it runs.
-#[derive(Clone, Copy, Debug, PartialEq, Eq)]
+#[derive(Clone, Copy, PartialEq, Eq)]
 pub struct MacroEntry {
     pub event: u8,
     pub macro_id: u8,
 }
 
 /// A language of a working set: the two letters of its code.
-#[derive(Clone, Copy, Debug, PartialEq, Eq)]
+#[derive(Clone, Copy, PartialEq, Eq)]
 pub struct Language {
     pub first: u8,
     pub second: u8,
 }
 
 /// A corner of a polygon, in pixels.
-#[derive(Clone, Copy, Debug, PartialEq, Eq)]
+#[derive(Clone, Copy, PartialEq, Eq)]
 pub struct Point {
     pub x: u16,
     pub y: u16,

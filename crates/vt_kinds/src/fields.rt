@@ -11,7 +11,7 @@ use crate::place::Place;
 use crate::scale::Scale;
 
 /// A field of an object that Change Attribute writes.
-#[derive(Clone, Copy, Debug, PartialEq, Eq)]
+#[derive(Clone, Copy, PartialEq, Eq)]
 pub enum Field {
     Colour,
     Selectable,
@@ -59,7 +59,7 @@ pub enum Field {
 
 /// The values that a field accepts (docs/PROFILE.md, "Values of attributes"). A field of fewer than four bytes
 /// stores the lowest bytes of a value.
-#[derive(Clone, Copy, Debug, PartialEq, Eq)]
+#[derive(Clone, Copy, PartialEq, Eq)]
 pub enum ValueType {
     /// Every value of one byte.
     Byte,
@@ -131,7 +131,7 @@ fn is_scale(number: u32) -> bool
 }
 
 /// A field that Change Attribute writes, with its value type.
-#[derive(Clone, Copy, Debug, PartialEq, Eq)]
+#[derive(Clone, Copy, PartialEq, Eq)]
 pub struct Attribute {
     pub field: Field,
     pub value_type: ValueType,

@@ -6,7 +6,7 @@ ghost use Rattle.vt_kinds.specs.Kinds.{kind_number, kind_of_type, kind_name};
 use std::fmt;
 
 /// The kind of an object. A record gives it as a number, the object's type.
-#[derive(Clone, Copy, Debug, PartialEq, Eq)]
+#[derive(Clone, Copy, PartialEq, Eq)]
 pub enum Kind {
     WorkingSet,
     DataMask,

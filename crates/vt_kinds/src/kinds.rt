@@ -18,7 +18,7 @@ use crate::kind::Kind;
 
 /// A set of kinds: those allowed in a reference, or those that a command changes (docs/PROFILE.md, "Places and
 /// their kinds" and "Commands").
-#[derive(Clone, Copy, Debug, PartialEq, Eq)]
+#[derive(Clone, Copy, PartialEq, Eq)]
 pub enum Kinds {
     Masks,
     SoftKeyMasks,

@@ -7,7 +7,7 @@ use crate::kind::Kind;
 use crate::kinds::Kinds;
 
 /// The field or list entry of a reference in its object. Entries are counted from 0.
-#[derive(Clone, Copy, Debug, PartialEq, Eq)]
+#[derive(Clone, Copy, PartialEq, Eq)]
 pub enum Place {
     ActiveMask,
     SoftKeyMask,

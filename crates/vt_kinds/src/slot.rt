@@ -12,7 +12,7 @@ use crate::place::Place;
 use std::marker::Model;
 
 /// A reference of an object: its position, its ID, and the allowed kinds.
-#[derive(Clone, Copy, Debug, PartialEq, Eq)]
+#[derive(Clone, Copy, PartialEq, Eq)]
 pub struct Slot {
     /// The field or list entry in the object.
     pub place: Place,

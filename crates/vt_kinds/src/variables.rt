@@ -9,7 +9,7 @@ use std::alloc::{AllocError, Global};
 use std::convert::AsSlice;
 
 /// A Number Variable, type 21.
-#[derive(Clone, Copy, Debug, PartialEq, Eq)]
+#[derive(Clone, Copy, PartialEq, Eq)]
 pub struct NumberVariable {
     /// The value.
     pub value: u32,
@@ -46,7 +46,7 @@ impl<B: AsSlice<u8> + Drop> StringVariable<B> {
 }
 
 /// An Object Pointer, type 27, which acts as the object that it refers to.
-#[derive(Clone, Copy, Debug, PartialEq, Eq)]
+#[derive(Clone, Copy, PartialEq, Eq)]
 pub struct ObjectPointer {
     /// The referenced object, or NULL.
     pub value: ObjectId,

@@ -7,14 +7,14 @@ ghost use Rattle.vt_layout.specs.PageTexts.{IsNear};
 use vt_objects::{Child, ObjectId};
 
 /// A position in pixels, from the upper left corner of a mask or of a key.
-#[derive(Clone, Copy, Debug, PartialEq, Eq)]
+#[derive(Clone, Copy, PartialEq, Eq)]
 pub(crate) struct Position {
     pub(crate) x: i32,
     pub(crate) y: i32,
 }
 
 /// An element of the drawing: its index in its list, its ID and its position.
-#[derive(Clone, Copy, Debug, PartialEq, Eq)]
+#[derive(Clone, Copy, PartialEq, Eq)]
 pub(crate) struct Element {
     pub(crate) place: usize,
     pub(crate) id: ObjectId,

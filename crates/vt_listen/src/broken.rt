@@ -1,7 +1,7 @@
 //! Transfers that ended early.
 
 /// A transfer that ended before its message was whole.
-#[derive(Clone, Copy, Debug, PartialEq, Eq)]
+#[derive(Clone, Copy, PartialEq, Eq)]
 pub struct Broken {
     /// The address of the sender.
     pub source: u8,

@@ -8,7 +8,7 @@ use vt_can::assigned::{ABORT, ETP_CM, ETP_DPO, ETP_DT, ETP_RTS, TP_CM, TP_DT, TP
 use vt_can::{Frame, numbered_packet};
 
 /// What a frame says of the transfer of a message. Public for the definitions alone: vt_listen_laws speaks of parts.
-#[derive(Clone, Copy, Debug)]
+#[derive(Clone, Copy)]
 pub enum Part {
     /// A request to send a message.
     Request { size: u32, pgn: u32 },

@@ -1,7 +1,7 @@
 //! Messages from one node to another.
 
 /// A message from one node to another.
-#[derive(Debug, Drop)]
+#[derive(Drop)]
 pub struct SentMessage {
     /// The address of the sender.
     pub source: u8,

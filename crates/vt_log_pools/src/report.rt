@@ -14,7 +14,7 @@ use vt_log_words::Format;
 use vt_uploads::{Message, Upload};
 
 /// Where an upload has ended, and whether it was an update.
-#[derive(Clone, Copy, Debug)]
+#[derive(Clone, Copy)]
 pub(crate) struct UploadEnd {
     /// The line of its end.
     pub(crate) line: u64,

@@ -14,7 +14,7 @@ use vt_recorded::{Reader, is_of_interface};
 const VIRTUAL_TERMINAL: u8 = 29;
 
 /// A node that wants a stored pool to be loaded.
-#[derive(Clone, Copy, Debug, PartialEq, Eq)]
+#[derive(Clone, Copy, PartialEq, Eq)]
 pub struct Load {
     /// The first line at which it wants one.
     pub line: u64,

@@ -21,7 +21,7 @@ pub fn line_ends(text: &[u8]) -> Chain<Memchr<'_>, Once<usize>> {
 }
 
 /// Goes through the lines of a log, and tells how far a run has come.
-#[derive(Clone, Copy, Debug)]
+#[derive(Clone, Copy)]
 pub struct LineCursor<'a> {
     text: &'a [u8],
     start: usize,

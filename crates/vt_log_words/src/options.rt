@@ -27,7 +27,7 @@ pub enum Options<'a> {
 }
 
 /// The form of the output.
-#[derive(Clone, Copy, Debug, PartialEq, Eq)]
+#[derive(Clone, Copy, PartialEq, Eq)]
 pub enum Format {
     /// Lines for people.
     Text,
@@ -51,7 +51,7 @@ pub struct PoolsOptions<'a> {
 }
 
 /// The options of `operator`.
-#[derive(Clone, Copy, Debug, PartialEq, Eq)]
+#[derive(Clone, Copy, PartialEq, Eq)]
 pub struct OperatorOptions<'a> {
     /// The file of the log.
     pub log: &'a str,
@@ -115,7 +115,7 @@ pub struct TestOptions<'a> {
 }
 
 /// The terminal that replays a log.
-#[derive(Clone, Copy, Debug, PartialEq, Eq)]
+#[derive(Clone, Copy, PartialEq, Eq)]
 pub struct TerminalOptions<'a> {
     /// Its address, at most 253.
     pub own: u8,
@@ -126,7 +126,7 @@ pub struct TerminalOptions<'a> {
 }
 
 /// A working set that is there from the start of a log.
-#[derive(Clone, Copy, Debug, PartialEq, Eq)]
+#[derive(Clone, Copy, PartialEq, Eq)]
 pub struct StartSet<'a> {
     /// The file of its pool.
     pub pool: &'a str,

@@ -4,7 +4,7 @@ ghost use Rattle.std.specs.Prelude.{◌≡◌};
 ghost use Rattle.vt_logs.specs.Texts.{no_counts};
 
 /// The numbers of lines read. Each line is a frame, an operator line, a skipped line, a comment or a fault.
-#[derive(Clone, Copy, Debug, PartialEq, Eq)]
+#[derive(Clone, Copy, PartialEq, Eq)]
 pub struct Counts {
     /// All lines.
     pub lines: u64,

@@ -7,7 +7,7 @@ use vt_can::LineFault;
 use vt_server::{OperatorFault, Output};
 
 /// The first faulty line of a log.
-#[derive(Clone, Copy, Debug, PartialEq, Eq)]
+#[derive(Clone, Copy, PartialEq, Eq)]
 pub struct FaultyLine {
     /// The line's number, from 1.
     pub line: u64,
@@ -18,7 +18,7 @@ pub struct FaultyLine {
 }
 
 /// A likely cause of a faulty line.
-#[derive(Clone, Copy, Debug, PartialEq, Eq)]
+#[derive(Clone, Copy, PartialEq, Eq)]
 pub enum Hint {
     /// The line has bytes that are not text.
     Binary,
@@ -60,7 +60,7 @@ impl fmt::Display for Hint {
 }
 
 /// The operator's actions of a replay that were refused for one reason.
-#[derive(Clone, Copy, Debug, PartialEq, Eq)]
+#[derive(Clone, Copy, PartialEq, Eq)]
 pub struct RefusedActions {
     /// The line of the first of these actions, from 1.
     pub line: u64,
@@ -71,7 +71,7 @@ pub struct RefusedActions {
 }
 
 /// Notes of a replay, for messages to people.
-#[derive(Clone, Copy, Debug, PartialEq, Eq)]
+#[derive(Clone, Copy, PartialEq, Eq)]
 pub struct Notes {
     /// The number of lines taken.
     pub lines: u64,

@@ -32,7 +32,7 @@ use vt_shown::{search_shown, soft_key_mask};
 use vt_verify::{Accepted, AcceptedParts};
 
 /// The key that the operator holds.
-#[derive(Clone, Copy, Debug, PartialEq, Eq)]
+#[derive(Clone, Copy, PartialEq, Eq)]
 pub(crate) struct HeldKey {
     /// The Key or Button.
     pub(crate) id: ObjectId,
@@ -41,7 +41,7 @@ pub(crate) struct HeldKey {
 }
 
 /// The result of a command.
-#[derive(Clone, Copy, Debug, PartialEq, Eq)]
+#[derive(Clone, Copy, PartialEq, Eq)]
 pub enum Outcome {
     /// The command is done. `steps` counts its own step and one for each command of the macros that it triggers.
     Done { steps: u32 },

@@ -15,7 +15,7 @@ use vt_objects::{Command, ObjectId, split_command};
 use vt_verify::{Accepted, Listings};
 
 /// A range of indices, from `start` to just before `end`.
-#[derive(Clone, Copy, Debug, PartialEq, Eq)]
+#[derive(Clone, Copy, PartialEq, Eq)]
 pub struct Span {
     start: usize,
     end: usize,

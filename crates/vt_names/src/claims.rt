@@ -14,7 +14,7 @@ use std::marker::Model;
 const NULL_ADDRESS: u8 = 254;
 
 /// The meaning of an address claim for this node.
-#[derive(Clone, Copy, Debug, PartialEq, Eq)]
+#[derive(Clone, Copy, PartialEq, Eq)]
 pub enum ClaimMeaning {
     /// The claim needs no answer.
     Nothing,

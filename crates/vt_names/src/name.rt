@@ -6,7 +6,7 @@ ghost use Rattle.vt_names.specs.Names.{name_fields};
 use std::marker::Model;
 
 /// The 64-bit NAME of a node. Of two NAMEs that claim an address, the lower one keeps it. docs/PROFILE.md, "The NAME".
-#[derive(Clone, Copy, Debug, Default, PartialEq, Eq, PartialOrd, Ord, Hash)]
+#[derive(Clone, Copy, Default, PartialEq, Eq, PartialOrd, Ord, Hash)]
 pub struct Name {
     raw: u64,
 }

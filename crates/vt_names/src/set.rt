@@ -12,7 +12,7 @@ pub(crate) type Members = Box<ArrayVec<Name, 254>>;
 
 /// A working set: the address of its master, its NAME if it has one, the number of its members with the master,
 /// and the announced NAMEs of the others. docs/PROFILE.md, "What a set has".
-#[derive(Debug, Drop)]
+#[derive(Drop)]
 pub struct Set {
     address: u8,
     name: Option<Name>,

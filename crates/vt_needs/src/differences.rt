@@ -11,7 +11,7 @@ use vt_objects::{Object, ObjectId, SortedStore, Store};
 use vt_pool::write_object;
 
 /// A difference of two pools, by an ID.
-#[derive(Clone, Copy, Debug, PartialEq, Eq)]
+#[derive(Clone, Copy, PartialEq, Eq)]
 pub enum Difference {
     /// The old pool alone has the object.
     Removed { id: ObjectId },

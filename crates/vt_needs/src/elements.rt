@@ -11,7 +11,7 @@ use vt_objects::{Child, Object, ObjectId, SortedStore};
 use vt_shown::resolve;
 
 /// The area that an object takes, in pixels.
-#[derive(Clone, Copy, Debug, PartialEq, Eq)]
+#[derive(Clone, Copy, PartialEq, Eq)]
 pub struct Extent {
     /// The width.
     pub width: u32,

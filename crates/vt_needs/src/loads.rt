@@ -10,7 +10,7 @@ use vt_objects::{Event, ObjectId};
 use vt_verify::Accepted;
 
 /// An event, and how many steps it can take.
-#[derive(Clone, Copy, Debug, PartialEq, Eq)]
+#[derive(Clone, Copy, PartialEq, Eq)]
 pub struct Dearest {
     /// The object.
     pub id: ObjectId,

@@ -12,7 +12,7 @@ use arrayvec::ArrayVec;
 use vt_objects::{Child, Kind, Object, ObjectId, SortedStore};
 
 /// What the objects of a pool need of a terminal.
-#[derive(Clone, Copy, Debug, PartialEq, Eq)]
+#[derive(Clone, Copy, PartialEq, Eq)]
 pub struct Needs {
     /// How far the children of a mask reach to the right and down.
     pub mask: Extent,
@@ -25,7 +25,7 @@ pub struct Needs {
 }
 
 /// Something of which a terminal has less than a pool needs.
-#[derive(Clone, Copy, Debug, Default, PartialEq, Eq)]
+#[derive(Clone, Copy, Default, PartialEq, Eq)]
 pub enum Lack {
     /// The area of a mask.
     #[default]

@@ -1,7 +1,7 @@
 //! The sizes of a terminal.
 
 /// The size of an area in pixels.
-#[derive(Clone, Copy, Debug, PartialEq, Eq)]
+#[derive(Clone, Copy, PartialEq, Eq)]
 pub struct Area {
     /// The width.
     pub width: u16,
@@ -10,7 +10,7 @@ pub struct Area {
 }
 
 /// The areas that a terminal shows, and its keys.
-#[derive(Clone, Copy, Debug, PartialEq, Eq)]
+#[derive(Clone, Copy, PartialEq, Eq)]
 pub struct Sizes {
     /// The area of a data mask or an alarm mask.
     pub mask: Area,

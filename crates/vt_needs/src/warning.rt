@@ -4,7 +4,7 @@ use crate::sizes::Area;
 use vt_objects::ObjectId;
 
 /// A field with a text or a number.
-#[derive(Clone, Copy, Debug, PartialEq, Eq)]
+#[derive(Clone, Copy, PartialEq, Eq)]
 pub struct TextField {
     /// The object.
     pub id: ObjectId,
@@ -19,7 +19,7 @@ pub struct TextField {
 }
 
 /// A child of an object, by the area that it takes there.
-#[derive(Clone, Copy, Debug, PartialEq, Eq)]
+#[derive(Clone, Copy, PartialEq, Eq)]
 pub struct Element {
     /// The object that has the child.
     pub parent: ObjectId,
@@ -38,7 +38,7 @@ pub struct Element {
 }
 
 /// Something that a pool's maker may have overlooked. A terminal does not refuse the pool for this. docs/PROFILE.md, "Warnings".
-#[derive(Clone, Copy, Debug, PartialEq, Eq)]
+#[derive(Clone, Copy, PartialEq, Eq)]
 pub enum Warning {
     /// No slot, no macro entry and no command of a macro names the object.
     Unused {

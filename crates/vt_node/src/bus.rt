@@ -14,7 +14,7 @@ use vt_can::assigned::{
 use vt_names::Name;
 
 /// The meaning of a frame for the terminal.
-#[derive(Clone, Copy, Debug, PartialEq, Eq)]
+#[derive(Clone, Copy, PartialEq, Eq)]
 pub enum FrameMeaning {
     /// A NAME claims the source address.
     Claim(Name),

@@ -7,7 +7,7 @@ ghost use Rattle.vt_node.specs.Profile.{standard};
 pub const VERSION: u8 = 3;
 
 /// The answers of a terminal to requests for its technical data (ISO 11783-6). They do not change what it draws or accepts.
-#[derive(Clone, Copy, Debug, PartialEq, Eq)]
+#[derive(Clone, Copy, PartialEq, Eq)]
 pub struct Profile {
     /// The memory for pools, in bytes.
     pub memory: u32,

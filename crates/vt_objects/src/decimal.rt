@@ -11,7 +11,7 @@ use itoa::Buffer;
 use vt_kinds::{Decimals, Scale};
 
 /// A number to show: value plus offset, times the scale, rounded to the decimals, half away from zero.
-#[derive(Clone, Copy, Debug, PartialEq, Eq)]
+#[derive(Clone, Copy, PartialEq, Eq)]
 pub struct Decimal {
     pub value: u32,
     pub offset: i32,

@@ -8,7 +8,7 @@ use vt_needs::{Area, Sizes, extent_of};
 use vt_objects::Object;
 
 /// The area of an element, in pixels.
-#[derive(Clone, Copy, Debug, PartialEq, Eq)]
+#[derive(Clone, Copy, PartialEq, Eq)]
 pub(crate) enum Frame {
     /// That of the element around it.
     Whole,

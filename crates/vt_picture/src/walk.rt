@@ -16,7 +16,7 @@ use vt_objects::{Child, Container, InputList, Object, ObjectId, Store};
 use vt_shown::{is_element, number_shown, resolve};
 
 /// A tag of an element, as a walk comes to it.
-#[derive(Clone, Copy, Debug, PartialEq, Eq)]
+#[derive(Clone, Copy, PartialEq, Eq)]
 pub(crate) enum Tag {
     /// The tag that opens an element: its own ID, and its position in the element around it.
     Open(Child),

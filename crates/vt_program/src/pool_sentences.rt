@@ -6,7 +6,7 @@ use vt_records::PoolFault;
 use vt_verify::Refusal;
 
 /// The kinds of the objects in a refusal, where the pool has these objects.
-#[derive(Clone, Copy, Debug, Default, PartialEq, Eq)]
+#[derive(Clone, Copy, Default, PartialEq, Eq)]
 pub struct Named {
     /// The kind of the parent, or of the only object.
     pub parent: Option<Kind>,

@@ -37,7 +37,7 @@ pub trait Open {
 }
 
 /// The status with which a run ends.
-#[derive(Clone, Copy, Debug, PartialEq, Eq)]
+#[derive(Clone, Copy, PartialEq, Eq)]
 pub enum Status {
     /// The log was replayed, or a report or help was printed.
     Done,

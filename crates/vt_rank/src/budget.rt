@@ -7,7 +7,7 @@ use crate::graph::Graph;
 use std::marker::Model;
 
 /// The cost of each node of a graph.
-#[derive(Debug, Drop)]
+#[derive(Drop)]
 pub struct Costs {
     pub(crate) costs: [u32; 256],
 }

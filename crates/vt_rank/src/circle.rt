@@ -12,7 +12,7 @@ use arrayvec::ArrayVec;
 
 /// A circle of triggers: each node of the path triggers the next, and the last one the first. The nodes are
 /// distinct.
-#[derive(Debug, Drop)]
+#[derive(Drop)]
 pub struct Circle {
     /// The nodes, beginning with the least node on any circle of the graph.
     pub path: ArrayVec<u8, 256>,

@@ -4,7 +4,7 @@ ghost use Rattle.std.specs.Prelude.{◌≡◌};
 ghost use Rattle.vt_rank.specs.Graphs.{items_of, group_of};
 
 /// An item of a node.
-#[derive(Clone, Copy, Debug, PartialEq, Eq)]
+#[derive(Clone, Copy, PartialEq, Eq)]
 pub enum Item {
     /// A step, which costs one and triggers no node.
     Step,
@@ -18,7 +18,7 @@ pub enum Item {
 ///
 /// A node without an entry in `nodes` has no items, and entries from 256 on are ignored. A missing group has no
 /// nodes.
-#[derive(Debug, Drop)]
+#[derive(Drop)]
 pub struct Graph {
     /// The items of each node.
     pub nodes: Vec<Vec<Item>>,

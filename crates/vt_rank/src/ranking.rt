@@ -14,7 +14,7 @@ use std::alloc::{AllocError, Global};
 use std::marker::Model;
 
 /// A rank for each node of a graph, below that of every node that triggers it.
-#[derive(Debug, Drop)]
+#[derive(Drop)]
 pub struct Ranks {
     ranks: [u8; 256],
     // The nodes by rising rank.

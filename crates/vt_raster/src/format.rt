@@ -4,7 +4,7 @@ ghost use Rattle.std.specs.Prelude.{◌≡◌, ◌<◌};
 ghost use Rattle.vt_raster.specs.Formats.{format_of, pixels_in_byte, bytes_in_row, pixel};
 
 /// A format of image data: the number of bits of a pixel.
-#[derive(Clone, Copy, Debug, PartialEq, Eq)]
+#[derive(Clone, Copy, PartialEq, Eq)]
 pub enum Format {
     /// One bit: eight pixels in a byte, of colour 0 or 1.
     OneBit,

@@ -11,7 +11,7 @@ use vt_kinds::Picture;
 
 /// A byte that repeats within a row of a picture. Its pixels are those of the byte, `count` times, from the column
 /// `start` times `Format::pixels_in_byte` on. Pixels past the width of the image, in the last byte of a row, are spare.
-#[derive(Clone, Copy, Debug, PartialEq, Eq)]
+#[derive(Clone, Copy, PartialEq, Eq)]
 pub struct Run {
     /// The row, from 0 at the top.
     pub row: u16,

@@ -12,7 +12,7 @@ use vt_findings_text::{Label, Names};
 use vt_objects::{Kind, Kinds, ObjectId};
 
 /// An object of a pool.
-#[derive(Clone, Copy, Debug, PartialEq, Eq)]
+#[derive(Clone, Copy, PartialEq, Eq)]
 pub struct PoolObject {
     /// The ID.
     pub id: ObjectId,
@@ -21,7 +21,7 @@ pub struct PoolObject {
 }
 
 /// What was reached of the pools of a working set, and what never was. Each list is by rising ID.
-#[derive(Debug, Drop)]
+#[derive(Drop)]
 pub struct SetReach {
     /// The address of the working set.
     pub address: u8,

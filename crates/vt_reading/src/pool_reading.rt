@@ -11,7 +11,7 @@ use vt_objects::{Kind, ObjectId, SortedStore};
 use vt_pool::PoolFault;
 
 /// The record of an object in force.
-#[derive(Clone, Copy, Debug, PartialEq, Eq)]
+#[derive(Clone, Copy, PartialEq, Eq)]
 pub struct ObjectRecord {
     /// The object.
     pub id: ObjectId,
@@ -22,7 +22,7 @@ pub struct ObjectRecord {
 }
 
 /// A record that a later one of the same ID replaces.
-#[derive(Clone, Copy, Debug, PartialEq, Eq)]
+#[derive(Clone, Copy, PartialEq, Eq)]
 pub struct ReplacedRecord {
     /// The ID of both.
     pub id: ObjectId,

@@ -8,7 +8,7 @@ use crate::fault::PoolFault;
 use std::alloc::{AllocError, AllocFailed};
 
 /// The fault of a record, without its position in the pool.
-#[derive(Clone, Copy, Debug, PartialEq, Eq)]
+#[derive(Clone, Copy, PartialEq, Eq)]
 pub enum RecordFault {
     Truncated,
     UnknownType,

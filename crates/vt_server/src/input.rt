@@ -3,7 +3,7 @@
 use vt_can::{Action, Frame};
 
 /// One input of the terminal, which is one atomic step.
-#[derive(Debug, Drop)]
+#[derive(Drop)]
 pub enum Input<'a> {
     /// A frame from the bus with its time, in microseconds.
     Frame { time: u64, frame: Frame },

@@ -25,7 +25,7 @@ pub enum OperatorFault {
 }
 
 /// One output of the terminal.
-#[derive(Debug, Drop)]
+#[derive(Drop)]
 pub enum Output {
     /// A frame to the bus.
     Frame(Frame),

@@ -8,7 +8,7 @@ use vt_objects::{Object, ObjectId, Store};
 use vt_svg::Paint;
 
 /// What lines are drawn with.
-#[derive(Clone, Copy, Debug, PartialEq, Eq)]
+#[derive(Clone, Copy, PartialEq, Eq)]
 pub(crate) struct Pen {
     /// The colour, or nothing.
     pub(crate) paint: Paint,

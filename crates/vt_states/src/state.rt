@@ -21,7 +21,7 @@ const OWN_ADDRESS: u8 = 0x26;
 const OWN_NAME: u64 = 0x2000_1D00_0000_0001;
 
 /// A working set that is there from the start.
-#[derive(Clone, Copy, Debug, PartialEq, Eq)]
+#[derive(Clone, Copy, PartialEq, Eq)]
 pub struct StartSet<'a> {
     /// The bytes of its pool.
     pub pool: &'a [u8],

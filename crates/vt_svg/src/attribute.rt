@@ -11,7 +11,7 @@ use itoa::Buffer;
 use std::alloc::AllocError;
 
 /// What an area or a line is filled with.
-#[derive(Clone, Copy, Debug, PartialEq, Eq)]
+#[derive(Clone, Copy, PartialEq, Eq)]
 pub enum Paint {
     /// Nothing.
     None,
@@ -22,7 +22,7 @@ pub enum Paint {
 }
 
 /// An attribute that has one value.
-#[derive(Clone, Copy, Debug, PartialEq, Eq)]
+#[derive(Clone, Copy, PartialEq, Eq)]
 pub enum Flag {
     /// The characters of a text are stretched to its length.
     StretchedCharacters,
@@ -43,7 +43,7 @@ pub enum Flag {
 }
 
 /// The style of characters.
-#[derive(Clone, Copy, Debug, PartialEq, Eq)]
+#[derive(Clone, Copy, PartialEq, Eq)]
 pub struct Style {
     /// Bold characters.
     pub bold: bool,
@@ -56,7 +56,7 @@ pub struct Style {
 }
 
 /// An attribute with its value. Lengths are in the coordinates of the area around the element: pixels, unless the area has others.
-#[derive(Clone, Copy, Debug)]
+#[derive(Clone, Copy)]
 pub enum Attribute {
     /// The left edge, which may be left of the area around.
     X(i32),

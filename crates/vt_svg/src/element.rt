@@ -7,7 +7,7 @@ use crate::attribute::{Attribute, push_attribute};
 use std::alloc::AllocError;
 
 /// An element of SVG.
-#[derive(Clone, Copy, Debug, PartialEq, Eq)]
+#[derive(Clone, Copy, PartialEq, Eq)]
 pub enum Element {
     /// A picture, or an area of one with coordinates of its own, outside of which nothing is shown.
     Svg,

@@ -8,7 +8,7 @@ ghost use Rattle.vt_traffic.specs.Counted.{with_frame};
 const EMPTY_FRAME_BITS: u64 = 67;
 
 /// How much was sent. A count that would not fit stays at `u64::MAX`.
-#[derive(Clone, Copy, Debug, Default, PartialEq, Eq)]
+#[derive(Clone, Copy, Default, PartialEq, Eq)]
 pub struct Counts {
     /// The frames.
     pub frames: u64,

@@ -16,7 +16,7 @@ pub(crate) fn load_of(bits: u64, span: u64) -> Option<u64>
 }
 
 /// A load in tenths of a percent, as `12.5 %`.
-#[derive(Clone, Copy, Debug)]
+#[derive(Clone, Copy)]
 pub(crate) struct Percent(pub(crate) u64);
 
 impl fmt::Display for Percent {

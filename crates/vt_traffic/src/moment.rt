@@ -3,7 +3,7 @@
 use std::fmt;
 
 /// A time or a span in microseconds, which its `Display` writes in seconds, as `12.000345`.
-#[derive(Clone, Copy, Debug, PartialEq, Eq)]
+#[derive(Clone, Copy, PartialEq, Eq)]
 pub(crate) struct Seconds(pub(crate) u64);
 
 impl fmt::Display for Seconds {

@@ -7,7 +7,7 @@ use crate::transfers::Transfers;
 use std::fmt;
 
 /// How much a source has sent.
-#[derive(Clone, Copy, Debug)]
+#[derive(Clone, Copy)]
 pub struct Share {
     /// The address.
     pub source: u8,
@@ -20,7 +20,7 @@ pub struct Share {
 
 /// What a log came to. Its `Display` writes a line for the log, one for its load, one for each source, and those of transfers and of
 /// frames that were seen twice.
-#[derive(Debug, Drop)]
+#[derive(Drop)]
 pub struct TrafficReport {
     /// The number of the line of the first frame. 0 if there is no frame.
     pub first_line: u64,

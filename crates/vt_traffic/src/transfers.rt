@@ -13,7 +13,7 @@ use vt_listen::{Broken, Listener, SentMessage};
 
 /// How the transfers of a log went, of both transport protocols. A transfer is from one node to another: what is sent to all is not
 /// counted. A count that would not fit stays at `u64::MAX`.
-#[derive(Clone, Copy, Debug, Default)]
+#[derive(Clone, Copy, Default)]
 pub struct Transfers {
     /// How many became whole.
     pub whole: u64,
@@ -28,7 +28,7 @@ pub struct Transfers {
 }
 
 /// A transfer that took its time.
-#[derive(Clone, Copy, Debug)]
+#[derive(Clone, Copy)]
 pub struct LongTransfer {
     /// The number of the line with its request.
     pub line: u64,

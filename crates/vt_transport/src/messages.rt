@@ -12,7 +12,7 @@ pub(crate) const LEAST_SIZE: u16 = 9;
 pub(crate) const GREATEST_SIZE: u16 = 1785;
 
 /// The fields of a request to send (RTS).
-#[derive(Clone, Copy, Debug)]
+#[derive(Clone, Copy)]
 pub(crate) struct Opening {
     pub(crate) size: u16,
     pub(crate) packets: u8,
@@ -22,7 +22,7 @@ pub(crate) struct Opening {
 }
 
 /// A decoded frame of the transport protocol.
-#[derive(Clone, Copy, Debug)]
+#[derive(Clone, Copy)]
 pub(crate) enum TpFrame {
     Rts(Opening),
     Cts { count: u8, next: u8, pgn: u32 },
@@ -33,7 +33,7 @@ pub(crate) enum TpFrame {
 }
 
 /// A reply of this node in a session.
-#[derive(Clone, Copy, Debug)]
+#[derive(Clone, Copy)]
 pub(crate) enum Reply {
     ClearToSend { count: u8, next: u8, pgn: u32 },
     End { size: u16, packets: u8, pgn: u32 },

@@ -7,7 +7,7 @@ use vt_can::CanId;
 use vt_can::assigned::ECU_TO_VT;
 
 /// A message of an implement to a terminal.
-#[derive(Clone, Copy, Debug)]
+#[derive(Clone, Copy)]
 pub struct Message<'a> {
     /// The line of the log at which the message was whole, from 1.
     pub line: u64,

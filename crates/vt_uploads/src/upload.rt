@@ -1,7 +1,7 @@
 //! Uploads.
 
 /// An upload of an object pool.
-#[derive(Debug, Drop)]
+#[derive(Drop)]
 pub struct Upload {
     /// The line of the first piece, from 1; that of the end, if there is no piece.
     pub first_line: u64,

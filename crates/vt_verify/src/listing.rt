@@ -15,7 +15,7 @@ use std::marker::Model;
 use vt_objects::{Event, MacroEntry, Object, ObjectId, Raised, SortedStore};
 
 /// An object and the number of an event of it.
-#[derive(Clone, Copy, Debug, PartialEq, Eq, Hash)]
+#[derive(Clone, Copy, PartialEq, Eq, Hash)]
 pub struct Listing {
     /// The object.
     pub id: ObjectId,

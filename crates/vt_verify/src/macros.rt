@@ -51,7 +51,7 @@ pub fn is_whole(bytes: &[u8]) -> bool
 }
 
 /// A test of one macro command.
-#[derive(Clone, Copy, Debug, PartialEq, Eq)]
+#[derive(Clone, Copy, PartialEq, Eq)]
 pub(crate) enum PieceTest {
     /// The bytes are a command that macros may have.
     IsAllowed,

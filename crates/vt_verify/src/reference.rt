@@ -9,7 +9,7 @@ use crate::objects::kind_at;
 use vt_objects::{Kind, Kinds, ObjectId, Slot, SortedStore, Target};
 
 /// A reference: an ID in an object, and the kinds allowed for it.
-#[derive(Clone, Copy, Debug, PartialEq, Eq)]
+#[derive(Clone, Copy, PartialEq, Eq)]
 pub struct Reference {
     /// The object that has the reference.
     pub parent: ObjectId,
@@ -22,7 +22,7 @@ pub struct Reference {
 }
 
 /// A test of a reference.
-#[derive(Clone, Copy, Debug, PartialEq, Eq)]
+#[derive(Clone, Copy, PartialEq, Eq)]
 pub enum Test {
     /// The ID is NULL, where NULL is allowed, or the ID of an existing object.
     IsThere,

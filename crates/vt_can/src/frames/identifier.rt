@@ -7,7 +7,7 @@ ghost use Rattle.vt_can.specs.frames.Identifier.{raw_of, parts_of, pgn_of, desti
 use std::marker::Model;
 
 /// The 29-bit identifier of a frame.
-#[derive(Clone, Copy, Debug, Default, PartialEq, Eq)]
+#[derive(Clone, Copy, Default, PartialEq, Eq)]
 pub struct CanId {
     raw: u32,
 }

@@ -11,7 +11,7 @@ use crate::lines::frame_line::read_frame_line;
 use thiserror::Error;
 
 /// A log line that has been read.
-#[derive(Debug, Drop)]
+#[derive(Drop)]
 pub enum Line<'a> {
     /// A frame, and its time in microseconds.
     Frame { time: u64, frame: Frame },
@@ -24,7 +24,7 @@ pub enum Line<'a> {
 }
 
 /// An action of the operator. The first number is an object ID, but an address in `Set`.
-#[derive(Clone, Copy, Debug, PartialEq, Eq)]
+#[derive(Clone, Copy, PartialEq, Eq)]
 pub enum Action<'a> {
     /// Presses a key or button.
     Press(u16),
@@ -41,7 +41,7 @@ pub enum Action<'a> {
 }
 
 /// Why a frame is ignored.
-#[derive(Clone, Copy, Debug, PartialEq, Eq)]
+#[derive(Clone, Copy, PartialEq, Eq)]
 pub enum Skipped {
     /// A remote frame, which asks for data and has none.
     Remote,

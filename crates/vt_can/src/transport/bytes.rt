@@ -5,7 +5,7 @@ ghost use Rattle.std.specs.Prelude.{◌≡◌};
 use std::marker::Model;
 
 /// The bytes of a whole message, seen as their list.
-#[derive(Debug, Drop)]
+#[derive(Drop)]
 pub struct Bytes {
     bytes: Vec<u8>,
 }

@@ -4,7 +4,7 @@ use crate::frames::Frame;
 use crate::transport::bytes::Bytes;
 
 /// The answer of a receiver to a frame. The caller sends the reply.
-#[derive(Debug, Drop)]
+#[derive(Drop)]
 pub enum Heard {
     Nothing,
     Reply(Frame),

@@ -4,7 +4,7 @@ use crate::transport::bytes::Bytes;
 
 /// The result of a frame for its session: the end of the session with a reply, a session with packets to come, or a
 /// whole message with the acknowledgement of its end.
-#[derive(Debug, Drop)]
+#[derive(Drop)]
 pub enum Received<S, R> {
     Refused(R),
     More(S, Option<R>),

@@ -14,7 +14,7 @@ use std::marker::Model;
 const TIMEOUT: u64 = 1_250_000;
 
 /// A session, and the time of its last frame in microseconds.
-#[derive(Debug, Drop)]
+#[derive(Drop)]
 pub struct Timed<T> {
     pub last: u64,
     pub session: T,

@@ -11,7 +11,7 @@ use crate::frames::{CanId, Frame};
 use arrayvec::ArrayVec;
 
 /// Why a node ends a session of a transport protocol.
-#[derive(Clone, Copy, Debug)]
+#[derive(Clone, Copy)]
 pub enum Reason {
     /// A request of more bytes than the node accepts.
     TooLarge,

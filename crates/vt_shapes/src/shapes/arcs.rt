@@ -9,7 +9,7 @@ use std::alloc::AllocError;
 use vt_svg::{Point, push_point};
 
 /// An ellipse: its centre, and half its width and its height, in tenths of a pixel.
-#[derive(Clone, Copy, Debug, PartialEq, Eq)]
+#[derive(Clone, Copy, PartialEq, Eq)]
 pub(crate) struct Oval {
     pub(crate) x: u32,
     pub(crate) y: u32,

@@ -15,7 +15,7 @@ use vt_objects::{Object, ObjectId, Store};
 use vt_svg::{Attribute, Element, Flag, Paint, Style, close, empty, open, text};
 
 /// The characters of a font.
-#[derive(Clone, Copy, Debug, PartialEq, Eq)]
+#[derive(Clone, Copy, PartialEq, Eq)]
 pub(crate) struct Look {
     /// The area of a character.
     pub(crate) cell: Area,
@@ -26,7 +26,7 @@ pub(crate) struct Look {
 }
 
 /// A field with a text.
-#[derive(Clone, Copy, Debug, PartialEq, Eq)]
+#[derive(Clone, Copy, PartialEq, Eq)]
 pub(crate) struct Field {
     /// The area.
     pub(crate) area: Area,
