@@ -3,48 +3,59 @@ ARGS ?= examples/seeder.log
 # The pool that is drawn.
 POOL ?= examples/sprayer.iop
 
-.PHONY: run sample picture pictures help test examples wrong-bodies build bench bench-hostile bench-counts refuse-memory test-c libs-aarch64
+.PHONY: run picture pictures quick help test prove examples wrong-bodies build bench bench-hostile bench-counts refuse-memory test-c \
+	libs-aarch64
 
-# Runs the program by the toolchain's quick build, which proves nothing.
+# Replays a log by the quick build of vt_replay, which proves nothing. Two minutes at first, a second later.
 run:
-	@bash scripts/run.sh $(ARGS)
-
-# Runs a whole caller of the library by the quick build.
-sample:
-	@cd crates/vt_sample && rt try --data sprayer.iop=$(CURDIR)/examples/sprayer.iop
+	@python3 scripts/quick.py --run vt_replay $(ARGS)
 
 # Draws the active mask of POOL as SVG on the standard output, by the quick build: make -s picture POOL=my.iop > my.svg
 picture:
-	@cd crates/vt_picture_examples && rt try < $(abspath $(POOL))
+	@python3 scripts/quick.py --run segyolant draw $(POOL)
 
 # Makes the pictures of README.md and examples/kinds.md anew, by the proved program and Debian's rsvg-convert.
 pictures: build
 	@bash scripts/pictures.sh
 
+# Leaves quick builds of vt_replay, segyolant and segyolant_log in out/quick, to be run by their paths. They prove nothing.
+quick:
+	@python3 scripts/quick.py
+
 # Lists these commands.
 help:
 	@awk '/^# /{text = text substr($$0, 2)} /^[a-z-]+:/{sub(/:.*/, ""); printf "make %-14s%s\n", $$0, text} !/^# /{text = ""}' Makefile
 
-# Proves every crate and its tests from nothing, tries the must-fail edits, and runs the tests and the program.
+# Runs the tests without any proof, in minutes: logs, pools and command lines by quick builds, and test functions. ONLY=hide runs those
+# whose names hold the word, BLESS=1 writes what came into the files of tests/.
 test:
+	@python3 scripts/run_tests.py --only "$(ONLY)" $(if $(BLESS),--bless,--functions)
+
+# The gate: proves every crate, runs the tests on the proved programs as both compilers build them, tries the wrong bodies, and makes
+# the static libraries.
+prove:
 	@rt version
+	@python3 scripts/crates.py
 	@bash scripts/examples.sh --check
 	rt ci
+	@python3 scripts/build.py --note
+	@python3 scripts/run_tests.py --programs 'crates/{}/out/{}'
+	@python3 scripts/run_tests.py --programs 'crates/{}/out/{}.by-rattle'
+	@python3 scripts/wrong_bodies.py --gate
+	@python3 scripts/static_libs.py --after-gate
 
 # Copies the examples to where the gate runs programs on them.
 examples:
 	@bash scripts/examples.sh
 
-# Tries the wrong bodies that the gate does not try. CRATES may name some crates.
+# Tries all wrong bodies, over the libraries that make prove left. CRATES may name some crates.
 wrong-bodies:
-	@bash scripts/wrong_bodies.sh $(CRATES)
+	@python3 scripts/wrong_bodies.py $(CRATES)
 
 # Proves the programs and leaves them at crates/vt_replay/out/vt_replay, crates/segyolant/out/segyolant and
-# crates/segyolant_log/out/segyolant_log.
+# crates/segyolant_log/out/segyolant_log. Nothing is proved again that make prove has proved on this machine.
 build:
-	cd crates/vt_replay && rt run -- --version
-	cd crates/segyolant && rt run -- --version
-	cd crates/segyolant_log && rt run -- --version
+	@python3 scripts/build.py
 
 # Times the proved program on a million lines, read and ignored, answered with a new screen each, and answered with
 # macros, and pools written and read.
@@ -66,13 +77,13 @@ bench-counts: build
 refuse-memory:
 	@python3 scripts/refuse_memory.py
 
-# Makes the static libraries for C, and tests them by the programs of examples/c, examples/cpp and bindings/rust. CASES may name
-# folders of stored runs. LIBS=--after-gate takes what rt ci has just proved in this tree, and proves the two libraries alone.
+# Tests the static libraries for C by the programs of examples/c, examples/cpp and bindings/rust, and makes them first where they are
+# not made. CASES may name folders of stored runs.
 test-c:
-	@python3 scripts/static_libs.py $(LIBS)
+	@python3 scripts/static_libs.py
 	@python3 scripts/test_c.py $(foreach folder,$(CASES),--cases $(folder))
 
-# Proves the static libraries for aarch64 and leaves them at crates/*/out/aarch64-unknown-linux-gnu, over the libraries that make test
+# Proves the static libraries for aarch64 and leaves them at crates/*/out/aarch64-unknown-linux-gnu, over the libraries that make prove
 # or make test-c left in this tree. make test-c then runs them too, if qemu-aarch64 and aarch64-linux-gnu-gcc are there.
 libs-aarch64:
 	@python3 scripts/static_libs.py --target aarch64-unknown-linux-gnu

@@ -105,8 +105,10 @@ def map_with(crates, text):
     """docs/ARCHITECTURE.md with these uses and counts, and the crates that its table lacks."""
     def row(match):
         name = match[1]
+        if name not in crates:
+            return match[0]
         uses = ''.join(f' {it},' for it in highest(name, crates)).removesuffix(',')
-        return f'| {name} |{uses} | {match[3]} |' if name in crates else match[0]
+        return f'| {name} |{uses} | {match[3]} |'
     head, mark, rest = text.partition('| Crate | Uses | What it does |')
     table, end, rest = rest.partition('\n\n')
     table = re.sub(r'^\| (\w+) \| ([^|]*)\| (.*) \|$', row, table, flags=re.M)

@@ -3,33 +3,24 @@
 
 `rt lib` makes them over the libraries below, which it proves first where they are not kept. After `rt ci` those are there, proved in
 that very run, but without the stamp that says what they were made from, since a later edit would not be seen. So with --after-gate
-they are taken as the gate left them: only right behind `rt ci` in the same tree, with no edit in between.
+they are taken as the gate left them: only right behind `rt ci` in the same tree, with no edit in between. A library whose checksum is
+that of its sources is left as it is.
 
 With --target the libraries are made for another processor, as out/TARGET/libNAME.a. They are proved for it too, over the libraries
 below that are there, as with --after-gate.
 """
 import argparse
 import concurrent.futures
-import importlib.util
 import os
-import shutil
 import subprocess
 import sys
 
 sys.dont_write_bytecode = True
 
-ROOT = os.path.dirname(os.path.dirname(os.path.abspath(__file__)))
+from quick import ROOT, kit_module, sum_of, text_of  # noqa: E402
+
 LIBRARIES = ['vt_terminal', 'vt_check']
-
-
-def kit_module():
-    """The module of the toolchain behind `rt`."""
-    folder = os.path.dirname(os.path.realpath(shutil.which('rt')))
-    spec = importlib.util.spec_from_file_location('rtlib', f'{folder}/rtlib.py')
-    module = importlib.util.module_from_spec(spec)
-    sys.modules['rtlib'] = module
-    spec.loader.exec_module(module)
-    return module
+PARTS = ('src', 'specs', 'proofs')
 
 
 def make_over_gate(name):
@@ -52,11 +43,19 @@ def make_for(name, target):
 
 
 def make(name, after_gate, target):
-    """Makes a library in a process of its own, and returns its status and what it said."""
+    """Makes a library in a process of its own unless it is made, and returns its status and what it said."""
+    folder = f'{ROOT}/crates/{name}/out' + (f'/{target}' if target else '')
+    stamp = f'{folder}/lib{name}.sum'
+    if os.path.exists(f'{folder}/lib{name}.a') and text_of(stamp) == sum_of(name, PARTS):
+        return 0, ''
+    made_from = sum_of(name, PARTS)
     words = ['rt', 'lib', '--jobs', '2']
     if after_gate or target:
         words = [sys.executable, os.path.abspath(__file__), '--one', name, *(['--target', target] if target else [])]
     ran = subprocess.run(words, cwd=f'{ROOT}/crates/{name}', stdout=subprocess.PIPE, stderr=subprocess.STDOUT, text=True)
+    if ran.returncode == 0:
+        with open(stamp, 'w', encoding='utf-8') as file:
+            file.write(made_from)
     return ran.returncode, ran.stdout
 
 

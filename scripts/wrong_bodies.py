@@ -27,6 +27,12 @@ FUNCTION = re.compile(r'^(?P<indent> *)(?:pub(?:\([^)]*\))? )?(?:const |unsafe |
 IMPL = re.compile(r'^impl(?:<[^{]*?>)? (?:(?P<trait>[\w:]+)(?:<[^{]*?>)? for )?(?P<type>\w+)', re.M)
 
 
+def module_of(file):
+    """The module that a file of a crate is, as the parts of its path."""
+    parts = re.sub(r'^src/|/mod\.rt$|\.rt$', '', file).split('/')
+    return [] if parts in (['lib'], ['main']) else parts
+
+
 class BadEdit(Exception):
     """An edit that changes no function of the crate."""
 
@@ -61,12 +67,16 @@ class Edit:
         above = [it for it in FUNCTION.finditer(text) if it.start() < at]
         if not above:
             raise BadEdit(f'{self}: its first change is in no function')
-        module = re.sub(r'^src/|\.rt$|/mod(?=\.rt$)', '', file).replace('/', '::')
-        parts = [] if module in ('lib', 'main') else [module]
-        if above[-1]['indent']:
-            impl = [it for it in IMPL.finditer(text) if it.start() < above[-1].start()][-1]
-            parts.append(impl['type'] + (impl['trait'] or '').split('::')[-1])
-        return '::'.join([*parts, above[-1]['name']])
+        if not above[-1]['indent']:
+            return '::'.join([*module_of(file), above[-1]['name']])
+        impl = [it for it in IMPL.finditer(text) if it.start() < above[-1].start()][-1]
+        if impl['trait']:
+            return '::'.join([*module_of(file), impl['type'] + impl['trait'].split('::')[-1], above[-1]['name']])
+        # (a method is named by the module that declares its type, wherever it is written)
+        files = glob.glob(f'{ROOT}/crates/{self.crate}/src/**/*.rt', recursive=True)
+        declared = [it for it in files if re.search(rf'^(pub(\([^)]*\))? )?(struct|enum) {impl["type"]}\b', text_of(it), re.M)]
+        own = declared[0].split(f'/{self.crate}/')[1] if declared else file
+        return '::'.join([*module_of(own), impl['type'], above[-1]['name']])
 
     def __str__(self):
         return f'{self.crate}/{self.name}'

@@ -5,6 +5,7 @@ import re
 
 from c.programs import EXAMPLES, ROOT, run
 from c.results import PassedOver, difference, expect, pass_over, read
+from testing import lines, sessions
 
 # The options of vt_replay that replay.c lacks.
 LACKING = {'--report', '--help', '-h', '--version', '-V'}
@@ -36,16 +37,15 @@ class Run:
 
 
 def stored_runs():
-    """The runs that the gate compares."""
-    folder = f'{ROOT}/crates/vt_examples'
-    given = read(f'{folder}/stdin')
-    blocks = re.findall(rb'^\$ vt_replay([^\n]*)\n(.*?)^status (\d+)\n', read(f'{folder}/stdout'), re.M | re.S)
-    for words, text, status in blocks:
-        words = words.decode().split()
-        yield Run(' '.join(words) or 'no words', words, f'{folder}/data', text, int(status), given, has_messages=True)
-    folder = f'{ROOT}/crates/vt_replay'
-    words = read(f'{folder}/args').decode().split()
-    yield Run('vt_replay ' + ' '.join(words), words, f'{folder}/data', read(f'{folder}/stdout'), 0)
+    """The runs of vt_replay on the examples that the tests compare."""
+    blocks = sessions.blocks_of(read(f'{ROOT}/tests/vt_replay/examples.run').decode())
+    given = next(block.data() for block in blocks if block.head == 'file given')
+    for block in blocks:
+        if block.head.startswith('$ vt_replay'):
+            words = block.head.removesuffix(' < given').split()[2:]
+            text = b''.join(lines.bytes_of(line[1:]) for _, line in block.body if line[0] in '|!')
+            status = next((int(line.split()[1]) for _, line in block.body if line.startswith('status ')), 0)
+            yield Run(' '.join(words) or 'no words', words, EXAMPLES, text, status, given, has_messages=True)
 
 
 def case_runs(folder):

@@ -1,5 +1,4 @@
-//! Replays the logs of `examples/` and compares the text with the one that the repository keeps of the proved program
-//! (`crates/vt_examples/stdout`).
+//! Replays the logs of `examples/` and compares the text with what the tests expect of the program (`tests/vt_replay/examples.run`).
 
 use segyolant::{Error, Frame, Output, Outputs, Terminal};
 use std::fmt::Write;
@@ -17,10 +16,17 @@ fn read(path: &str) -> Vec<u8> {
 
 /// What the program prints for these words: the lines of screens, frames and refusals.
 fn printed(words: &str) -> String {
-    let all = String::from_utf8(read("crates/vt_examples/stdout")).expect("text");
-    let from = all.find(words).expect("a run with these words") + words.len() + 1;
-    let to = all[from..].find("lines ").expect("the end of the run");
-    all[from..from + to].to_string()
+    let all = String::from_utf8(read("tests/vt_replay/examples.run")).expect("text");
+    let mut lines = all.lines().skip_while(|line| *line != words).skip(1);
+    let mut text = String::new();
+    while let Some(line) = lines.next().and_then(|line| line.strip_prefix("| ")) {
+        if line.starts_with("lines ") {
+            return text;
+        }
+        text.push_str(line);
+        text.push('\n');
+    }
+    panic!("no run with these words: {words}");
 }
 
 /// The frame and the time of a line such as `(1.000000) can0 14E72680#A0640000FFFFFFFF`.
