@@ -1,5 +1,5 @@
 #!/usr/bin/env python3
-"""Writes the proofs of the exports of vt_terminal: each lends the session behind an opaque pointer to one safe function.
+"""Writes the proofs of the exports of vt_terminal: each lends the session behind an opaque pointer to one safe function of vt_session.
 
 walks.py            writes crates/vt_terminal/proofs/EXPORT/Proof.antt for each export; `rt tidy vt_terminal` then drops
                     unused imports and formats them
@@ -110,11 +110,11 @@ use denote.Triple.Entry.{{on_entry}}
 use denote.Triple.Spec.{{triple_of}}
 use denote.Triple.Walked.{{Stays, walk_of, says, stay_dropped, Goes-dropped, ends_at}}
 use denote.Triple.Table.{{framed}}
-use Rattle.vt_terminal.specs.Calls.{{{relation}}}
-use Rattle.vt_terminal.specs.declared.session.Session.{{Session}}
-use Rattle.vt_terminal.specs.contracts.session.Session.{{the_row as R}}
-use Rattle.vt_terminal.specs.contracts.{dots} as g
-use Rattle.vt_terminal.proofs.{dots}.Met.{{met}}
+use Rattle.vt_session.specs.Calls.{{{relation}}}
+use Rattle.vt_session.specs.declared.session.Session.{{Session}}
+use Rattle.vt_session.specs.contracts.session.Session.{{the_row as R}}
+use Rattle.vt_session.specs.contracts.{dots} as g
+use Rattle.vt_session.proofs.{dots}.Met.{{met}}
 use Rattle.vt_terminal.specs.contracts.{export} as f
 use Rattle.vt_terminal.proofs.{export}.Statement.{{statement}}
 use Rattle.vt_terminal.proofs.{export}.Code as code
@@ -147,7 +147,7 @@ pub {export}_spec : {{M : Type 1}} → statement M
     let z : G.Ghost = (((κ, tt), (full_share, tt), tt, {zargs}, {zvals}), tt) in
     {owns} move ! (1 ∷ 0 ∷ []) $ fjoin ! $
     nothing ! $ move ! (3 ∷ 0 ∷ []) $ join ! $ join ! $ nothing ! $ move ! (1 ∷ 0 ∷ []) $ join ! $ use1 𝓛 (raw (G.pre z)) (id⊢ 𝓤 (G.pre z)) $
-    calls_at ! (framed 𝓤 𝓛.H 𝓜 𝓣) G (met 𝓤 𝓛 𝓜 𝓡 (code.calls-vt_terminal::{callee} 𝓡.env wired)) z {opds} (λ v.
+    calls_at ! (framed 𝓤 𝓛.H 𝓜 𝓣) G (met 𝓤 𝓛 𝓜 𝓡 (code.calls-vt_session::{callee} 𝓡.env wired)) z {opds} (λ v.
     use1 𝓛 (later (some (λ (n : ℕ). ((‵ (flft κ full_share) ⊛ ‵ ftrue) ⊛ ‵ ({result}.own_val n (v ∷ []))) ⊛
     some (λ (ws : Lasts g.ended z.0.0 z.0.3). ‵ (lasts g.ended z.0.0 z.0.3 ws) ⊛ raw (fact 𝓤 ({said('ws.0', 'n')})))))) (id⊢ 𝓤 _) $
     await ! tt $ pick ! (λ n. split ! $ split ! $ split ! $ lft_end ! tt $ move ! (2 ∷ []) $ peeks ! {result} (Is {result}) (shows 𝓛 {result}) n (v ∷ []) (λ is.
@@ -200,10 +200,10 @@ use denote.Triple.Entry.{{on_entry}}
 use denote.Triple.Spec.{{triple_of}}
 use denote.Triple.Walked.{{Stays, walk_of, says, stay_dropped, Goes-dropped, ends_at}}
 use denote.Triple.Table.{{framed}}
-use Rattle.vt_terminal.specs.{module}.{{{relation}}}
-use Rattle.vt_terminal.specs.contracts.session.Session.{{the_row as R}}
-use Rattle.vt_terminal.specs.contracts.{dots} as g
-use Rattle.vt_terminal.proofs.{dots}.Met.{{met}}
+use Rattle.vt_session.specs.{module}.{{{relation}}}
+use Rattle.vt_session.specs.contracts.session.Session.{{the_row as R}}
+use Rattle.vt_session.specs.contracts.{dots} as g
+use Rattle.vt_session.proofs.{dots}.Met.{{met}}
 use Rattle.vt_terminal.specs.contracts.{export} as f
 use Rattle.vt_terminal.proofs.{export}.Statement.{{statement}}
 use Rattle.vt_terminal.proofs.{export}.Code as code
@@ -241,7 +241,7 @@ pub {export}_spec : {{M : Type 1}} → statement M
     let z : G.Ghost = (((κ, (κs.0, tt)), (full_share, (qs.0, tt)), tt, (r, (k, (x, tt))), (vptr b o ∷ [], (vint w32 k ∷ [], (shr_slice_vals x, tt)))), tt) in
     move ! (3 ∷ []) $ nothing ! $ move ! (1 ∷ 0 ∷ []) $ fjoin ! $ owned ! u32 (Is u32) (uint_Makes 𝓛 w32) k _ (refl, fits) $ fjoin ! $ move ! (1 ∷ 0 ∷ []) $ fjoin ! $
     nothing ! $ move ! (4 ∷ 0 ∷ []) $ join ! $ move ! (3 ∷ 0 ∷ []) $ join ! $ join ! $ nothing ! $ move ! (1 ∷ 0 ∷ []) $ join ! $ use1 𝓛 (raw (G.pre z)) (id⊢ 𝓤 (G.pre z)) $
-    calls_at ! (framed 𝓤 𝓛.H 𝓜 𝓣) G (met 𝓤 𝓛 𝓜 𝓡 (code.calls-vt_terminal::{callee} 𝓡.env wired)) z (and_then ! (get ! refl) (and_then ! (get ! refl) (and_then ! (get ! refl) (no_more !)))) (λ v.
+    calls_at ! (framed 𝓤 𝓛.H 𝓜 𝓣) G (met 𝓤 𝓛 𝓜 𝓡 (code.calls-vt_session::{callee} 𝓡.env wired)) z (and_then ! (get ! refl) (and_then ! (get ! refl) (and_then ! (get ! refl) (no_more !)))) (λ v.
     use1 𝓛 (later (some (λ (n : ℕ). ((‵ (flft κ full_share) ⊛ ‵ (flft κs.0 qs.0) ⊛ ‵ ftrue) ⊛ ‵ (u32.own_val n (v ∷ []))) ⊛
     some (λ (ws : Lasts g.ended z.0.0 z.0.3). ‵ (lasts g.ended z.0.0 z.0.3 ws) ⊛ raw (fact 𝓤 ({relation} s k {slice} ws.0 n)))))) (id⊢ 𝓤 _) $
     await ! tt $ pick ! (λ n. split ! $ split ! $ split3 ! $ lft_end ! tt $ move ! (3 ∷ []) $ peeks ! u32 (Is u32) (shows 𝓛 u32) n (v ∷ []) (λ is.
@@ -314,11 +314,11 @@ use borrow.Table.OneValue.{{part_in}}
 use Rattle.std.proofs.cell.Inside.{{Good, one}}
 use Rattle.std.specs.contracts.alloc.Global as heap
 use Rattle.std.proofs.alloc.Global.TheLaws as heap_laws
-use Rattle.vt_terminal.specs.Sessions.{{Begins}}
-use Rattle.vt_terminal.specs.contracts.session.Session.{{the_row as R}}
-use Rattle.vt_terminal.proofs.session.Session.TheLaws.{{the_row_laws as LR}}
-use Rattle.vt_terminal.specs.contracts.session.begin as g
-use Rattle.vt_terminal.proofs.session.begin.Met.{{met}}
+use Rattle.vt_session.specs.Sessions.{{Begins}}
+use Rattle.vt_session.specs.contracts.session.Session.{{the_row as R}}
+use Rattle.vt_session.proofs.session.Session.TheLaws.{{the_row_laws as LR}}
+use Rattle.vt_session.specs.contracts.session.begin as g
+use Rattle.vt_session.proofs.session.begin.Met.{{met}}
 use Rattle.vt_terminal.specs.contracts.vt_init as f
 use Rattle.vt_terminal.proofs.vt_init.Statement.{{statement}}
 use Rattle.vt_terminal.proofs.vt_init.Code as code
@@ -344,7 +344,7 @@ vt_init_spec 𝓤 𝓛 𝓜 𝓡 wired =
     first ! $ blocks ! $ sets ! (of_opd ! (get ! refl)) refl (tt, tt) $
     let G = triple_of 𝓛 g.signature (g.spec 𝓛 𝓜.mem 𝓡.returns) in let y : G.Ghost = ((tt, tt, tt, {ghosts}, {words}), tt) in
     {owns} move ! (2 ∷ 0 ∷ []) $ fjoin ! $ nothing ! $ join ! $ nothing ! $ move ! (1 ∷ 0 ∷ []) $ join ! $ use1 𝓛 (raw (G.pre y)) (id⊢ 𝓤 (G.pre y)) $
-    calls_at ! (framed 𝓤 𝓛.H 𝓜 𝓣) G (met 𝓤 𝓛 𝓜 𝓡 (code.calls-vt_terminal::session::begin 𝓡.env wired)) y {opds} (λ v.
+    calls_at ! (framed 𝓤 𝓛.H 𝓜 𝓣) G (met 𝓤 𝓛 𝓜 𝓡 (code.calls-vt_session::session::begin 𝓡.env wired)) y {opds} (λ v.
     use1 𝓛 (later (some (λ (r : R.Denot). (‵ ftrue ⊛ ‵ (R.own_val r (v ∷ []))) ⊛ some (λ (ws : Lasts g.ended tt {ghosts}). ‵ (lasts g.ended tt {ghosts} ws) ⊛ raw (fact 𝓤 ({said('r')})))))) (id⊢ 𝓤 _) $
     await ! tt $ pick ! (λ r. split ! $ split ! $ drop ! $ peeks ! R (Is R) (shows 𝓛 R) r (v ∷ []) (λ is. let good = ((LR.lawful 𝓛).typed r (v ∷ []) is).0 in
     lands_as ! refl refl good $ move ! (1 ∷ []) $ pick ! (λ _. split ! $ drop ! $ heard ! ({said('r')}) (λ none.
@@ -385,10 +385,10 @@ use denote.Triple.Entry.{on_entry}
 use denote.Triple.Spec.{triple_of}
 use denote.Triple.Walked.{Stays, walk_of, stay_dropped, Goes-dropped, ends_at}
 use denote.Triple.Table.{framed}
-use Rattle.vt_terminal.specs.contracts.session.Session.{the_row as R}
-use Rattle.vt_terminal.proofs.session.Session.TheLaws.{the_row_laws as LR}
-use Rattle.vt_terminal.specs.contracts.session.discard as g
-use Rattle.vt_terminal.proofs.session.discard.Met.{met}
+use Rattle.vt_session.specs.contracts.session.Session.{the_row as R}
+use Rattle.vt_session.proofs.session.Session.TheLaws.{the_row_laws as LR}
+use Rattle.vt_session.specs.contracts.session.discard as g
+use Rattle.vt_session.proofs.session.discard.Met.{met}
 use Rattle.vt_terminal.specs.contracts.vt_done as f
 use Rattle.vt_terminal.proofs.vt_done.Statement.{statement}
 use Rattle.vt_terminal.proofs.vt_done.Code as code
@@ -415,7 +415,7 @@ vt_done_spec 𝓤 𝓛 𝓜 𝓡 wired =
     exec ! 𝓣.C 𝓣.Λ (env code.Mir.locals l) code.Mir.t-2 (at_ret _ (W.post (y (block_ptr b o)))) $ sets ! (of_opd ! (get ! refl)) refl good $
     let G = triple_of 𝓛 g.signature (g.spec 𝓛 𝓜.mem 𝓡.returns) in let z : G.Ghost = ((tt, tt, tt, (s, tt), (v ∷ [], tt)), tt) in
     nothing ! $ move ! (1 ∷ 0 ∷ []) $ fjoin ! $ nothing ! $ join ! $ nothing ! $ move ! (1 ∷ 0 ∷ []) $ join ! $ use1 𝓛 (raw (G.pre z)) (id⊢ 𝓤 (G.pre z)) $
-    calls_at ! (framed 𝓤 𝓛.H 𝓜 𝓣) G (met 𝓤 𝓛 𝓜 𝓡 (code.calls-vt_terminal::session::discard 𝓡.env wired)) z (and_then ! (get ! refl) (no_more !)) (λ u.
+    calls_at ! (framed 𝓤 𝓛.H 𝓜 𝓣) G (met 𝓤 𝓛 𝓜 𝓡 (code.calls-vt_session::session::discard 𝓡.env wired)) z (and_then ! (get ! refl) (no_more !)) (λ u.
     use1 𝓛 (later (some (λ (r : Unit {0}). (‵ ftrue ⊛ ‵ (unit.own_val r (u ∷ []))) ⊛ some (λ (ws : Lasts g.ended tt (s, tt)). ‵ (lasts g.ended tt (s, tt) ws) ⊛ ‵ ftrue)))) (id⊢ 𝓤 _) $
     await ! tt $ pick ! (λ r. split ! $ split ! $ drop ! $ feq_l ! (λ is_unit. lands_as ! (ap only is_unit) refl (tt, tt) $ sets ! (of_opd ! (unit_lit !)) refl (tt, tt) $
     returns ! (look_at ! 0 refl) $ free_all ! refl $ keep ! (1 ∷ []) $ use1 𝓛 (‵ (froom (lone R.mir) b o)) (𝓛.laws.at_room (lone R.mir) b o v) $

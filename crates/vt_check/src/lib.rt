@@ -3,27 +3,19 @@
 //! Each function takes bytes and keeps nothing. docs/EMBEDDING.md explains the calls, and include/vt_check.h declares them for C.
 #![tactic(auto)]
 
-ghost use Rattle.std.specs.Prelude.{◌≡◌, IfOk};
-ghost use Rattle.vt_check.specs.Findings.{AreFindingsOf, Finds};
-ghost use Rattle.vt_check.specs.Texts.{Draws, Reports};
-ghost use Rattle.vt_check.specs.Verdicts.{Judges};
+ghost use Rattle.vt_verdicts.specs.Findings.{Finds};
+ghost use Rattle.vt_verdicts.specs.Texts.{Draws, Reports};
+ghost use Rattle.vt_verdicts.specs.Verdicts.{Judges};
 
-mod copying;
-mod findings;
-mod screen;
-mod text;
-mod verdict;
-
-use std::alloc::{AllocError, Global};
-pub use verdict::VtVerdict;
-use vt_inspect::inspect;
+use std::alloc::Global;
+use vt_verdicts::{VtVerdict, judge_pool, write_findings, write_report, write_screen};
 
 /// Judges an object pool.
 #[unsafe(no_mangle)]
 pub extern "C" fn vt_check_pool(alloc: Global, bytes: &[u8], verdict: &mut VtVerdict)
     ensures { Judges bytes.now verdict.new }
 {
-    *verdict = verdict::judged(alloc, bytes);
+    *verdict = judge_pool(alloc, bytes);
 }
 
 /// Writes all findings of an object pool, as far as there is room: the faults of records first, and then the broken rules in their
@@ -32,21 +24,7 @@ pub extern "C" fn vt_check_pool(alloc: Global, bytes: &[u8], verdict: &mut VtVer
 pub extern "C" fn vt_findings(alloc: Global, bytes: &[u8], findings: &mut [VtVerdict]) -> u64
     ensures { Finds bytes.now findings.old findings.new result }
 {
-    match found(alloc, bytes) {
-        Ok(all) => {
-            copying::write_over(&all, findings);
-            all.len() as u64
-        }
-        Err(_) => u64::MAX,
-    }
-}
-
-/// All findings in numbers.
-fn found(alloc: Global, bytes: &[u8]) -> Result<Vec<VtVerdict>, AllocError>
-    ensures { IfOk result (λ all. AreFindingsOf bytes.now all.items) }
-{
-    let inspection = inspect(alloc, bytes)?;
-    findings::all_told(alloc, &inspection.findings)
+    write_findings(alloc, bytes, findings)
 }
 
 /// Writes the report of an object pool, or the line of its fault or refusal, as far as there is room. Returns the number of bytes of
@@ -55,7 +33,7 @@ fn found(alloc: Global, bytes: &[u8]) -> Result<Vec<VtVerdict>, AllocError>
 pub extern "C" fn vt_report(alloc: Global, bytes: &[u8], text: &mut [u8]) -> u64
     ensures { Reports bytes.now text.old text.new result }
 {
-    copying::copied(text::report(alloc, bytes), text)
+    write_report(alloc, bytes, text)
 }
 
 /// Writes the screen of an accepted pool at an address, as far as there is room: as it is after a Change Active Mask to a mask, with
@@ -71,9 +49,5 @@ pub extern "C" fn vt_draw(
 ) -> u64
     ensures { Draws bytes.now address mask text.old text.new result }
 {
-    match screen::screen(alloc, bytes, address, mask) {
-        Ok(Some(screen)) => copying::copied(Ok(screen), text),
-        Ok(None) => 0,
-        Err(_) => u64::MAX,
-    }
+    write_screen(alloc, bytes, address, mask, text)
 }

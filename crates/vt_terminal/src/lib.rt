@@ -8,19 +8,14 @@ ghost use Rattle.std.specs.Prelude.{◌≡◌};
 ghost use Rattle.std.specs.Borrow.{full_share, sem};
 ghost use Rattle.std.specs.Mem.{type_size};
 ghost use Rattle.std.specs.Ptr.{lies_at, room_at};
-ghost use Rattle.vt_terminal.specs.contracts.session.Session.{the_row};
-ghost use Rattle.vt_terminal.specs.Calls.{Acts, Claims, Draws, Hears, Nexts, TellsCount, TellsData, TellsDeadline, TellsId, TellsLost, TellsRedraws, TellsShown, SendsStatus, TellsWord, Texts, Ticks};
-ghost use Rattle.vt_terminal.specs.Preloads.{Preloads};
-ghost use Rattle.vt_terminal.specs.Sessions.{Begins};
+ghost use Rattle.vt_session.specs.contracts.session.Session.{the_row};
+ghost use Rattle.vt_session.specs.Calls.{Acts, Claims, Draws, Hears, Nexts, TellsCount, TellsData, TellsDeadline, TellsId, TellsLost, TellsRedraws, TellsShown, SendsStatus, TellsWord, Texts, Ticks};
+ghost use Rattle.vt_session.specs.Preloads.{Preloads};
+ghost use Rattle.vt_session.specs.Sessions.{Begins};
 
-mod outputs;
-mod preload;
-mod screen;
-mod session;
-mod status;
-
-use session::Session;
 use std::alloc::Global;
+use vt_session::session::Session;
+use vt_session::{outputs, preload, screen, session};
 
 /// A terminal behind a pointer.
 #[repr(C)]

@@ -24,10 +24,10 @@ use denote.Triple.Entry.{on_entry}
 use denote.Triple.Spec.{triple_of}
 use denote.Triple.Walked.{Stays, walk_of, stay_dropped, Goes-dropped, ends_at}
 use denote.Triple.Table.{framed}
-use Rattle.vt_terminal.specs.contracts.session.Session.{the_row as R}
-use Rattle.vt_terminal.proofs.session.Session.TheLaws.{the_row_laws as LR}
-use Rattle.vt_terminal.specs.contracts.session.discard as g
-use Rattle.vt_terminal.proofs.session.discard.Met.{met}
+use Rattle.vt_session.specs.contracts.session.Session.{the_row as R}
+use Rattle.vt_session.proofs.session.Session.TheLaws.{the_row_laws as LR}
+use Rattle.vt_session.specs.contracts.session.discard as g
+use Rattle.vt_session.proofs.session.discard.Met.{met}
 use Rattle.vt_terminal.specs.contracts.vt_done as f
 use Rattle.vt_terminal.proofs.vt_done.Statement.{statement}
 use Rattle.vt_terminal.proofs.vt_done.Code as code
@@ -54,7 +54,7 @@ vt_done_spec 𝓤 𝓛 𝓜 𝓡 wired =
     exec ! 𝓣.C 𝓣.Λ (env code.Mir.locals l) code.Mir.t-2 (at_ret _ (W.post (y (block_ptr b o)))) $ sets ! (of_opd ! (get ! refl)) refl good $
     let G = triple_of 𝓛 g.signature (g.spec 𝓛 𝓜.mem 𝓡.returns) in let z : G.Ghost = ((tt, tt, tt, (s, tt), (v ∷ [], tt)), tt) in
     nothing ! $ move ! (1 ∷ 0 ∷ []) $ fjoin ! $ nothing ! $ join ! $ nothing ! $ move ! (1 ∷ 0 ∷ []) $ join ! $ use1 𝓛 (raw (G.pre z)) (id⊢ 𝓤 (G.pre z)) $
-    calls_at ! (framed 𝓤 𝓛.H 𝓜 𝓣) G (met 𝓤 𝓛 𝓜 𝓡 (code.calls-vt_terminal::session::discard 𝓡.env wired)) z (and_then ! (get ! refl) (no_more !)) (λ u.
+    calls_at ! (framed 𝓤 𝓛.H 𝓜 𝓣) G (met 𝓤 𝓛 𝓜 𝓡 (code.calls-vt_session::session::discard 𝓡.env wired)) z (and_then ! (get ! refl) (no_more !)) (λ u.
     use1 𝓛 (later (some (λ (r : Unit {0}). (‵ ftrue ⊛ ‵ (unit.own_val r (u ∷ []))) ⊛ some (λ (ws : Lasts g.ended tt (s, tt)). ‵ (lasts g.ended tt (s, tt) ws) ⊛ ‵ ftrue)))) (id⊢ 𝓤 _) $
     await ! tt $ pick ! (λ r. split ! $ split ! $ drop ! $ feq_l ! (λ is_unit. lands_as ! (ap only is_unit) refl (tt, tt) $ sets ! (of_opd ! (unit_lit !)) refl (tt, tt) $
     returns ! (look_at ! 0 refl) $ free_all ! refl $ keep ! (1 ∷ []) $ use1 𝓛 (‵ (froom (lone R.mir) b o)) (𝓛.laws.at_room (lone R.mir) b o v) $

@@ -31,10 +31,10 @@ use denote.Triple.Entry.{on_entry}
 use denote.Triple.Spec.{triple_of}
 use denote.Triple.Walked.{Stays, walk_of, says, stay_dropped, Goes-dropped, ends_at}
 use denote.Triple.Table.{framed}
-use Rattle.vt_terminal.specs.Calls.{Hears}
-use Rattle.vt_terminal.specs.contracts.session.Session.{the_row as R}
-use Rattle.vt_terminal.specs.contracts.session.hear as g
-use Rattle.vt_terminal.proofs.session.hear.Met.{met}
+use Rattle.vt_session.specs.Calls.{Hears}
+use Rattle.vt_session.specs.contracts.session.Session.{the_row as R}
+use Rattle.vt_session.specs.contracts.session.hear as g
+use Rattle.vt_session.proofs.session.hear.Met.{met}
 use Rattle.vt_terminal.specs.contracts.vt_hear as f
 use Rattle.vt_terminal.proofs.vt_hear.Statement.{statement}
 use Rattle.vt_terminal.proofs.vt_hear.Code as code
@@ -67,7 +67,7 @@ vt_hear_spec 𝓤 𝓛 𝓜 𝓡 wired =
     let z : G.Ghost = (((κ, tt), (full_share, tt), tt, (r, (x1, (x2, (x3, (x4, tt))))), (vptr b o ∷ [], (vint w64 x1 ∷ [], (vint w32 x2 ∷ [], (vint w32 x3 ∷ [], (vint w64 x4 ∷ [], tt)))))), tt) in
     nothing ! $ owned ! u64 (Is u64) (uint_Makes 𝓛 w64) x4 _ (refl, fits4) $ fjoin ! $ owned ! u32 (Is u32) (uint_Makes 𝓛 w32) x3 _ (refl, fits3) $ fjoin ! $ owned ! u32 (Is u32) (uint_Makes 𝓛 w32) x2 _ (refl, fits2) $ fjoin ! $ owned ! u64 (Is u64) (uint_Makes 𝓛 w64) x1 _ (refl, fits1) $ fjoin ! $ move ! (1 ∷ 0 ∷ []) $ fjoin ! $
     nothing ! $ move ! (3 ∷ 0 ∷ []) $ join ! $ join ! $ nothing ! $ move ! (1 ∷ 0 ∷ []) $ join ! $ use1 𝓛 (raw (G.pre z)) (id⊢ 𝓤 (G.pre z)) $
-    calls_at ! (framed 𝓤 𝓛.H 𝓜 𝓣) G (met 𝓤 𝓛 𝓜 𝓡 (code.calls-vt_terminal::session::hear 𝓡.env wired)) z (and_then ! (get ! refl) (and_then ! (get ! refl) (and_then ! (get ! refl) (and_then ! (get ! refl) (and_then ! (get ! refl) (no_more !)))))) (λ v.
+    calls_at ! (framed 𝓤 𝓛.H 𝓜 𝓣) G (met 𝓤 𝓛 𝓜 𝓡 (code.calls-vt_session::session::hear 𝓡.env wired)) z (and_then ! (get ! refl) (and_then ! (get ! refl) (and_then ! (get ! refl) (and_then ! (get ! refl) (and_then ! (get ! refl) (no_more !)))))) (λ v.
     use1 𝓛 (later (some (λ (n : ℕ). ((‵ (flft κ full_share) ⊛ ‵ ftrue) ⊛ ‵ (u32.own_val n (v ∷ []))) ⊛
     some (λ (ws : Lasts g.ended z.0.0 z.0.3). ‵ (lasts g.ended z.0.0 z.0.3 ws) ⊛ raw (fact 𝓤 (Hears s x1 x2 x3 x4 ws.0 n)))))) (id⊢ 𝓤 _) $
     await ! tt $ pick ! (λ n. split ! $ split ! $ split ! $ lft_end ! tt $ move ! (2 ∷ []) $ peeks ! u32 (Is u32) (shows 𝓛 u32) n (v ∷ []) (λ is.

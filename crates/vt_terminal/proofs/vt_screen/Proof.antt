@@ -31,10 +31,10 @@ use denote.Triple.Entry.{on_entry}
 use denote.Triple.Spec.{triple_of}
 use denote.Triple.Walked.{Stays, walk_of, says, stay_dropped, Goes-dropped, ends_at}
 use denote.Triple.Table.{framed}
-use Rattle.vt_terminal.specs.Calls.{Draws}
-use Rattle.vt_terminal.specs.contracts.session.Session.{the_row as R}
-use Rattle.vt_terminal.specs.contracts.screen.screen as g
-use Rattle.vt_terminal.proofs.screen.screen.Met.{met}
+use Rattle.vt_session.specs.Calls.{Draws}
+use Rattle.vt_session.specs.contracts.session.Session.{the_row as R}
+use Rattle.vt_session.specs.contracts.screen.screen as g
+use Rattle.vt_session.proofs.screen.screen.Met.{met}
 use Rattle.vt_terminal.specs.contracts.vt_screen as f
 use Rattle.vt_terminal.proofs.vt_screen.Statement.{statement}
 use Rattle.vt_terminal.proofs.vt_screen.Code as code
@@ -66,7 +66,7 @@ vt_screen_spec 𝓤 𝓛 𝓜 𝓡 wired =
     let z : G.Ghost = (((κ, tt), (full_share, tt), tt, (r, tt), (vptr b o ∷ [], tt)), tt) in
     nothing ! $ move ! (1 ∷ 0 ∷ []) $ fjoin ! $
     nothing ! $ move ! (3 ∷ 0 ∷ []) $ join ! $ join ! $ nothing ! $ move ! (1 ∷ 0 ∷ []) $ join ! $ use1 𝓛 (raw (G.pre z)) (id⊢ 𝓤 (G.pre z)) $
-    calls_at ! (framed 𝓤 𝓛.H 𝓜 𝓣) G (met 𝓤 𝓛 𝓜 𝓡 (code.calls-vt_terminal::screen::screen 𝓡.env wired)) z (and_then ! (get ! refl) (no_more !)) (λ v.
+    calls_at ! (framed 𝓤 𝓛.H 𝓜 𝓣) G (met 𝓤 𝓛 𝓜 𝓡 (code.calls-vt_session::screen::screen 𝓡.env wired)) z (and_then ! (get ! refl) (no_more !)) (λ v.
     use1 𝓛 (later (some (λ (n : ℕ). ((‵ (flft κ full_share) ⊛ ‵ ftrue) ⊛ ‵ (u64.own_val n (v ∷ []))) ⊛
     some (λ (ws : Lasts g.ended z.0.0 z.0.3). ‵ (lasts g.ended z.0.0 z.0.3 ws) ⊛ raw (fact 𝓤 (Draws s ws.0 n)))))) (id⊢ 𝓤 _) $
     await ! tt $ pick ! (λ n. split ! $ split ! $ split ! $ lft_end ! tt $ move ! (2 ∷ []) $ peeks ! u64 (Is u64) (shows 𝓛 u64) n (v ∷ []) (λ is.

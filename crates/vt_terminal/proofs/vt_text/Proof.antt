@@ -32,10 +32,10 @@ use denote.Triple.Clauses.{Lasts, lasts}
 use denote.Triple.Spec.{triple_of}
 use denote.Triple.Walked.{Stays, walk_of, says, stay_dropped, Goes-dropped, ends_at}
 use denote.Triple.Table.{framed}
-use Rattle.vt_terminal.specs.Calls.{Texts}
-use Rattle.vt_terminal.specs.contracts.session.Session.{the_row as R}
-use Rattle.vt_terminal.specs.contracts.session.text as g
-use Rattle.vt_terminal.proofs.session.text.Met.{met}
+use Rattle.vt_session.specs.Calls.{Texts}
+use Rattle.vt_session.specs.contracts.session.Session.{the_row as R}
+use Rattle.vt_session.specs.contracts.session.text as g
+use Rattle.vt_session.proofs.session.text.Met.{met}
 use Rattle.vt_terminal.specs.contracts.vt_text as f
 use Rattle.vt_terminal.proofs.vt_text.Statement.{statement}
 use Rattle.vt_terminal.proofs.vt_text.Code as code
@@ -73,7 +73,7 @@ vt_text_spec 𝓤 𝓛 𝓜 𝓡 wired =
     let z : G.Ghost = (((κ, (κs.0, tt)), (full_share, (qs.0, tt)), tt, (r, (k, (x, tt))), (vptr b o ∷ [], (vint w32 k ∷ [], (shr_slice_vals x, tt)))), tt) in
     move ! (3 ∷ []) $ nothing ! $ move ! (1 ∷ 0 ∷ []) $ fjoin ! $ owned ! u32 (Is u32) (uint_Makes 𝓛 w32) k _ (refl, fits) $ fjoin ! $ move ! (1 ∷ 0 ∷ []) $ fjoin ! $
     nothing ! $ move ! (4 ∷ 0 ∷ []) $ join ! $ move ! (3 ∷ 0 ∷ []) $ join ! $ join ! $ nothing ! $ move ! (1 ∷ 0 ∷ []) $ join ! $ use1 𝓛 (raw (G.pre z)) (id⊢ 𝓤 (G.pre z)) $
-    calls_at ! (framed 𝓤 𝓛.H 𝓜 𝓣) G (met 𝓤 𝓛 𝓜 𝓡 (code.calls-vt_terminal::session::text 𝓡.env wired)) z (and_then ! (get ! refl) (and_then ! (get ! refl) (and_then ! (get ! refl) (no_more !)))) (λ v.
+    calls_at ! (framed 𝓤 𝓛.H 𝓜 𝓣) G (met 𝓤 𝓛 𝓜 𝓡 (code.calls-vt_session::session::text 𝓡.env wired)) z (and_then ! (get ! refl) (and_then ! (get ! refl) (and_then ! (get ! refl) (no_more !)))) (λ v.
     use1 𝓛 (later (some (λ (n : ℕ). ((‵ (flft κ full_share) ⊛ ‵ (flft κs.0 qs.0) ⊛ ‵ ftrue) ⊛ ‵ (u32.own_val n (v ∷ []))) ⊛
     some (λ (ws : Lasts g.ended z.0.0 z.0.3). ‵ (lasts g.ended z.0.0 z.0.3 ws) ⊛ raw (fact 𝓤 (Texts s k x ws.0 n)))))) (id⊢ 𝓤 _) $
     await ! tt $ pick ! (λ n. split ! $ split ! $ split3 ! $ lft_end ! tt $ move ! (3 ∷ []) $ peeks ! u32 (Is u32) (shows 𝓛 u32) n (v ∷ []) (λ is.

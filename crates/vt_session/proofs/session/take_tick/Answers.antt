@@ -1,0 +1,42 @@
+use Rattle.std.proofs.Common.{ℕ, List, [], inl, inr, drop, refl, ap, subst, ◌∙◌}
+use Rattle.std.proofs.lemmas.Bool.{false≢true}
+use Rattle.vt_server.specs.declared.output.Output.{Output}
+use Rattle.vt_server.specs.States.{state_of, TakesInput, TakesInputs}
+use Rattle.vt_session.specs.Inputs.{tick_at, ticks}
+use Rattle.vt_session.proofs.Queue.{from_first}
+use Rattle.vt_session.proofs.Takings.{one_taken}
+use Rattle.vt_session.proofs.session.take_tick.Goals as goal
+
+pub returns-in-Ok : goal.returns-in-Ok
+returns-in-Ok c =
+    let old = state_of c.args.session.now.terminal in
+    let new = state_of c.tick.new.self in
+    let input = tick_at c.args.session.now c.args.time in
+    let all = from_first c.tick.new.outputs.items c.args.session.now.next c.requires.first in
+    let steps : TakesInputs old (ticks c.args.session.now c.args.time) new [] (drop c.args.session.now.next c.tick.new.outputs.items) =
+    subst (λ (sent : List Output). TakesInputs old (ticks c.args.session.now c.args.time) new [] sent) all
+    (one_taken old new input [] c.tick.new.outputs.items
+    (subst (λ (before : List Output). TakesInput old input new before c.tick.new.outputs.items) c.requires.none c.in-Ok.ensures.ok)) in
+    inl (
+      refl,
+      record {
+        steps = steps;
+        promise = λ pools force. c.the_machine_never_sticks.ensures.inputs pools old (ticks c.args.session.now c.args.time) new [] _ force steps;
+        screen = c.in-Ok.ensures.same;
+        begun = refl;
+        text = refl;
+      },
+    )
+
+pub returns-in-Err : goal.returns-in-Err
+returns-in-Err c = inr (
+  refl,
+  record {
+    not_lost = λ is. false≢true (c.in-Err.ensures.lost is);
+    state = c.in-Err.ensures.err;
+    redraws = c.in-Err.ensures.err_redraws;
+    waiting = ap (λ (n : ℕ). drop n c.tick.new.outputs.items) c.requires.first ∙ c.in-Err.ensures.err_sent ∙ c.requires.none;
+    begun = refl;
+    text = refl;
+  },
+)

@@ -1,0 +1,19 @@
+//! A terminal as a host holds it: with the outputs of its last input, which wait to be taken, and the text of its screen. Arguments and
+//! results are numbers, bytes and texts, as a caller in another language passes them.
+//!
+//! - `session`: a session begins, hears frames, takes ticks, actions and texts of the operator, and ends.
+//! - `preload`: a working set whose pool is there from the start.
+//! - `outputs`: the outputs are taken one by one; the address claim and the status that a host sends.
+//! - `screen`: the screen's text, and what a host asks of the terminal.
+//! - `status`: what the calls return.
+//!
+//! After a call that returns another status than `DONE` the terminal is unchanged.
+#![tactic(auto)]
+
+pub mod outputs;
+pub mod preload;
+pub mod screen;
+pub mod session;
+pub mod status;
+
+pub use session::Session;

@@ -1,0 +1,211 @@
+//! A terminal with the outputs that wait to be taken and the text of its screen, and the inputs that it takes.
+
+ghost use Rattle.std.specs.Prelude.{◌≡◌, [], length};
+ghost use Rattle.vt_session.specs.Calls.{Acts, Hears, Texts, Ticks};
+ghost use Rattle.vt_session.specs.Inputs.{action_input, frame_input, text_input, ticks};
+ghost use Rattle.vt_session.specs.Sessions.{Answers, Begins, Takes, closed, profile_of};
+
+use crate::status::{DONE, NO_MEMORY, NO_SUCH, NOT_BEGUN, WAITING};
+use arrayvec::ArrayVec;
+use byteorder::{ByteOrder, LittleEndian};
+use std::alloc::Global;
+use vt_can::{Action, CanId, Frame};
+use vt_names::Name;
+use vt_server::{Input, Output, Profile, Terminal};
+
+/// A terminal, the outputs of its last input, and the text of its screen.
+#[derive(Drop)]
+pub struct Session {
+    pub(crate) terminal: Terminal,
+    // The outputs of the last input. Those from the index `next` on wait to be taken.
+    pub(crate) outputs: Vec<Output>,
+    pub(crate) next: usize,
+    // The text of the screen drawn last.
+    pub(crate) text: Vec<u8>,
+    // Whether the own address is one that a node may have. A session without such an address takes no input.
+    pub(crate) begun: bool,
+}
+
+/// Begins a session with a new terminal. With an own address above 253 the session takes no input.
+pub fn begin(
+    alloc: Global,
+    own: u32,
+    name: u64,
+    memory: u32,
+    keys: u32,
+    fonts: u32,
+    hardware: u32,
+    size: u32,
+) -> Session
+    ensures { Begins own name memory keys fonts hardware size result }
+{
+    let begun = own <= 253;
+    let address = if begun { own as u8 } else { 0 };
+    let profile = profile_of(memory, keys, fonts, hardware, size);
+    Session {
+        terminal: Terminal::new_with(alloc, address, Name::from_raw(name), profile),
+        outputs: Vec::new(alloc),
+        next: 0,
+        text: Vec::new(alloc),
+        begun,
+    }
+}
+
+/// The profile in five numbers, each from its lowest byte on.
+fn profile_of(memory: u32, keys: u32, fonts: u32, hardware: u32, size: u32) -> Profile
+    ensures { result ≡ profile_of memory keys fonts hardware size }
+{
+    let keys = keys.to_le_bytes();
+    let fonts = fonts.to_le_bytes();
+    let hardware = hardware.to_le_bytes();
+    Profile {
+        memory,
+        soft_key_width: keys[0],
+        soft_key_height: keys[1],
+        virtual_soft_keys: keys[2],
+        physical_soft_keys: keys[3],
+        small_fonts: fonts[0],
+        large_fonts: fonts[1],
+        font_styles: fonts[2],
+        boot_time: hardware[0],
+        graphic_type: hardware[1],
+        hardware: hardware[2],
+        width: (size & 0xFFFF) as u16,
+        height: (size >> 16) as u16,
+    }
+}
+
+/// Ends a session.
+pub fn discard(session: Session) {
+    drop(session);
+}
+
+/// Hears a frame of the bus at a time.
+pub fn hear(session: &mut Session, time: u64, id: u32, count: u32, bits: u64) -> u32
+    ensures { Hears session.old time id count bits session.new result }
+{
+    take(session, frame_input(time, id, count, bits))
+}
+
+/// Moves the time on.
+pub fn tick(session: &mut Session, time: u64) -> u32
+    ensures { Ticks session.old time session.new result }
+{
+    if let Some(refusal) = closed(session) {
+        return refusal;
+    }
+    session.outputs.clear();
+    session.next = 0;
+    take_tick(session, time)
+}
+
+/// Does an action of the operator.
+pub fn act(session: &mut Session, kind: u32, id: u32, number: u32) -> u32
+    ensures { Acts session.old kind id number session.new result }
+{
+    take(session, action_input(kind, id, number))
+}
+
+/// Enters a text of the operator.
+pub fn text(session: &mut Session, id: u32, text: &[u8]) -> u32
+    ensures { Texts session.old id text.entry session.new result }
+{
+    take(session, text_input(id, text))
+}
+
+/// Takes an input, if it is one.
+fn take(session: &mut Session, input: Option<Input<'_>>) -> u32
+    ensures { Answers session.old input.entry session.new result }
+{
+    if let Some(refusal) = closed(session) {
+        return refusal;
+    }
+    let Some(input) = input else {
+        return NO_SUCH;
+    };
+    session.outputs.clear();
+    session.next = 0;
+    take_one(session, &[input])
+}
+
+/// Takes one input. No output waits. The machine does not stick at it.
+fn take_one(session: &mut Session, inputs: &[Input<'_>]) -> u32
+    requires none { session.old.outputs.items ≡ [] }
+    requires first { session.old.next ≡ 0 }
+    requires one { length inputs.now ≡ 1 }
+    ensures { Takes session.old inputs.now session.new result }
+{
+    vt_laws::the_machine_never_sticks();
+    match session.terminal.run(inputs, &mut session.outputs) {
+        Ok(()) => DONE,
+        Err(_) => NO_MEMORY,
+    }
+}
+
+/// Takes a tick. No output waits. The machine does not stick at it.
+fn take_tick(session: &mut Session, time: u64) -> u32
+    requires none { session.old.outputs.items ≡ [] }
+    requires first { session.old.next ≡ 0 }
+    ensures { Takes session.old (ticks session.old time) session.new result }
+{
+    vt_laws::the_machine_never_sticks();
+    match session.terminal.tick(time, &mut session.outputs) {
+        Ok(()) => DONE,
+        Err(_) => NO_MEMORY,
+    }
+}
+
+/// Why a session takes no input, if it takes none.
+pub(crate) fn closed(session: &Session) -> Option<u32>
+    ensures { result ≡ closed session.now }
+{
+    if !session.begun {
+        return Some(NOT_BEGUN);
+    }
+    if session.next < session.outputs.len() {
+        return Some(WAITING);
+    }
+    None
+}
+
+/// A frame with an identifier and the first bytes of a number.
+fn frame_input(time: u64, id: u32, count: u32, bits: u64) -> Option<Input<'static>>
+    ensures { result ≡ frame_input time id count bits }
+{
+    if count > 8 {
+        return None;
+    }
+    let id = CanId::from_raw(id)?;
+    let mut eight = [0; 8];
+    LittleEndian::write_u64(&mut eight, bits);
+    let mut bytes = ArrayVec::from(eight);
+    bytes.truncate(count as usize);
+    let frame = Frame { id, bytes };
+    Some(Input::Frame { time, frame })
+}
+
+/// An action of the operator, by its number.
+fn action_input(kind: u32, id: u32, number: u32) -> Option<Input<'static>>
+    ensures { result ≡ action_input kind id number }
+{
+    let id = u16::try_from(id).ok()?;
+    match kind {
+        0 => Some(Input::Operator(Action::Press(id))),
+        1 => Some(Input::Operator(Action::Release(id))),
+        2 => Some(Input::Operator(Action::Select(id))),
+        3 => Some(Input::Operator(Action::Number(id, number))),
+        4 => {
+            let address = u8::try_from(number).ok()?;
+            Some(Input::Operator(Action::Set(address)))
+        }
+        _ => None,
+    }
+}
+
+/// A text of the operator.
+fn text_input(id: u32, text: &[u8]) -> Option<Input<'_>>
+    ensures { result ≡ text_input id text.entry }
+{
+    let id = u16::try_from(id).ok()?;
+    Some(Input::Operator(Action::Text(id, text)))
+}

@@ -1,0 +1,19 @@
+//! The statuses of the calls.
+
+/// The call is done.
+pub const DONE: u32 = 0;
+
+/// Memory was refused. The terminal is unchanged, and the call may be made again.
+pub const NO_MEMORY: u32 = 1;
+
+/// There is no such frame, action or address. Nothing is changed.
+pub const NO_SUCH: u32 = 2;
+
+/// Outputs wait to be taken. Nothing is changed.
+pub const WAITING: u32 = 3;
+
+/// The own address is none that a node may have. Nothing is changed.
+pub const NOT_BEGUN: u32 = 4;
+
+/// The bytes are no accepted pool. Nothing is changed.
+pub const NO_POOL: u32 = 5;

@@ -1,6 +1,0 @@
-use Rattle.std.proofs.Common.{refl}
-use Rattle.vt_terminal.proofs.Takings.{answered, takes_cleared}
-use Rattle.vt_terminal.proofs.session.tick.Goals as goal
-
-pub returns : goal.returns
-returns c = answered _ _ _ _ _ c.in_default.ensures refl (takes_cleared _ _ _ _ _ c.take_tick.ensures)

@@ -1,0 +1,75 @@
+//! Object pools judged for callers in other languages: verdicts and findings in numbers, and texts, written into the caller's memory as
+//! far as there is room.
+//!
+//! - `judge_pool` says whether a pool is accepted, or why not.
+//! - `write_findings` writes all findings.
+//! - `write_report` writes the report, or the line of a fault or a refusal.
+//! - `write_screen` writes the screen of a mask.
+//!
+//! Each takes bytes and keeps nothing. docs/EMBEDDING.md has the numbers.
+#![tactic(auto)]
+
+ghost use Rattle.std.specs.Prelude.{◌≡◌, IfOk};
+ghost use Rattle.vt_verdicts.specs.Findings.{AreFindingsOf, Finds};
+ghost use Rattle.vt_verdicts.specs.Texts.{Draws, Reports};
+ghost use Rattle.vt_verdicts.specs.Verdicts.{Judges};
+
+mod copying;
+mod findings;
+mod screen;
+mod text;
+mod verdict;
+
+use std::alloc::{AllocError, Global};
+pub use verdict::VtVerdict;
+use vt_inspect::inspect;
+
+/// Judges an object pool.
+pub fn judge_pool(alloc: Global, bytes: &[u8]) -> VtVerdict
+    ensures { Judges bytes.now result }
+{
+    verdict::judged(alloc, bytes)
+}
+
+/// Writes all findings of an object pool, as far as there is room: the faults of records first, and then the broken rules in their
+/// order. Returns how many there are, or 2^64 - 1 if memory was refused, and then nothing is written.
+pub fn write_findings(alloc: Global, bytes: &[u8], findings: &mut [VtVerdict]) -> u64
+    ensures { Finds bytes.now findings.old findings.new result }
+{
+    match found(alloc, bytes) {
+        Ok(all) => {
+            copying::write_over(&all, findings);
+            all.len() as u64
+        }
+        Err(_) => u64::MAX,
+    }
+}
+
+/// All findings in numbers.
+fn found(alloc: Global, bytes: &[u8]) -> Result<Vec<VtVerdict>, AllocError>
+    ensures { IfOk result (λ all. AreFindingsOf bytes.now all.items) }
+{
+    let inspection = inspect(alloc, bytes)?;
+    findings::all_told(alloc, &inspection.findings)
+}
+
+/// Writes the report of an object pool, or the line of its fault or refusal, as far as there is room. Returns the number of bytes of
+/// the whole text, or 2^64 - 1 if memory was refused, and then nothing is written.
+pub fn write_report(alloc: Global, bytes: &[u8], text: &mut [u8]) -> u64
+    ensures { Reports bytes.now text.old text.new result }
+{
+    copying::copied(text::report(alloc, bytes), text)
+}
+
+/// Writes the screen of an accepted pool at an address, as far as there is room: as it is after a Change Active Mask to a mask, with
+/// its macros, or for 65535 as it is at first. Returns the number of bytes of the whole text, 0 if there is no such screen, or
+/// 2^64 - 1 if memory was refused, and then nothing is written.
+pub fn write_screen(alloc: Global, bytes: &[u8], address: u32, mask: u32, text: &mut [u8]) -> u64
+    ensures { Draws bytes.now address mask text.old text.new result }
+{
+    match screen::screen(alloc, bytes, address, mask) {
+        Ok(Some(screen)) => copying::copied(Ok(screen), text),
+        Ok(None) => 0,
+        Err(_) => u64::MAX,
+    }
+}
