@@ -3,11 +3,10 @@
 
 A wrong body is an edit `wrong_bodies/CRATE/NAME.edit`: a line `file:`, and then pairs of lines `old:` and `new:`. Those of a crate that lie in
 different functions are tried together, by one check of these functions alone, over the libraries that `rt ci` left in crates/*/out. Each
-of the functions must be refused for an error of its own, and not because it calls another that is refused. A line `function:` names
-the function where it is not the one that the changed line stands in.
+of the functions must be refused for an error of its own; one that calls another that is refused is tried once more alone. A line
+`function:` names the function as the checker does, where it is not plain from the place of the change.
 
---gate tries those that wrong_bodies/gate.txt lists. The last line
-is 'N passed, N failed'.
+--gate tries those that wrong_bodies/gate.txt lists. The last line is 'N passed, N failed'.
 """
 import argparse
 import concurrent.futures
@@ -31,6 +30,10 @@ def module_of(file):
     """The module that a file of a crate is, as the parts of its path."""
     parts = re.sub(r'^src/|/mod\.rt$|\.rt$', '', file).split('/')
     return [] if parts in (['lib'], ['main']) else parts
+
+
+# What is said of a function that calls another which is not proved.
+INFECTED = 'it calls `'
 
 
 class BadEdit(Exception):
@@ -107,11 +110,12 @@ def batches(edits):
 
 def verdict(edit, said):
     """Why a try shows nothing of the edit, or None where its function is refused for an error of its own."""
-    if re.search(rf'^fn {edit.crate}::{re.escape(edit.function)}: not proved', said, re.M):
-        return None
-    found = re.search(rf'^fn {edit.crate}::{re.escape(edit.function)}: (.*)', said, re.M)
-    first = next((it for it in said.split('\n') if ': error' in it or 'error[' in it or it.startswith('error')), said[-600:])
-    return f'{edit}: {edit.function}: {found[1]}' if found else f'{edit}: {edit.function} was not tried: {first}'
+    found = re.search(rf'^fn {edit.crate}::(?:\S*::)?{re.escape(edit.function)}: (.*)', said, re.M)
+    if found is None:
+        first = next((it for it in said.split('\n') if ': error' in it or 'error[' in it or it.startswith('error')), said[-600:])
+        return f'{edit}: {edit.function} was not tried: {first}'
+    is_refused = found[1] == 'not proved' or '`search` did not prove' in found[1]
+    return None if is_refused and INFECTED not in found[1] else f'{edit}: {edit.function}: {found[1]}'
 
 
 def tried(edits, jobs):
@@ -130,6 +134,14 @@ def tried(edits, jobs):
         words = [rtlib.RATTLE, 'check', *crate.words(flags, keeps=False)]
         ran = subprocess.run(words, cwd=room, stdin=subprocess.DEVNULL, stdout=subprocess.PIPE, stderr=subprocess.STDOUT, text=True, errors='replace')
     return [verdict(edit, ran.stdout) for edit in edits]
+
+
+def tried_apart(edits, jobs):
+    """Tries edits of one crate together, and those alone whose functions call others that are refused."""
+    results = tried(edits, jobs)
+    if len(edits) == 1:
+        return results
+    return [tried([edit], jobs)[0] if wrong and INFECTED in wrong else wrong for edit, wrong in zip(edits, results)]
 
 
 def edits_of(crates, of_gate):
@@ -156,7 +168,7 @@ def main():
     groups = [group for crate in sorted({it.crate for it in edits}) for group in batches([it for it in edits if it.crate == crate])]
     failed = 0
     with concurrent.futures.ThreadPoolExecutor(len(os.sched_getaffinity(0))) as pool:
-        for group, results in zip(groups, pool.map(lambda group: tried(group, 1), groups)):
+        for group, results in zip(groups, pool.map(lambda group: tried_apart(group, 1), groups)):
             for edit, wrong in zip(group, results):
                 print(f'NOT REFUSED {wrong}' if wrong else f'{edit}: refused in {edit.function}', flush=True)
                 failed += wrong is not None
