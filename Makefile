@@ -36,6 +36,7 @@ test:
 prove:
 	@rt version
 	@python3 scripts/crates.py
+	@python3 scripts/links.py
 	@bash scripts/examples.sh --check
 	rt ci
 	@python3 scripts/build.py --note
