@@ -135,7 +135,11 @@ fn expect_preloaded(
 
 #[test]
 fn want_of_memory(rt: HostRuntime) -> Result<(), Fail> {
-    expect_preloaded(&rt, &mut terminal(&rt, Profile::standard()), &accepted(&rt)?)?;
+    expect_preloaded(
+        &rt,
+        &mut terminal(&rt, Profile::standard()),
+        &accepted(&rt)?,
+    )?;
     for in_runs in [false, true] {
         expect_lines(&rt, &mut terminal(&rt, Profile::standard()), in_runs)?;
     }
