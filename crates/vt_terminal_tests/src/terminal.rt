@@ -1,0 +1,50 @@
+//! Terminals and their inputs, for the other modules.
+
+use std::process::Abort;
+use std::test::Fail;
+use vt_can::{Frame, Line, parse_line, write_frame};
+use vt_names::Name;
+use vt_node::Profile;
+use vt_server::*;
+use vt_testing::accepted_pool;
+
+pub(super) const OWN: u8 = 0x26;
+
+const NAME: u64 = 0x2000_1D00_0000_0001;
+
+/// A terminal without a set.
+pub(super) fn terminal(rt: &impl AllocGlobal, profile: Profile) -> Terminal {
+    Terminal::new_with(rt.alloc(), OWN, Name::from_raw(NAME), profile)
+}
+
+/// A terminal with a set at 80 that has the pool of these bytes.
+pub(super) fn preloaded(rt: &impl AllocGlobal, bytes: &[u8]) -> Result<Terminal, Fail> {
+    let accepted = accepted_pool(rt.alloc(), bytes)?;
+    let mut terminal = terminal(rt, Profile::standard());
+    terminal.preload(0x80, &accepted)?;
+    Ok(terminal)
+}
+
+/// The input of a line of a log.
+pub(super) fn input_of(line: &[u8]) -> Result<Input<'_>, Fail> {
+    match parse_line(line) {
+        Ok(Line::Frame { time, frame }) => Ok(Input::Frame { time, frame }),
+        Ok(Line::Operator(action)) => Ok(Input::Operator(action)),
+        _ => Err(Fail::new("no input")),
+    }
+}
+
+/// Expects these frames.
+pub(super) fn expect_sent(rt: &(impl Abort + AllocGlobal), outputs: &[Output], sent: &[&str]) {
+    assert_eq!(rt; outputs.len(), sent.len(), "{sent:?}");
+    for (output, wanted) in outputs.iter().zip(sent) {
+        match output {
+            Output::Frame(frame) => expect_frame(rt, frame, wanted),
+            Output::Refused(_) => assert!(rt; false, "a refusal"),
+        }
+    }
+}
+
+pub(super) fn expect_frame(rt: &(impl Abort + AllocGlobal), frame: &Frame, text: &str) {
+    assert_eq!(rt; write_frame(frame).as_slice(), text.as_bytes(), "{text}");
+}
