@@ -1,8 +1,6 @@
-//! Tests of the public interfaces of vt_can, vt_names, vt_transport and vt_extended.
+//! Tests of the bus below the terminal that no log shows: refused memory, the longest message, and texts that no program prints.
 #![tactic(auto)]
 
-#[cfg(test)]
-mod can;
 #[cfg(test)]
 mod extended;
 #[cfg(test)]

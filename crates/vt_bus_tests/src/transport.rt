@@ -1,14 +1,8 @@
-//! Tests of vt_transport: the steps of TP receivers and senders.
+//! Tests of vt_transport.
 
-mod linux;
-mod linux_logs;
-mod receiving;
-mod sending;
-mod serving;
-mod sources;
 mod want_of_memory;
 
-use std::alloc::{AllocGlobal, Global};
+use arrayvec::ArrayVec;
 use std::process::Abort;
 use std::test::Fail;
 use vt_can::{Frame, Line, parse_line, write_frame};
@@ -43,47 +37,46 @@ fn answers(receiver: &mut Receiver, line: &[u8], wanted: Wanted) -> Result<bool,
     }
 }
 
-// Whether the abort due at a time has this text. An empty text means no abort.
-fn expires(receiver: &mut Receiver, now: u64, text: &[u8]) -> bool {
-    match receiver.expire(now) {
-        Some(frame) => write_frame(&frame).as_slice() == text,
-        None => text.is_empty(),
+// A message of 1785 bytes, the most, and its packets after a CTS for all of them.
+#[test]
+fn the_longest_message(rt: HostRuntime) -> Result<(), Fail> {
+    let mut message = Vec::new(rt.alloc());
+    for number in 1..=255u8 {
+        message.extend_from_slice(&[number; 7])?;
     }
-}
-
-// A step of a test: the receiver gives this answer to the frame of a line; or the abort due at a time has this
-// text, and there is none for an empty text.
-#[derive(Clone, Copy)]
-enum Act {
-    Hears(&'static [u8], Wanted),
-    Expires(u64, &'static [u8]),
-}
-
-fn does(receiver: &mut Receiver, act: Act) -> Result<bool, OutOfMemory> {
-    match act {
-        Act::Hears(line, wanted) => answers(receiver, line, wanted),
-        Act::Expires(now, text) => Ok(expires(receiver, now, text)),
+    let mut sender = Sender::new(rt.alloc(), NODE);
+    let request = sender.start(0, 0x80, 0xE600, &message)?;
+    assert_eq!(rt;
+        write_frame(&request).as_slice(),
+        b"1CEC8026#10F906FFFF00E600".as_slice()
+    );
+    let Ok(Line::Frame { time, frame }) = parse_line(b"(1.000000) can0 1CEC2680#11FF01FFFF00E600")
+    else {
+        return Err(Fail::new("no frame"));
+    };
+    let frames = sender.hear(time, &frame);
+    assert_eq!(rt; frames.len(), 255);
+    for (number, packet) in (1..=255u8).zip(frames.as_slice()) {
+        assert_eq!(rt; packet.bytes, ArrayVec::from([number; 8]), "{number}");
     }
+    Ok(())
 }
 
-// Whether a new receiver passes all steps, one after the other.
-fn does_all(alloc: Global, acts: &[Act]) -> Result<bool, OutOfMemory> {
-    let mut receiver = Receiver::new(alloc, NODE);
-    let mut same = true;
-    for act in acts {
-        same = does(&mut receiver, *act)? && same;
-    }
-    Ok(same)
-}
-
-// Expects that a receiver passes the steps of each named case.
-fn expect_acts(
-    rt: &(impl Abort + AllocGlobal),
-    cases: &[(&str, &[Act])],
-) -> Result<(), OutOfMemory> {
-    for (name, acts) in cases {
-        let same = does_all(rt.alloc(), acts)?;
-        assert!(rt; same, "{name}");
+#[test]
+fn printed_faults(rt: HostRuntime) -> Result<(), Fail> {
+    for (fault, wanted) in [
+        (
+            SendFault::Busy,
+            "a message to that destination is still being sent",
+        ),
+        (SendFault::Size, "a message has 9 to 1785 bytes"),
+        (
+            SendFault::OutOfMemory,
+            "the memory for the message was refused",
+        ),
+    ] {
+        let text = format!(in rt.alloc(); "{}", fault)?;
+        assert_eq!(rt; text.as_str(), wanted);
     }
     Ok(())
 }

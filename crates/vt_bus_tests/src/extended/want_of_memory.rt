@@ -1,9 +1,31 @@
 //! Tests of calls of the ETP receiver that are refused memory: they change nothing, and may be repeated.
 
-use super::refusing::{BYTES, END, LAST, REQUEST, opens};
 use super::*;
 
+const REQUEST: &[u8] = b"(1.000000) can0 1CC82680#140900000000E700";
+
+const CLEAR: &[u8] = b"1CC88026#150201000000E700";
+
+const OFFSET: &[u8] = b"(1.000000) can0 1CC82680#160200000000E700";
+
+const FIRST: &[u8] = b"(1.000000) can0 1CC72680#01B4E8036400FFFF";
+
+const LAST: &[u8] = b"(1.000000) can0 1CC72680#020500FFFFFFFFFF";
+
+const END: &[u8] = b"1CC88026#170900000000E700";
+
+const BYTES: &[u8] = b"\xB4\xE8\x03\x64\x00\xFF\xFF\x05\x00";
+
 const WHOLE: Wanted = Wanted::Message(END, BYTES);
+
+// Whether a session of nine bytes opens, and accepts the first of two packets.
+fn opens(receiver: &mut Receiver) -> Result<bool, OutOfMemory> {
+    Ok(
+        answers(receiver, REQUEST, Wanted::Reply(CLEAR))?
+            && answers(receiver, OFFSET, Wanted::Silence)?
+            && answers(receiver, FIRST, Wanted::Silence)?,
+    )
+}
 
 fn opens_again(receiver: &mut Receiver) -> Result<bool, OutOfMemory> {
     match opens(receiver) {

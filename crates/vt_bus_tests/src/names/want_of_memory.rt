@@ -3,9 +3,9 @@
 use super::*;
 use std::process::Abort;
 
-const CLAIMERS: u64 = 48;
+const CLAIMERS: u64 = 6;
 
-const CLAIMS: u64 = 64;
+const CLAIMS: u64 = 9;
 
 // The address and the NAME of a claim. After all NAMEs have claimed an address, they claim another one.
 fn claim(time: u64) -> (u8, Name) {
@@ -99,7 +99,7 @@ fn want_of_memory(rt: HostRuntime) {
         hear(&rt, &mut claims, time);
     }
     let mut registry = Registry::new(rt.alloc());
-    for number in 0..20 {
+    for number in 0..6 {
         if number % 2 == 1 {
             reserve(&rt, &mut registry, 0, number);
         }
@@ -110,13 +110,13 @@ fn want_of_memory(rt: HostRuntime) {
         }
     }
     // With reserved capacity no master message is refused memory, whatever set was closed before it.
-    for number in 20..23 {
+    for number in 6..8 {
         let name = Name::from_raw(number.into());
-        reserve(&rt, &mut registry, number - 20, number);
-        assert!(rt; registry.close(number - 20));
+        reserve(&rt, &mut registry, number - 6, number);
+        assert!(rt; registry.close(number - 6));
         assert_eq!(rt; registry.master(number, Some(name), 2), Ok(()));
         assert_eq!(rt; registry.member(number, name), Ok(()));
     }
     assert!(rt; has_heard(&claims, CLAIMS));
-    assert!(rt; are_sets(&registry, 3, 23));
+    assert!(rt; are_sets(&registry, 2, 8));
 }

@@ -1,0 +1,3 @@
+//! Tests of pools.
+
+mod want_of_memory;

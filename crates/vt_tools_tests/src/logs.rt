@@ -1,0 +1,3 @@
+//! Tests of `segyolant_log`.
+
+mod want_of_memory;
