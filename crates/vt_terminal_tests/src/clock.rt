@@ -1,11 +1,10 @@
 //! Ticks and deadlines, and what a terminal says of itself.
 
-use super::terminal::{OWN, expect_frame, expect_sent, input_of, preloaded, terminal};
+use super::terminal::{OWN, POOL, expect_frame, expect_sent, input_of, preloaded, terminal};
 use std::process::Abort;
 use std::test::Fail;
 use vt_node::Profile;
 use vt_server::*;
-use vt_testing::POOL;
 
 const CLAIM: &str = "18EEFF26#01000000001D0020";
 

@@ -1,10 +1,20 @@
-//! Tests of the terminal by functions: of what no program can be made to show.
+//! Tests by functions of the crates of the terminal: of what no program can be made to show.
 #![tactic(auto)]
 
 #[cfg(test)]
 mod clock;
 #[cfg(test)]
+mod library_example;
+#[cfg(test)]
+mod objects;
+#[cfg(test)]
+mod pool;
+#[cfg(test)]
+mod rank;
+#[cfg(test)]
 mod redrawing;
+#[cfg(test)]
+mod replay;
 #[cfg(test)]
 mod terminal;
 #[cfg(test)]

@@ -1,12 +1,11 @@
 //! Calls that are refused memory: each leaves the terminal unchanged, and repeated it answers as if memory had not been refused.
 
-use super::terminal::{expect_sent, input_of, terminal};
+use super::terminal::{POOL, accepted_pool, expect_sent, input_of, terminal};
 use std::alloc::AllocError;
 use std::process::Abort;
 use std::test::Fail;
 use vt_node::Profile;
 use vt_server::*;
-use vt_testing::{POOL, accepted_pool};
 use vt_verify::Accepted;
 
 const LINES: [&[u8]; 27] = [

@@ -35,7 +35,7 @@ fn expect_run(
         &mut out,
         &mut errors,
     )?;
-    assert_eq!(rt; ended, status);
+    assert!(rt; ended == status);
     assert_eq!(rt; out.as_slice(), text.as_bytes());
     Ok(())
 }

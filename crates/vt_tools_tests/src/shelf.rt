@@ -2,7 +2,13 @@
 
 use std::io::{self, Error, ErrorKind};
 use vt_inspector::{Open, Program, Save};
-use vt_testing::POOL;
+
+/// The Working Set 0, its Data Mask 1000, and in it the Container 100.
+const POOL: &[u8] = &[
+    0, 0, 0, 0, 1, 0xE8, 3, 0, 0, 0, // the Working Set
+    0xE8, 3, 1, 0, 0xFF, 0xFF, 1, 0, 100, 0, 10, 0, 5, 0, // the Data Mask
+    100, 0, 3, 50, 0, 20, 0, 0, 0, 0, // the Container
+];
 
 /// A pool with each warning but ExtraKeys. The record of the Container 100 comes twice.
 const WARNED: &[u8] = &[

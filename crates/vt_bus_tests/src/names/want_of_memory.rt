@@ -40,7 +40,7 @@ fn hear(rt: &impl Abort, claims: &mut Claims, time: u64) {
         assert!(rt; has_heard(claims, time), "{time}");
         said = claims.hear(address, name);
     }
-    assert_eq!(rt; said, Ok(wanted), "{time}");
+    assert!(rt; said == Ok(wanted), "{time}");
 }
 
 // Whether a set is preloaded, as every fifth is. The number of a set is its address and its NAME.

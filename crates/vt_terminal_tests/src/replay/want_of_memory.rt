@@ -1,13 +1,13 @@
 //! Replays and runs that are refused memory: the bytes written by then begin the text, and a new try succeeds.
 
 use super::{LOG, Shelf, TEXT, started};
+use crate::terminal::POOL;
 use std::alloc::{AllocError, Global};
 use std::io;
 use std::process::Abort;
 use std::test::Fail;
 use vt_logs::{ReplayFault, replay};
 use vt_program::{Status, run};
-use vt_testing::POOL;
 
 const HIDE: &[u8] = b"(1.000000) can0 14E72680#A0640000FFFFFFFF\n";
 
@@ -58,12 +58,12 @@ fn expect_run(rt: &(impl Abort + AllocGlobal), words: &[&str], text: &str) -> Re
     let mut errors = empty_text(rt.alloc())?;
     let ended = run_on(rt.alloc(), words, POOL, &mut out, &mut errors)?;
     if ended != Status::Done {
-        assert_eq!(rt; ended, Status::Fault, "{words:?}");
+        assert!(rt; ended == Status::Fault, "{words:?}");
         assert!(rt; text.as_bytes().starts_with(&out), "{words:?}");
         assert!(rt; !errors.is_empty(), "{words:?}");
         out.clear();
         let afresh = run_on(rt.alloc(), words, POOL, &mut out, &mut errors)?;
-        assert_eq!(rt; afresh, Status::Done, "{words:?}");
+        assert!(rt; afresh == Status::Done, "{words:?}");
     }
     assert_eq!(rt; out.as_slice(), text.as_bytes(), "{words:?}");
     Ok(())
@@ -85,7 +85,7 @@ fn expect_refused(rt: &(impl Abort + AllocGlobal)) -> Result<(), Fail> {
     let mut out = empty_text(rt.alloc())?;
     let mut errors = empty_text(rt.alloc())?;
     let ended = run_on(rt.alloc(), &REPORT, REFUSED, &mut out, &mut errors)?;
-    assert_eq!(rt; ended, Status::Fault);
+    assert!(rt; ended == Status::Fault);
     if out.is_empty() {
         errors.clear();
         run_on(rt.alloc(), &REPORT, REFUSED, &mut out, &mut errors)?;

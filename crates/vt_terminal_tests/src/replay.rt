@@ -5,6 +5,7 @@ ghost use Rattle.std.specs.Str.{bytes_eq};
 
 mod want_of_memory;
 
+use crate::terminal::accepted_pool;
 use std::alloc::{AllocError, Global};
 use std::io::{self, Error, ErrorKind, Read, Write};
 use std::test::Fail;
@@ -12,7 +13,6 @@ use vt_logs::{ReplayFault, Sink, Stream, replay};
 use vt_names::Name;
 use vt_program::{Open, Status, run};
 use vt_server::Terminal;
-use vt_testing::accepted_pool;
 
 /// The files of the tests.
 #[derive(Drop)]

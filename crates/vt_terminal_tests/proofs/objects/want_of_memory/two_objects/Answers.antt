@@ -1,7 +1,7 @@
 use Rattle.std.proofs.Common.{arith}
 use Rattle.std.proofs.lemmas.Bool.{ne_eqb}
 use Rattle.vt_stores.proofs.StoreMethods.{named_none, named_more}
-use Rattle.vt_core_tests.proofs.objects.want_of_memory.two_objects.Goals as goal
+use Rattle.vt_terminal_tests.proofs.objects.want_of_memory.two_objects.Goals as goal
 
 pub returns : goal.returns
 returns c =
