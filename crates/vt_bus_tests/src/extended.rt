@@ -1,5 +1,6 @@
 //! Tests of vt_extended.
 
+mod serving;
 mod want_of_memory;
 
 use std::test::Fail;

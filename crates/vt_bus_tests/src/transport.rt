@@ -1,5 +1,6 @@
 //! Tests of vt_transport.
 
+mod serving;
 mod want_of_memory;
 
 use arrayvec::ArrayVec;
