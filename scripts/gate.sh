@@ -3,14 +3,23 @@
 set -u
 cd "$(dirname "$0")/.."
 said=$(mktemp)
-trap 'rm -f "$said"' EXIT
+clock=$(mktemp)
+trap 'rm -f "$said" "$clock"' EXIT
+
+# The processor seconds of all that has ended so far, in $used.
+look_at_clock() {
+    times >"$clock"
+    used=$(sed -n 2p "$clock" | sed 's/[ms]/ /g' | awk '{print int($1 * 60 + $2 + $3 * 60 + $4)}')
+}
+
 status=0
 for step in test prove test-c; do
-    begun=$(date +%s)
-    before=$(times | sed -n 2p)
+    look_at_clock
+    before=$used begun=$(date +%s)
     make "$step" 2>&1 | tee -a "$said"
     status=${PIPESTATUS[0]}
-    echo "gate: make $step took $(($(date +%s) - begun)) seconds; processor time of all steps before and after it: $before, $(times | sed -n 2p)"
+    look_at_clock
+    echo "gate: make $step took $(($(date +%s) - begun)) seconds, and $((used - before)) of processor"
     [ "$status" = 0 ] || break
 done
 python3 - "$said" "$status" <<'PY'
