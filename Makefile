@@ -38,8 +38,7 @@ prove:
 	@python3 scripts/crates.py
 	@python3 scripts/links.py
 	@bash scripts/examples.sh --check
-	rt ci
-	@python3 scripts/build.py --note
+	@python3 scripts/build.py --gate
 	@python3 scripts/run_tests.py --programs 'crates/{}/out/{}'
 	@python3 scripts/run_tests.py --programs 'crates/{}/out/{}.by-rattle'
 	@python3 scripts/wrong_bodies.py --gate

@@ -3,7 +3,7 @@
 
 The crates are proved side by side by `rt ci`, in a copy of the repository that has the programs and what they stand on and no others.
 It keeps what it proves on this machine: where `make prove` has run on the same files, nothing is proved again. A program whose
-checksum is that of its sources is left as it is.
+checksum is that of its sources is left as it is. With --gate it runs `rt ci` in this tree, and notes what the programs were made from.
 """
 import os
 import shutil
@@ -29,12 +29,17 @@ def is_built(name):
     return all(os.path.exists(it) for it in made) and text_of(stamp_of(name)) == sum_of(name, PARTS)
 
 
-def note_built(names):
-    """Notes that the programs that are there were made from what is there: right behind `rt ci` in this tree."""
-    for name in names:
-        if os.path.exists(f'{ROOT}/crates/{name}/out/{name}'):
+def sums_of(names):
+    """The checksums of all that programs are made from, by their names."""
+    return {name: sum_of(name, PARTS) for name in names}
+
+
+def note_built(sums):
+    """Notes what the programs that are there were made from, those whose sources are the same as when their proof began."""
+    for name, made_from in sums.items():
+        if os.path.exists(f'{ROOT}/crates/{name}/out/{name}') and sum_of(name, PARTS) == made_from:
             with open(stamp_of(name), 'w', encoding='utf-8') as file:
-                file.write(sum_of(name, PARTS))
+                file.write(made_from)
 
 
 def copy_of_programs(names, room):
@@ -49,13 +54,18 @@ def copy_of_programs(names, room):
 
 
 def main():
-    if sys.argv[1:] == ['--note']:
-        note_built(PROGRAMS)
-        return
+    if sys.argv[1:] == ['--gate']:
+        # (the gate is run in this tree, and leaves its programs where they are wanted)
+        sums = sums_of(PROGRAMS)
+        status = subprocess.run(['rt', 'ci'], cwd=ROOT).returncode
+        if status == 0:
+            note_built(sums)
+        sys.exit(status)
     names = [name for name in PROGRAMS if not is_built(name)]
     if names:
         print(f'{", ".join(names)}: proving; from nothing that takes some 40 minutes on four processors', file=sys.stderr)
         with tempfile.TemporaryDirectory(prefix='build-') as room:
+            sums = sums_of(names)
             copy_of_programs(names, room)
             subprocess.run(['git', 'init', '-q', room], check=True)
             environment = {name: value for name, value in os.environ.items() if name != 'CI'}
@@ -65,7 +75,7 @@ def main():
                 os.makedirs(f'{ROOT}/crates/{name}/out', exist_ok=True)
                 for end in ('', '.by-rattle'):
                     shutil.copy(f'{room}/crates/{name}/out/{name}{end}', f'{ROOT}/crates/{name}/out/{name}{end}')
-        note_built(names)
+        note_built(sums)
     for name in PROGRAMS:
         print(f'crates/{name}/out/{name}')
 

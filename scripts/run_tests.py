@@ -39,17 +39,32 @@ def difference(test, block, told):
 
 def session_results(test, programs, only, bless):
     """The results of a session: for each command line its name, and what differs."""
+    shown = os.path.relpath(test, TOP)
     try:
-        told = list(sessions.results_of(TOP, test, programs))
+        if not any(only in it for it in (shown, *heads_in(test))):
+            return []
+        told = [it for it in sessions.results_of(TOP, test, programs) if only in it[0].head or only in shown]
     except sessions.BadTest as error:
-        return [(test, [f'{os.path.relpath(test, TOP)}:{error}'])]
-    if bless:
+        return [(test, [f'{shown}:{error}'])]
+    crashed = [(block.head, [f'{shown}:{block.number}: {block.head}', '  ' + lines[-1]]) for block, lines in told if lines and is_crash(lines[-1])]
+    if bless and not crashed:
         text = sessions.read(test).decode('utf-8')
         made = sessions.blessed(text, told)
         if made != text:
             sessions.put(test, made.encode('utf-8'))
+            print(f'written: {shown}', flush=True)
         return [(block.head, []) for block, _ in told]
-    return [(block.head, difference(test, block, lines)) for block, lines in told if only in block.head or only in os.path.relpath(test, TOP)]
+    return crashed if bless else [(block.head, difference(test, block, lines)) for block, lines in told]
+
+
+def heads_in(test):
+    """The command lines of a session."""
+    return [line for line in sessions.read(test).decode('utf-8').split('\n') if line.startswith('$ ')]
+
+
+def is_crash(line):
+    """Whether the last line of what a command told says that it was ended by a signal or did not end."""
+    return line.startswith(('status -', 'still running'))
 
 
 def results(test, programs, only, bless):
@@ -60,8 +75,10 @@ def results(test, programs, only, bless):
         return []
     try:
         if bless:
-            logs.bless(TOP, test, programs)
-        return [(test, [] if bless else logs.faults_of(TOP, test, programs))]
+            if logs.bless(TOP, test, programs):
+                print(f'written: {os.path.relpath(test, TOP)}', flush=True)
+            return [(test, [])]
+        return [(test, logs.faults_of(TOP, test, programs))]
     except Exception as error:
         return [(test, [f'{os.path.relpath(test, TOP)}: {error}'])]
 
@@ -99,12 +116,18 @@ def main():
     parser.add_argument('--functions', action='store_true')
     options = parser.parse_args()
     tests = [os.path.abspath(it) for it in options.files] or tests_below(f'{TOP}/tests')
+    lacking = [it for it in tests if not os.path.isfile(it)]
+    if lacking:
+        sys.exit(f'{lacking[0]} is no file')
     with concurrent.futures.ThreadPoolExecutor(1) as pool:
         later = pool.submit(functions.run, options.only) if options.functions else None
         passed, failed = run_data(tests, programs_at(options.programs), options.only, options.bless)
         if later is not None:
             more = later.result()
             passed, failed = passed + more[0], failed + more[1]
+    if passed + failed == 0:
+        print(f'no test has {options.only} in its path or its command line')
+        failed = 1
     print(f'{passed} passed, {failed} failed')
     sys.exit(1 if failed else 0)
 

@@ -44,16 +44,15 @@ def make_for(name, target):
 
 def make(name, after_gate, target):
     """Makes a library in a process of its own unless it is made, and returns its status and what it said."""
-    folder = f'{ROOT}/crates/{name}/out' + (f'/{target}' if target else '')
+    folder, made_from = f'{ROOT}/crates/{name}/out', sum_of(name, PARTS)
     stamp = f'{folder}/lib{name}.sum'
-    if os.path.exists(f'{folder}/lib{name}.a') and text_of(stamp) == sum_of(name, PARTS):
+    if not target and os.path.exists(f'{folder}/lib{name}.a') and text_of(stamp) == made_from:
         return 0, ''
-    made_from = sum_of(name, PARTS)
     words = ['rt', 'lib', '--jobs', '2']
     if after_gate or target:
         words = [sys.executable, os.path.abspath(__file__), '--one', name, *(['--target', target] if target else [])]
     ran = subprocess.run(words, cwd=f'{ROOT}/crates/{name}', stdout=subprocess.PIPE, stderr=subprocess.STDOUT, text=True)
-    if ran.returncode == 0:
+    if ran.returncode == 0 and not target and sum_of(name, PARTS) == made_from:
         with open(stamp, 'w', encoding='utf-8') as file:
             file.write(made_from)
     return ran.returncode, ran.stdout

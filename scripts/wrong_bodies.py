@@ -148,9 +148,13 @@ def edits_of(crates, of_gate):
     """The edits to try: all, those of some crates, or those of the gate."""
     paths = sorted(glob.glob(f'{ROOT}/wrong_bodies/*/*.edit'))
     if of_gate:
-        listed = re.findall(r'^(\w+/\w+)', text_of(f'{ROOT}/wrong_bodies/gate.txt'), re.M)
+        listed = [line for line in text_of(f'{ROOT}/wrong_bodies/gate.txt').split('\n') if line and not line.startswith('#')]
         paths = [f'{ROOT}/wrong_bodies/{it}.edit' for it in listed]
-    return [Edit(path) for path in paths if not crates or path.split('/')[-2] in crates]
+    edits = [Edit(path) for path in paths if not crates or path.split('/')[-2] in crates]
+    lacking = sorted(set(crates) - {it.crate for it in edits})
+    if lacking or not edits:
+        raise BadEdit(f'there is no wrong body of {", ".join(lacking) or "any crate"}')
+    return edits
 
 
 def main():

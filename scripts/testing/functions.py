@@ -18,8 +18,20 @@ def crates():
         return re.findall(r'^(vt_\w+_tests):', file.read(), re.M)
 
 
+def functions_in(name):
+    """The paths of the crate's test functions: their modules, by the files, and their names."""
+    top, found = f'{quick.ROOT}/crates/{name}/src', []
+    for at, _, files in os.walk(top):
+        for file in files:
+            module = os.path.relpath(f'{at}/{file}', top).removesuffix('.rt').replace('/', '::')
+            found += [f'{module}::{it}' for it in re.findall(r'#\[test\]\s*fn (\w+)', quick.text_of(f'{at}/{file}'))]
+    return found
+
+
 def run_crate(name, only):
     """Runs the tests of a crate. Returns how many passed, and what is said of those that failed."""
+    if only and not any(only in f'{name}::{path}' for path in functions_in(name)):
+        return 0, []
     folder, made_from = f'{quick.QUICK}/tests', quick.sum_of(name)
     kept = quick.text_of(f'{folder}/{name}')
     if kept.startswith(f'{made_from}\n'):
@@ -35,7 +47,10 @@ def run_crate(name, only):
                 file.write(f'{made_from}\n{said}')
         elif not re.search(r'^test .* FAILED$', said, re.M):
             return 0, [f'{name}: its tests did not run\n{said}']
-    found = [it for it in re.findall(r'^test (\S+) \.\.\. (.*)$', said, re.M) if only in f'{name}::{it[0]}']
+    listed = re.findall(r'^test (\S+) \.\.\. (.*)$', said, re.M)
+    if not listed:
+        return 0, [f'{name}: no test was run\n{said}']
+    found = [it for it in listed if only in f'{name}::{it[0]}']
     wrong = [f'{name}: {test}' for test, end in found if end != 'ok']
     return len(found) - len(wrong), [f'{it}\n{said}' for it in wrong[:1]] + wrong[1:]
 

@@ -34,6 +34,11 @@ def expected(data):
     return [(number, match[1]) for number, match in found if match]
 
 
+def without_expectations(path):
+    """The lines of a log that are no expectations."""
+    return [line for line in sessions.read(path).split(b'\n') if not line.startswith(b'#<')]
+
+
 def run(programs, name, words, room):
     environment = {'PATH': os.environ.get('PATH', ''), 'LANG': 'C.UTF-8', 'ASAN_OPTIONS': 'detect_leaks=0'}
     return subprocess.run([name, *words], executable=programs[name], cwd=room, stdin=subprocess.DEVNULL, capture_output=True,
@@ -66,12 +71,14 @@ def faults_of(top, test, programs):
 
 
 def bless(top, test, programs):
-    """Writes the log's expectations anew."""
+    """Writes the log's expectations anew, and returns whether they are others."""
     with tempfile.TemporaryDirectory(prefix='log-') as room:
         name = f'{room}/{os.path.basename(test)}'
         shutil.copyfile(test, name)
         ran = run(programs, 'segyolant_log', ['test', name, *words_of(top, test, room, sessions.read(test).decode('latin-1')), '--bless'], room)
-        if ran.returncode not in (0, 1):
-            raise sessions.BadTest(ran.stderr.decode('utf-8', 'backslashreplace').replace(name, os.path.relpath(test, top)))
-        if sessions.read(name) != sessions.read(test):
+        if ran.returncode not in (0, 1) or without_expectations(name) != without_expectations(test):
+            raise sessions.BadTest(ran.stderr.decode('utf-8', 'backslashreplace').replace(name, os.path.relpath(test, top)) or 'its lines changed')
+        is_new = sessions.read(name) != sessions.read(test)
+        if is_new:
             shutil.copyfile(name, test)
+        return is_new

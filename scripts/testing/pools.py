@@ -26,7 +26,10 @@ class PoolText(ValueError):
 
 def without_remark(line):
     """The line without what stands behind a `#` that is in no text."""
-    return re.match(r'(?:"[^"]*"|[^"#])*', line)[0].strip()
+    text = re.match(r'(?:"[^"]*"|[^"#])*', line)[0]
+    if line[len(text):len(text) + 1] == '"':
+        raise PoolText('a quote is not closed')
+    return text.strip()
 
 
 def bytes_of_line(line, names):
@@ -54,9 +57,11 @@ def pool_of(text):
     """The bytes of a pool's text. A line that says none raises PoolText with its number."""
     made = b''
     for number, line in enumerate(text.split('\n'), 1):
-        line = without_remark(line)
-        loop = RANGE.fullmatch(line)
         try:
+            line = without_remark(line)
+            loop = RANGE.fullmatch(line)
+            if loop is not None and int(loop[2]) > int(loop[3]):
+                raise PoolText('the range is empty')
             if loop is None:
                 made += bytes_of_line(line, {})
             else:

@@ -38,6 +38,10 @@ class BadTest(Exception):
     """A test that cannot be run, with its line."""
 
 
+# What may stand behind each head line.
+BEHIND = {'$': ('|', '!', 'status ', 'wrote ', 'removed '), 'file': ('|',), 'pool': ('|',), 'use': ()}
+
+
 class Block:
     """A head line of a session, its number, and the lines of text behind it."""
 
@@ -55,20 +59,23 @@ def blocks_of(text):
         if line.startswith('#') or not line.strip():
             continue
         if line[0] in '|!' or line.startswith(('status ', 'wrote ', 'removed ')):
-            if not blocks:
-                raise BadTest(f'{number}: nothing stands before this line')
+            verb = blocks[-1].head.partition(' ')[0] if blocks else 'use'
+            if not line.startswith(BEHIND[verb]):
+                raise BadTest(f'{number}: this line may not stand behind {blocks[-1].head if blocks else "nothing"}')
             blocks[-1].body.append((number, line))
         elif line.startswith(('$ ', 'use ', 'file ', 'pool ')):
             blocks.append(Block(number, line))
         else:
             raise BadTest(f'{number}: a line begins with $, use, file, pool, |, !, wrote, removed, status or #, and not so: {line[:60]}')
+    if not any(block.head.startswith('$') for block in blocks):
+        raise BadTest('1: it has no command line')
     return blocks
 
 
 def found(top, test, word):
     """The files that a word of `use` names: beside the test, in tests/, or from the top."""
     for folder in (os.path.dirname(test), f'{top}/{TESTS}', top):
-        names = sorted(glob.glob(f'{folder}/{word}'))
+        names = sorted(glob.glob(f'{glob.escape(folder)}/{word}'))
         if names:
             return names
     raise BadTest(f'no file is {word}')
@@ -125,14 +132,14 @@ def told_run(room, programs, head):
     """Runs a command line in the session's folder, and returns what is to stand behind it."""
     words = shlex.split(head)
     given, taken = b'', None
-    while len(words) > 2 and words[-2] in '<>':
+    while len(words) > 2 and words[-2] in ('<', '>'):
         if words[-2] == '<':
             given = read(f'{room}/{words[-1]}')
         else:
             taken = words[-1]
         words = words[:-2]
-    if words[0] not in programs:
-        raise BadTest(f'no program of these tests is {words[0]}')
+    if not words or words[0] not in programs:
+        raise BadTest(f'no program of these tests: {head}')
     before = files_in(room)
     environment = {'PATH': os.environ.get('PATH', ''), 'LANG': 'C.UTF-8', 'ASAN_OPTIONS': 'detect_leaks=0'}
     try:
@@ -166,7 +173,7 @@ def results_of(top, test, programs):
                     put(f'{room}/{rest}', pools.pool_of(block.data().decode('utf-8')))
                 else:
                     yield block, told_run(room, programs, rest)
-            except (BadTest, pools.PoolText, OSError) as error:
+            except (BadTest, ValueError, OSError) as error:
                 raise BadTest(f'{block.number}: {error}') from None
 
 
