@@ -1,4 +1,4 @@
--- Definitions cited by the contracts of vt_terminal.
+-- Definitions cited by the contracts of vt_session.
 pub mod Calls
 pub mod Inputs
 pub mod Outputs
