@@ -5,15 +5,15 @@ ghost use Rattle.serde_json.specs.View.{view};
 ghost use Rattle.vt_findings_json.specs.Json as json_of;
 
 use crate::objects::{
-    child_details, command_details, event_details, field_details, keys_details, label_value,
-    named_details, no_details, object_details, path_details, replaced_details, through_details,
-    value_details,
+    ChildValues, child_details, command_details, event_details, field_details, keys_details,
+    label_value, named_details, no_details, object_details, path_details, position_value,
+    replaced_details, size_value, through_details, value_details,
 };
 use serde_json::Value;
 use std::alloc::{AllocError, Global};
 use vt_findings_text::{Item, Source, SpotText};
 use vt_inspect::{Finding, ReferenceAt, Spot};
-use vt_needs::Warning;
+use vt_needs::{Area, Element, TextField, Warning};
 use vt_objects::ObjectId;
 
 /// What an item is about, by its kind.
@@ -27,11 +27,19 @@ pub(crate) fn details_of(
     match item {
         Item::Finding(finding) => finding_details(alloc, source, finding),
         Item::Replaced(replaced) => {
-            replaced_details(alloc, source.label(replaced.id), replaced.by)
+            let object = object_value(alloc, source, replaced.id)?;
+            replaced_details(alloc, object, replaced.by)
         }
         Item::Warning(warning) => warning_details(alloc, source, warning),
         Item::Note(_) => no_details(alloc),
     }
+}
+
+/// An object by its ID, with its kind and its name.
+fn object_value(alloc: Global, source: &Source<'_>, id: ObjectId) -> Result<Value, AllocError>
+    ensures { IfOk result (λ v. view v ≡ json_of.object_data source.now id) }
+{
+    label_value(alloc, source.label(id))
 }
 
 fn finding_details(
@@ -44,7 +52,8 @@ fn finding_details(
     match finding {
         Finding::Record(_) | Finding::NoWorkingSet => no_details(alloc),
         Finding::TwoWorkingSets { id } | Finding::MacroBytes { id } => {
-            object_details(alloc, source.label(*id))
+            let object = object_value(alloc, source, *id)?;
+            object_details(alloc, object)
         }
         Finding::Missing(found)
         | Finding::WrongKind(found)
@@ -55,7 +64,8 @@ fn finding_details(
             path_details(alloc, path)
         }
         Finding::MacroCommand { id, at, function } => {
-            command_details(alloc, source.label(*id), *at, *function)
+            let object = object_value(alloc, source, *id)?;
+            command_details(alloc, object, *at, *function)
         }
         Finding::MacroValue {
             id,
@@ -63,15 +73,16 @@ fn finding_details(
             object,
             attribute,
         } => {
-            let changed = source.label(*object);
-            value_details(alloc, source.label(*id), *at, *attribute, changed)
+            let changed = object_value(alloc, source, *object)?;
+            let object = object_value(alloc, source, *id)?;
+            value_details(alloc, object, *at, *attribute, changed)
         }
         Finding::MacroCircle { path } => {
             let path = circle_values(alloc, source, path.as_slice())?;
             path_details(alloc, path)
         }
         Finding::OverBudget { id, event } => {
-            let object = source.label(*id);
+            let object = object_value(alloc, source, *id)?;
             match event {
                 None => object_details(alloc, object),
                 Some(event) => event_details(alloc, object, *event),
@@ -87,13 +98,13 @@ fn reference_details(
 ) -> Result<Value, AllocError>
     ensures { IfOk result (λ v. view v ≡ json_of.reference_details source.now found.now) }
 {
-    let names = source.label(found.reference.id);
-    let object = source.label(found.reference.parent);
+    let names = object_value(alloc, source, found.reference.id)?;
+    let object = object_value(alloc, source, found.reference.parent)?;
     let spot = SpotText { spot: found.spot };
     let place = format!(in alloc; "{spot}")?;
     match found.spot {
         Spot::Through { pointer, .. } => {
-            let pointer = source.label(pointer);
+            let pointer = object_value(alloc, source, pointer)?;
             through_details(alloc, names, object, place.as_str(), pointer)
         }
         _ => named_details(alloc, names, object, place.as_str()),
@@ -110,7 +121,7 @@ fn chain_values(
 {
     let mut path = Vec::new(alloc);
     for id in chain {
-        path.push(label_value(alloc, source.label(*id))?)?;
+        path.push(object_value(alloc, source, *id)?)?;
     }
     Ok(path)
 }
@@ -126,7 +137,7 @@ fn circle_values(
     let mut path = Vec::new(alloc);
     for id in circle {
         let id = ObjectId::from_raw(u16::from(*id));
-        path.push(label_value(alloc, source.label(id))?)?;
+        path.push(object_value(alloc, source, id)?)?;
     }
     Ok(path)
 }
@@ -139,21 +150,51 @@ fn warning_details(
     ensures { IfOk result (λ v. view v ≡ json_of.warning_details source.now warning.now) }
 {
     match warning {
-        Warning::Unused { id } => object_details(alloc, source.label(*id)),
-        Warning::TextTooWide(field) | Warning::TextTooHigh(field) => field_details(
-            alloc,
-            source.label(field.id),
-            field.cell,
-            field.area,
-            field.columns,
-        ),
-        Warning::Outside { element, area } => {
-            let object = source.label(element.parent);
-            let child = source.label(element.id);
-            child_details(alloc, object, *area, child, element)
+        Warning::Unused { id } => {
+            let object = object_value(alloc, source, *id)?;
+            object_details(alloc, object)
         }
+        Warning::TextTooWide(field) | Warning::TextTooHigh(field) => {
+            text_details(alloc, source, field)
+        }
+        Warning::Outside { element, area } => outside_details(alloc, source, element, *area),
         Warning::ExtraKeys { id, keys, most } => {
-            keys_details(alloc, source.label(*id), *keys, *most)
+            let object = object_value(alloc, source, *id)?;
+            keys_details(alloc, object, *keys, *most)
         }
     }
+}
+
+fn text_details(alloc: Global, source: &Source<'_>, field: &TextField) -> Result<Value, AllocError>
+    ensures { IfOk result (λ v. view v ≡ json_of.text_details source.now field.now) }
+{
+    let object = object_value(alloc, source, field.id)?;
+    let cell = area_value(alloc, field.cell)?;
+    let area = area_value(alloc, field.area)?;
+    field_details(alloc, object, cell, area, field.columns)
+}
+
+fn outside_details(
+    alloc: Global,
+    source: &Source<'_>,
+    element: &Element,
+    area: Area,
+) -> Result<Value, AllocError>
+    ensures { IfOk result (λ v. view v ≡ json_of.outside_details source.now element.now area) }
+{
+    let values = ChildValues {
+        object: object_value(alloc, source, element.parent)?,
+        area: area_value(alloc, area)?,
+        child: object_value(alloc, source, element.id)?,
+        index: element.index,
+    };
+    let position = position_value(alloc, element.x, element.y)?;
+    let size = size_value(alloc, element.width, element.height)?;
+    child_details(alloc, values, position, size)
+}
+
+fn area_value(alloc: Global, area: Area) -> Result<Value, AllocError>
+    ensures { IfOk result (λ v. view v ≡ json_of.size_data area.width area.height) }
+{
+    size_value(alloc, u32::from(area.width), u32::from(area.height))
 }
