@@ -40,12 +40,12 @@ def rows():
 def named_in(crate, names):
     """The libraries among these that the crate's files name."""
     found = set()
-    for path in glob.glob(f'{TOP}/crates/{crate}/*/**/*', recursive=True):
-        if path.endswith('.rt') and '/src/' in path:
-            text = re.sub(r'//.*', '', text_of(path))
-            own = set(re.findall(r'\bmod (\w+)', text)) | set(re.findall(r'\buse std::(\w+)', text))
-            found |= (set(re.findall(r'(?<![\w:])(\w+)::', text)) - own) | set(re.findall(r'\bRattle\.(\w+)', text))
-        elif path.endswith('.antt') and '/out/' not in path:
+    for path in glob.glob(f'{TOP}/crates/{crate}/src/**/*.rt', recursive=True):
+        text = re.sub(r'//.*', '', text_of(path))
+        own = set(re.findall(r'\bmod (\w+)', text)) | set(re.findall(r'\buse std::(\w+)', text))
+        found |= (set(re.findall(r'(?<![\w:])(\w+)::', text)) - own) | set(re.findall(r'\bRattle\.(\w+)', text))
+    for part in ('specs', 'proofs'):
+        for path in glob.glob(f'{TOP}/crates/{crate}/{part}/**/*.antt', recursive=True):
             found |= set(re.findall(r'\bRattle\.(\w+)', re.sub(r'--.*', '', text_of(path))))
     return (found & names) - {crate}
 
