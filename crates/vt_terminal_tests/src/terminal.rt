@@ -12,7 +12,7 @@ use vt_verify::{Accepted, verify};
 
 pub(super) const OWN: u8 = 0x26;
 
-const NAME: u64 = 0x2000_1D00_0000_0001;
+pub(super) const NAME: u64 = 0x2000_1D00_0000_0001;
 
 /// The Working Set 0, its Data Mask 1000, and in it the Container 100.
 pub(super) const POOL: &[u8] = &[
@@ -44,7 +44,7 @@ pub(super) fn terminal(rt: &impl AllocGlobal, profile: Profile) -> Terminal {
 /// A terminal with a set at 80 that has the pool of these bytes.
 pub(super) fn preloaded(rt: &impl AllocGlobal, bytes: &[u8]) -> Result<Terminal, Fail> {
     let accepted = accepted_pool(rt.alloc(), bytes)?;
-    let mut terminal = terminal(rt, Profile::standard());
+    let mut terminal = Terminal::new(rt.alloc(), OWN, Name::from_raw(NAME));
     terminal.preload(0x80, &accepted)?;
     Ok(terminal)
 }

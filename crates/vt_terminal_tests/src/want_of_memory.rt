@@ -1,12 +1,11 @@
 //! Calls that are refused memory: each leaves the terminal unchanged, and repeated it answers as if memory had not been refused.
 
-use super::terminal::{POOL, accepted_pool, expect_sent, input_of, terminal};
-use std::alloc::AllocError;
+use super::terminal::{NAME, OWN, POOL, accepted_pool, expect_sent, input_of, terminal};
 use std::process::Abort;
 use std::test::Fail;
+use vt_names::Name;
 use vt_node::Profile;
 use vt_server::*;
-use vt_verify::Accepted;
 
 const LINES: [&[u8]; 27] = [
     // A set of two members registers.
@@ -110,35 +109,24 @@ fn expect_lines(
     Ok(())
 }
 
-// The pool of the tests, read and verified again if memory was refused.
-fn accepted(rt: &impl AllocGlobal) -> Result<Accepted, AllocError> {
-    match accepted_pool(rt.alloc(), POOL) {
-        Ok(accepted) => Ok(accepted),
-        Err(_) => accepted_pool(rt.alloc(), POOL),
+// Preloads the pool at 80 in a new terminal.
+fn expect_preloaded(rt: &(impl Abort + AllocGlobal)) -> Result<(), Fail> {
+    let accepted = match accepted_pool(rt.alloc(), POOL) {
+        Ok(accepted) => accepted,
+        Err(_) => accepted_pool(rt.alloc(), POOL)?,
+    };
+    let mut terminal = Terminal::new(rt.alloc(), OWN, Name::from_raw(NAME));
+    if terminal.preload(0x80, &accepted).is_err() {
+        assert!(rt; state_of_set(&terminal) == [false; 3]);
+        terminal.preload(0x80, &accepted)?;
     }
-}
-
-// Preloads the pool at 80.
-fn expect_preloaded(
-    rt: &(impl Abort + AllocGlobal),
-    terminal: &mut Terminal,
-    accepted: &Accepted,
-) -> Result<(), Fail> {
-    if terminal.preload(0x80, accepted).is_err() {
-        assert!(rt; state_of_set(terminal) == [false; 3]);
-        terminal.preload(0x80, accepted)?;
-    }
-    assert!(rt; state_of_set(terminal) == [true; 3]);
+    assert!(rt; state_of_set(&terminal) == [true; 3]);
     Ok(())
 }
 
 #[test]
 fn want_of_memory(rt: HostRuntime) -> Result<(), Fail> {
-    expect_preloaded(
-        &rt,
-        &mut terminal(&rt, Profile::standard()),
-        &accepted(&rt)?,
-    )?;
+    expect_preloaded(&rt)?;
     for in_runs in [false, true] {
         expect_lines(&rt, &mut terminal(&rt, Profile::standard()), in_runs)?;
     }
