@@ -55,7 +55,7 @@ def copy_of_programs(names, room):
 
 def main():
     if sys.argv[1:] == ['--gate']:
-        # (the gate is run in this tree, and leaves its programs where they are wanted)
+        # (the gate runs in this tree, so its programs lie where `make build` leaves them)
         sums = sums_of(PROGRAMS)
         status = subprocess.run(['rt', 'ci'], cwd=ROOT).returncode
         if status == 0:
