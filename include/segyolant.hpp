@@ -159,11 +159,30 @@ struct Profile {
     std::uint16_t height = 480;            // of a mask, in pixels
 };
 
+// A working set.
+struct Set {
+    std::uint8_t address = 0;          // of its master
+    std::optional<std::uint64_t> name; // the NAME of its master (ISO 11783-5); none for a preloaded set before a claim of its address
+    bool has_pool = false;
+    bool is_shown = false;
+};
+
+// What is active in a working set, each by its ID, none where there is none.
+struct Active {
+    std::optional<std::uint16_t> mask;          // the data mask or alarm mask
+    std::optional<std::uint16_t> soft_key_mask; // that of the mask
+    std::optional<std::uint16_t> input;         // the input that the operator selected
+    std::optional<std::uint16_t> key;           // the key or button that the operator holds
+};
+
+// An element of the shown mask or of its soft keys, in pixels from the upper left corner of the mask (vt_terminal.h).
+using Element = vt_element;
+
 // An ISOBUS virtual terminal: its working sets, their object pools, and the screen of the shown set.
 //
 // Each input has two forms. `hear(time, frame)` returns a Reply with the outputs in a vector. `hear(time, frame, each)` calls `each`
-// with each output, as a `const Output &`, and allocates nothing but what the terminal itself needs. `each` calls no input of the
-// same terminal.
+// with each output, as a `const Output &`, and allocates nothing but what the terminal itself needs. An input of the same terminal that
+// `each` makes is refused with `waiting`.
 //
 // After an exception, of `each` or of the vector, the input is taken and its other outputs are lost.
 //
@@ -223,7 +242,7 @@ public:
     Result preload(std::uint8_t address, const std::uint8_t *pool, std::size_t count)
     {
         static const std::uint8_t nothing = 0;
-        return at_ ? Result(vt_preload(at_, address, pool ? pool : &nothing, pool ? count : 0)) : Result::not_begun;
+        return Result(called([&](vt_terminal *at) { return vt_preload(at, address, pool ? pool : &nothing, pool ? count : 0); }));
     }
 
     // The same for a vector, an array or a string of bytes.
@@ -247,8 +266,8 @@ public:
 
     // The time alone, in microseconds: silent transport sessions end (ISO 11783-3), and silent sets are closed (ISO 11783-6).
     // Call it at `deadline`, or some times a second.
-    Reply tick(std::uint64_t time) { return collect(at_ ? vt_tick(at_, time) : moved); }
-    template <class Each> Result tick(std::uint64_t time, Each &&each) { return give(at_ ? vt_tick(at_, time) : moved, each); }
+    Reply tick(std::uint64_t time) { return collect(ticked(time)); }
+    template <class Each> Result tick(std::uint64_t time, Each &&each) { return give(ticked(time), each); }
 
     // The operator presses a soft key or a button (ISO 11783-6, Soft Key Activation, Button Activation).
     Reply press(std::uint16_t id) { return collect(acted(VT_PRESS, id, 0)); }
@@ -281,12 +300,12 @@ public:
 
     // The address claim, to be sent at the start (ISO 11783-5). The first other frame goes out 250 ms after it.
     // A lost terminal has no output.
-    Reply claim() { return collect(at_ ? vt_claim(at_) : moved); }
-    template <class Each> Result claim(Each &&each) { return give(at_ ? vt_claim(at_) : moved, each); }
+    Reply claim() { return collect(called(vt_claim)); }
+    template <class Each> Result claim(Each &&each) { return give(called(vt_claim), each); }
 
     // The status message, to be sent once a second (ISO 11783-6, VT Status). A lost terminal has no output.
-    Reply status() { return collect(at_ ? vt_status(at_) : moved); }
-    template <class Each> Result status(Each &&each) { return give(at_ ? vt_status(at_) : moved, each); }
+    Reply status() { return collect(called(vt_status)); }
+    template <class Each> Result status(Each &&each) { return give(called(vt_status), each); }
 
     // ---- the screen
 
@@ -304,11 +323,76 @@ public:
         if (count == UINT64_MAX) {
             return std::nullopt;
         }
-        std::string text(static_cast<std::size_t>(count), ' ');
-        for (std::size_t k = 0; k < text.size(); k++) {
-            text[k] = static_cast<char>(vt_screen_word(at_, k - k % 8) >> 8 * (k % 8));
+        return written<std::string>(count);
+    }
+
+    // ---- reading the state
+    //
+    // None if the library was refused memory; the container itself may throw std::bad_alloc.
+
+    // The working sets in the order in which they registered.
+    [[nodiscard]] std::optional<std::vector<Set>> sets()
+    {
+        std::array<vt_set, 256> all{};
+        std::vector<Set> sets;
+        const std::uint64_t listed = at_ ? vt_sets(at_, all.data(), all.size()) : 0;
+        if (listed == UINT64_MAX) {
+            return std::nullopt;
         }
-        return text;
+        for (std::size_t k = 0; k < all.size() && k < listed; k++) {
+            const vt_set &one = all[k];
+            sets.push_back(Set{one.address, one.has_name ? std::optional<std::uint64_t>(one.name) : std::nullopt, one.has_pool != 0,
+                               one.is_shown != 0});
+        }
+        return sets;
+    }
+
+    // What is active in the set at an address; none if there is no set with a pool.
+    [[nodiscard]] std::optional<Active> active(std::uint8_t address) noexcept
+    {
+        vt_active_ids all{};
+        if (!at_ || vt_active(at_, address, &all) != VT_DONE) {
+            return std::nullopt;
+        }
+        return Active{id_of(all.mask), id_of(all.soft_key_mask), id_of(all.input), id_of(all.key)};
+    }
+
+    // The record of an object of the set at an address, as it is now, in the layout of object pools (ISO 11783-6). Empty if there is no
+    // such object.
+    [[nodiscard]] std::optional<std::vector<std::uint8_t>> object(std::uint8_t address, std::uint16_t id)
+    {
+        const std::uint64_t count = at_ ? vt_text_of_object(at_, address, id) : 0;
+        return count == UINT64_MAX ? std::nullopt : std::optional(written<std::vector<std::uint8_t>>(count));
+    }
+
+    // A mask of the set at an address as SVG, with its soft keys to its right; without a mask the active one. Empty if there is no set
+    // with a pool.
+    [[nodiscard]] std::optional<std::string> picture(std::uint8_t address, std::optional<std::uint16_t> mask = std::nullopt)
+    {
+        const std::uint64_t count = at_ ? vt_text_of_picture(at_, address, mask.value_or(VT_NO_ID)) : 0;
+        return count == UINT64_MAX ? std::nullopt : std::optional(written<std::string>(count));
+    }
+
+    // The elements that the shown mask and its soft keys show, in the order in which they are drawn, at most 2,000.
+    [[nodiscard]] std::optional<std::vector<Element>> elements()
+    {
+        const std::uint64_t count = at_ ? vt_elements(at_, nullptr, 0) : 0;
+        if (count == UINT64_MAX) {
+            return std::nullopt;
+        }
+        std::vector<Element> elements(static_cast<std::size_t>(count));
+        if (at_ && vt_elements(at_, elements.data(), elements.size()) != count) {
+            return std::nullopt;
+        }
+        return elements;
+    }
+
+    // The key, button or input that is shown at a place, in pixels from the upper left corner of the mask: of several the one drawn last.
+    // None if there is none, or if the library was refused memory.
+    [[nodiscard]] std::optional<std::uint16_t> touch(std::int32_t x, std::int32_t y) noexcept
+    {
+        const std::uint64_t id = at_ ? vt_touch(at_, x, y) : VT_NO_ID;
+        return id < VT_NO_ID ? std::optional<std::uint16_t>(static_cast<std::uint16_t>(id)) : std::nullopt;
     }
 
     // ---- what a host asks
@@ -339,10 +423,15 @@ private:
     // Takes the outputs that wait when a call ends, also by an exception, so that the next input is heard.
     struct Rest {
         vt_terminal *at;
+        bool &is_giving;
+        Rest(vt_terminal *terminal, bool &giving) : at(terminal), is_giving(giving) { is_giving = true; }
+        Rest(const Rest &) = delete;
+        Rest &operator=(const Rest &) = delete;
         ~Rest()
         {
             while (vt_next(at) != VT_NONE) {
             }
+            is_giving = false;
         }
     };
 
@@ -387,19 +476,39 @@ private:
         for (std::size_t k = 0; k < frame.bytes.size() && k < frame.count; k++) {
             bits |= std::uint64_t{frame.bytes[k]} << 8 * k;
         }
-        return at_ ? vt_hear(at_, time, frame.id, frame.count, bits) : moved;
+        return called([&](vt_terminal *at) { return vt_hear(at, time, frame.id, frame.count, bits); });
+    }
+
+    std::uint32_t ticked(std::uint64_t time)
+    {
+        return called([=](vt_terminal *at) { return vt_tick(at, time); });
     }
 
     std::uint32_t acted(vt_action kind, std::uint32_t id, std::uint32_t number)
     {
-        return at_ ? vt_act(at_, kind, id, number) : moved;
+        return called([=](vt_terminal *at) { return vt_act(at, kind, id, number); });
     }
 
     std::uint32_t entered(std::uint16_t id, std::string_view text)
     {
         static const char nothing = 0;
         const char *bytes = text.data() ? text.data() : &nothing;
-        return at_ ? vt_text(at_, id, reinterpret_cast<const std::uint8_t *>(bytes), text.size()) : moved;
+        return called([&](vt_terminal *at) { return vt_text(at, id, reinterpret_cast<const std::uint8_t *>(bytes), text.size()); });
+    }
+
+    // The first bytes of the text written last.
+    template <class Bytes> Bytes written(std::uint64_t count)
+    {
+        Bytes bytes(static_cast<std::size_t>(count), 0);
+        if (at_) {
+            vt_copy(at_, reinterpret_cast<std::uint8_t *>(bytes.data()), bytes.size());
+        }
+        return bytes;
+    }
+
+    static std::optional<std::uint16_t> id_of(std::uint16_t id) noexcept
+    {
+        return id != VT_NO_ID ? std::optional<std::uint16_t>(id) : std::nullopt;
     }
 
     // The output taken last.
@@ -418,10 +527,16 @@ private:
         return frame;
     }
 
+    // Makes a call, unless the terminal was moved away, or the call comes from within a function that takes outputs.
+    template <class Call> std::uint32_t called(Call call)
+    {
+        return !at_ ? moved : is_giving_ ? std::uint32_t{VT_WAITING} : call(at_);
+    }
+
     template <class Each> Result give(std::uint32_t status, Each &each)
     {
         if (status == VT_DONE) {
-            const Rest rest{at_};
+            const Rest rest{at_, is_giving_};
             for (std::uint32_t kind = vt_next(at_); kind != VT_NONE; kind = vt_next(at_)) {
                 const Output output = latest(kind);
                 each(output);
@@ -439,6 +554,7 @@ private:
     }
 
     vt_terminal *at_ = nullptr;
+    bool is_giving_ = false; // whether a function takes the outputs of a call
 };
 
 } // namespace segyolant

@@ -1,7 +1,7 @@
 /* Segyolant's terminal for C: an ISOBUS virtual terminal (ISO 11783-6) that lies in the caller's memory.
  *
- * It takes frames of the bus, the time and actions of the operator, and gives the frames to send, the refusals to the operator and
- * the screen as text. It has no global state, no thread, no file and no clock. docs/EMBEDDING.md explains it; C++ has
+ * It takes frames of the bus, the time and actions of the operator, and gives the frames to send, the refusals to the operator, the
+ * screen as text, each object as it is now, and pictures of masks. It has no global state, no thread, no file and no clock. docs/EMBEDDING.md explains it; C++ has
  * segyolant.hpp and Rust has bindings/rust, which are safe to use.
  *
  * Link with crates/vt_terminal/out/libvt_terminal.a, and define rattle_alloc, rattle_realloc and rattle_dealloc (vt_heap.h).
@@ -19,6 +19,11 @@
 
 #ifdef __cplusplus
 extern "C" {
+#endif
+
+/* The functions that stand whole in this header. The shared library has them too, for languages that read no header. */
+#ifndef VT_INLINE
+#define VT_INLINE static inline
 #endif
 
 /* A terminal. Its memory is the caller's: vt_size() bytes at a multiple of 16. */
@@ -69,7 +74,7 @@ void vt_init(struct vt_terminal *at, uint32_t own, uint64_t name, uint32_t memor
 void vt_done(struct vt_terminal *at);
 
 /* Makes a terminal by vt_init. Returns VT_NOT_BEGUN for an address above 253, or else VT_DONE. */
-static inline enum vt_result vt_begin(struct vt_terminal *at, uint32_t own, uint64_t name, const struct vt_profile *profile)
+VT_INLINE enum vt_result vt_begin(struct vt_terminal *at, uint32_t own, uint64_t name, const struct vt_profile *profile)
 {
     uint32_t keys = (uint32_t)profile->soft_key_width | (uint32_t)profile->soft_key_height << 8 |
                     (uint32_t)profile->virtual_soft_keys << 16 | (uint32_t)profile->physical_soft_keys << 24;
@@ -142,8 +147,163 @@ uint32_t vt_redraws(struct vt_terminal *at);
  * UINT64_MAX if memory was refused. */
 uint64_t vt_screen(struct vt_terminal *at);
 
-/* Eight bytes of the text drawn last, from an index on, the first in the lowest byte, and 0 for each byte past the end. */
+/* Eight bytes of the text written last, from an index on, the first in the lowest byte, and 0 for each byte past the end. The text is
+ * that of vt_screen or of a call of "reading the state". vt_copy takes it whole. */
 uint64_t vt_screen_word(struct vt_terminal *at, uint64_t index);
+
+/* Copies the text written last to `buf`, as much as there is room for. `buf` may be null if `room` is 0. */
+VT_INLINE void vt_copy(struct vt_terminal *at, uint8_t *buf, size_t room)
+{
+    for (size_t k = 0; k < room; k += 8) {
+        uint64_t word = vt_screen_word(at, k);
+        for (size_t i = 0; i < 8 && i < room - k; i++) {
+            buf[k + i] = (uint8_t)(word >> 8 * i);
+        }
+    }
+}
+
+/* ---- reading the state
+ *
+ * What a display draws and its dialogs ask. The calls change nothing but the text written last. Each returns how much there is, also
+ * where it is more than the room, and UINT64_MAX if memory was refused. The caller's memory may be null if `room` is 0. */
+
+/* The calls behind those below. A vt_text_of_ call writes a text, which vt_copy copies, and returns its number of bytes. */
+uint64_t vt_text_of_sets(struct vt_terminal *at);
+uint64_t vt_text_of_object(struct vt_terminal *at, uint32_t address, uint32_t id);
+uint64_t vt_text_of_picture(struct vt_terminal *at, uint32_t address, uint32_t mask);
+uint64_t vt_text_of_elements(struct vt_terminal *at);
+uint64_t vt_ids_of_active(struct vt_terminal *at, uint32_t address);
+uint64_t vt_id_at(struct vt_terminal *at, uint32_t x, uint32_t y);
+
+/* The number of no object. */
+#define VT_NO_ID 65535
+
+/* A working set. */
+struct vt_set {
+    uint64_t name;    /* the NAME of its master (ISO 11783-5); 0 without one */
+    uint8_t address;  /* of its master */
+    uint8_t has_name; /* 0 for a preloaded set before a claim of its address, or else 1 */
+    uint8_t has_pool; /* 1 or 0 */
+    uint8_t is_shown; /* 1 for the set of vt_shown, or else 0 */
+};
+
+/* Lists the working sets in the order in which they registered, as many as there is room for, and returns how many there are: at most
+ * 254. */
+VT_INLINE uint64_t vt_sets(struct vt_terminal *at, struct vt_set *sets, size_t room)
+{
+    uint64_t count = vt_text_of_sets(at);
+    if (count == UINT64_MAX) {
+        return count;
+    }
+    count /= 16;
+    for (size_t k = 0; k < room && k < count; k++) {
+        uint64_t head = vt_screen_word(at, 16 * (uint64_t)k);
+        sets[k].name = vt_screen_word(at, 16 * (uint64_t)k + 8);
+        sets[k].address = (uint8_t)head;
+        sets[k].has_pool = (uint8_t)(head >> 8);
+        sets[k].is_shown = (uint8_t)(head >> 16);
+        sets[k].has_name = (uint8_t)(head >> 24);
+    }
+    return count;
+}
+
+/* What is active in a working set, each VT_NO_ID where there is none. */
+struct vt_active_ids {
+    uint16_t mask;          /* the data mask or alarm mask */
+    uint16_t soft_key_mask; /* that of the mask */
+    uint16_t input;         /* the input that the operator selected */
+    uint16_t key;           /* the key or button that the operator holds */
+};
+
+/* Tells what is active in the set at an address. Returns VT_NO_SUCH if there is no set with a pool, and then each is VT_NO_ID. */
+VT_INLINE enum vt_result vt_active(struct vt_terminal *at, uint32_t address, struct vt_active_ids *active)
+{
+    uint64_t ids = vt_ids_of_active(at, address);
+    active->mask = (uint16_t)ids;
+    active->soft_key_mask = (uint16_t)(ids >> 16);
+    active->input = (uint16_t)(ids >> 32);
+    active->key = (uint16_t)(ids >> 48);
+    return ids == UINT64_MAX ? VT_NO_SUCH : VT_DONE;
+}
+
+/* Writes the record of an object of the set at an address to `buf`: its attributes as they are now, in the layout of object pools
+ * (ISO 11783-6; docs/PROFILE.md, "Records"; vt_records.h). Returns the number of its bytes, 0 if there is no such object. */
+VT_INLINE uint64_t vt_object(struct vt_terminal *at, uint32_t address, uint32_t id, uint8_t *buf, size_t room)
+{
+    uint64_t count = vt_text_of_object(at, address, id);
+    if (count != UINT64_MAX) {
+        vt_copy(at, buf, room < count ? room : (size_t)count);
+    }
+    return count;
+}
+
+/* Draws a mask of the set at an address as SVG, with its soft keys in columns to its right, or the active mask for VT_NO_ID, at the
+ * sizes of the terminal's profile (docs/PROFILE.md, "Pictures"). Returns the number of bytes, 0 if there is no set with a pool. */
+VT_INLINE uint64_t vt_picture(struct vt_terminal *at, uint32_t address, uint32_t mask, uint8_t *buf, size_t room)
+{
+    uint64_t count = vt_text_of_picture(at, address, mask);
+    if (count != UINT64_MAX) {
+        vt_copy(at, buf, room < count ? room : (size_t)count);
+    }
+    return count;
+}
+
+/* An element of the shown mask or of its soft keys, in pixels from the upper left corner of the mask. */
+struct vt_element {
+    uint16_t id;     /* the object: for a pointer that to which it leads */
+    uint8_t kind;    /* the number of its kind (ISO 11783-6) */
+    uint8_t depth;   /* how many elements are around it */
+    uint16_t around; /* the index of the element around it, or VT_NO_ELEMENT in the mask itself and for a soft key */
+    int32_t x;       /* the left edge */
+    int32_t y;       /* the upper edge */
+    uint32_t width;  /* 0 of a kind without an area */
+    uint32_t height;
+    int32_t left; /* nothing of it is shown to the left of this column, above `top`, from `right` on, or from `bottom` on */
+    int32_t top;
+    int32_t right;
+    int32_t bottom;
+};
+
+/* The index of no element. */
+#define VT_NO_ELEMENT 65535
+
+/* Lists the elements that the shown mask and its soft keys show, in the order in which they are drawn, as many as there is room for, and
+ * returns how many there are: at most 2,000. Each is in the list after the one around it. The soft keys are in columns to the right of
+ * the mask, as vt_picture draws them; a host that shows them elsewhere moves each key with what is in it. */
+VT_INLINE uint64_t vt_elements(struct vt_terminal *at, struct vt_element *elements, size_t room)
+{
+    uint64_t count = vt_text_of_elements(at);
+    if (count == UINT64_MAX) {
+        return count;
+    }
+    count /= 40;
+    for (size_t k = 0; k < room && k < count; k++) {
+        uint64_t from = 40 * (uint64_t)k;
+        uint64_t head = vt_screen_word(at, from), corner = vt_screen_word(at, from + 8), size = vt_screen_word(at, from + 16);
+        uint64_t first = vt_screen_word(at, from + 24), last = vt_screen_word(at, from + 32);
+        struct vt_element *one = &elements[k];
+        one->id = (uint16_t)head;
+        one->kind = (uint8_t)(head >> 16);
+        one->depth = (uint8_t)(head >> 24);
+        one->around = (uint16_t)(head >> 32);
+        one->x = (int32_t)(uint32_t)corner;
+        one->y = (int32_t)(uint32_t)(corner >> 32);
+        one->width = (uint32_t)size;
+        one->height = (uint32_t)(size >> 32);
+        one->left = (int32_t)(uint32_t)first;
+        one->top = (int32_t)(uint32_t)(first >> 32);
+        one->right = (int32_t)(uint32_t)last;
+        one->bottom = (int32_t)(uint32_t)(last >> 32);
+    }
+    return count;
+}
+
+/* The ID of the key, button or input that is shown at a place, in pixels from the upper left corner of the mask: of several the one drawn
+ * last. VT_NO_ID if there is none. */
+VT_INLINE uint64_t vt_touch(struct vt_terminal *at, int32_t x, int32_t y)
+{
+    return vt_id_at(at, (uint32_t)x, (uint32_t)y);
+}
 
 /* ---- what a host asks */
 

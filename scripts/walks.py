@@ -29,7 +29,16 @@ LENDING = [
     ("vt_shown", "screen::shown", "TellsShown", [], "u32"),
     ("vt_lost", "screen::lost", "TellsLost", [], "u32"),
     ("vt_deadline", "screen::deadline", "TellsDeadline", [], "u64"),
+    ("vt_text_of_sets", "reading::sets", "Lists", [], "u64"),
+    ("vt_ids_of_active", "reading::active", "TellsActive", ["u32"], "u64"),
+    ("vt_text_of_object", "reading::object", "WritesObject", ["u32", "u32"], "u64"),
+    ("vt_text_of_picture", "reading::picture", "Pictures", ["u32", "u32"], "u64"),
+    ("vt_text_of_elements", "reading::shown_elements", "ListsElements", [], "u64"),
+    ("vt_id_at", "reading::touch", "TellsTouched", ["u32", "u32"], "u64"),
 ]
+
+# The relations of a module other than Calls.
+READINGS = ["Lists", "TellsActive", "WritesObject", "Pictures", "ListsElements", "TellsTouched"]
 
 # Exports with a number and a slice of bytes: the export, the function, its relation, the module of the relation, and the slice in it.
 SLICES = [
@@ -110,7 +119,7 @@ use denote.Triple.Entry.{{on_entry}}
 use denote.Triple.Spec.{{triple_of}}
 use denote.Triple.Walked.{{Stays, walk_of, says, stay_dropped, Goes-dropped, ends_at}}
 use denote.Triple.Table.{{framed}}
-use Rattle.vt_session.specs.Calls.{{{relation}}}
+use Rattle.vt_session.specs.{"Readings" if relation in READINGS else "Calls"}.{{{relation}}}
 use Rattle.vt_session.specs.declared.session.Session.{{Session}}
 use Rattle.vt_session.specs.contracts.session.Session.{{the_row as R}}
 use Rattle.vt_session.specs.contracts.{dots} as g

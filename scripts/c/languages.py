@@ -14,7 +14,7 @@ def check_cpp_header(folder):
     need('g++')
     source = f'{folder}/headers.cpp'
     with open(source, 'w') as file:
-        file.write('#include "vt_heap.h"\n#include "vt_check.h"\n#include "vt_terminal.h"\nint main() { return vt_size() == 0; }\n')
+        file.write('#include "vt_heap.h"\n#include "vt_check.h"\n#include "vt_records.h"\n#include "vt_terminal.h"\nint main() { return vt_size() == 0; }\n')
     words = ['g++', '-std=c++17', '-Wall', '-Wextra', '-Werror', f'-I{HEADERS}', '-fsyntax-only', source]
     ran = subprocess.run(words, capture_output=True, text=True)
     expect(ran.returncode == 0, ran.stderr[:400])

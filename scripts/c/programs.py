@@ -14,6 +14,7 @@ SANITIZERS = ['-g', '-fsanitize=address,undefined', '-fno-sanitize-recover=all']
 HOST = ['host.c', 'lines.c']
 REPLAY = ['replay.c', 'files.c', *HOST]
 LIVE = ['live.c', 'bus.c', *HOST]
+STATE = ['state.c', 'files.c', *HOST]
 
 
 def compiled(folder, name, sources, *flags, compiler='gcc', library=LIBRARY):
@@ -43,6 +44,9 @@ class Programs:
                                  ['-O1', '-Dmain=replay_main', *SANITIZERS]),
             'live': ([*LIVE, 'heap.c'], ['-O2']),
             'live-sanitized': ([*LIVE, 'heap.c'], ['-O1', *SANITIZERS]),
+            'state': ([*STATE, 'heap.c'], ['-O2']),
+            'state-sanitized': ([*STATE, 'heap.c'], ['-O1', *SANITIZERS]),
+            'records': (['records.c', 'files.c'], ['-O1', *SANITIZERS]),
             'bench': (['bench.c', *HOST, 'heap.c'], ['-O2']),
             'bench-sanitized': (['bench.c', *HOST, 'heap.c'], ['-O1', *SANITIZERS]),
             'arena_64k': ([f'{ROOT}/scripts/c/arena_64k.c', 'arena.c'], ['-O2', '-DARENA_BYTES=65536']),

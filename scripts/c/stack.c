@@ -49,6 +49,15 @@ static void screen(void)
     result = vt_screen(vt);
 }
 
+/* Reads what a display reads of the shown set. */
+static void readings(void)
+{
+    uint32_t shown = (uint32_t)vt_shown(vt);
+
+    result = vt_text_of_sets(vt) + vt_text_of_elements(vt) + vt_text_of_picture(vt, shown, VT_NO_ID);
+    result = vt_text_of_object(vt, shown, 1000) + vt_ids_of_active(vt, shown) + vt_id_at(vt, 1, 1);
+}
+
 static void tick(void)
 {
     result = vt_tick(vt, vt_deadline(vt));
@@ -105,6 +114,7 @@ struct depths {
     size_t hear;
     size_t act;
     size_t screen;
+    size_t readings;
 };
 
 /* Takes a line of the log, and keeps the greatest depths. */
@@ -126,18 +136,19 @@ static void take_line(struct span text, struct depths *most)
     }
     if (vt_redraws(vt)) {
         keep_most(&most->screen, depth_of(screen));
+        keep_most(&most->readings, depth_of(readings));
     }
 }
 
 static void take_log(FILE *log)
 {
     static char text[8192];
-    struct depths most = {0, 0, depth_of(screen)};
+    struct depths most = {0, 0, depth_of(screen), depth_of(readings)};
     while (fgets(text, sizeof text, log) != NULL) {
         struct span span = {text, strcspn(text, "\n")};
         take_line(span, &most);
     }
-    printf("hear %zu\nact %zu\nscreen %zu\n", most.hear, most.act, most.screen);
+    printf("hear %zu\nact %zu\nscreen %zu\nreadings %zu\n", most.hear, most.act, most.screen, most.readings);
 }
 
 static bool read_pool(const char *path, const char *address)

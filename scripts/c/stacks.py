@@ -3,8 +3,8 @@ from c.logs import deep_log, deep_pool, timeouts_log, upload_log
 from c.programs import EXAMPLES, run
 from c.results import expect, read
 
-# The most bytes of the stack: of making, preloading and ending a terminal, and of an input.
-STACKS = {'init': 16384, 'preload': 16384, 'done': 16384, 'hear': 98304, 'act': 98304, 'tick': 98304}
+# The most bytes of the stack: of making, preloading and ending a terminal, of what a display reads, and of an input.
+STACKS = {'init': 16384, 'preload': 16384, 'done': 16384, 'screen': 16384, 'readings': 16384, 'hear': 98304, 'act': 98304, 'tick': 98304}
 
 
 def measure(program, folder, text, pool=None):
@@ -63,9 +63,9 @@ def check_deep_pool(program, folder):
 def test_stacks(tests, programs):
     program = programs.get('stack')
     tests.run('stack pool', check_deep_pool, programs.get('replay'), programs.folder)
-    if not any(tests.only in f'stack of vt_{name}' for name in STACKS):
+    if not any(tests.only in f'stack of {name}' for name in STACKS):
         return
     most = measured_stacks(program, programs.folder)
-    print(f'most bytes of the stack: {", ".join(f"vt_{name} {depth}" for name, depth in most.items())}')
+    print(f'most bytes of the stack: {", ".join(f"{name} {depth}" for name, depth in most.items())}')
     for name in STACKS:
-        tests.run(f'stack of vt_{name}', check_stack, most, name)
+        tests.run(f'stack of {name}', check_stack, most, name)

@@ -1,7 +1,7 @@
 //! An ISOBUS virtual terminal (ISO 11783-6): the display in a tractor cab that runs the screens an implement uploads to it.
 //!
 //! A [`Terminal`] takes frames of the bus, the time and actions of the operator, and gives the frames to send, the refusals to the
-//! operator and the screen as text. It has no thread, no file and no clock. It is the proved library `libvt_terminal.a` behind safe
+//! operator, the screen as text, each object as it is now, and pictures of masks. It has no thread, no file and no clock. It is the proved library `libvt_terminal.a` behind safe
 //! calls; `docs/EMBEDDING.md` of the repository explains it.
 //!
 //! ```
@@ -32,16 +32,20 @@
 #![deny(unsafe_code)]
 #![deny(unsafe_op_in_unsafe_fn)]
 
+mod element;
 mod error;
 mod frame;
 mod output;
 mod profile;
 #[allow(unsafe_code)]
 mod raw;
+mod set;
 mod terminal;
 
+pub use element::{Bounds, Element};
 pub use error::Error;
 pub use frame::Frame;
 pub use output::{Output, Outputs, Refusal};
 pub use profile::Profile;
+pub use set::{Active, Set};
 pub use terminal::Terminal;

@@ -61,6 +61,12 @@ extern "C" {
     fn vt_redraws(at: *mut VtTerminal) -> u32;
     fn vt_screen(at: *mut VtTerminal) -> u64;
     fn vt_screen_word(at: *mut VtTerminal, index: u64) -> u64;
+    fn vt_text_of_sets(at: *mut VtTerminal) -> u64;
+    fn vt_text_of_elements(at: *mut VtTerminal) -> u64;
+    fn vt_id_at(at: *mut VtTerminal, x: u32, y: u32) -> u64;
+    fn vt_ids_of_active(at: *mut VtTerminal, address: u32) -> u64;
+    fn vt_text_of_object(at: *mut VtTerminal, address: u32, id: u32) -> u64;
+    fn vt_text_of_picture(at: *mut VtTerminal, address: u32, mask: u32) -> u64;
     fn vt_shown(at: *mut VtTerminal) -> u32;
     fn vt_lost(at: *mut VtTerminal) -> u32;
     fn vt_deadline(at: *mut VtTerminal) -> u64;
@@ -193,9 +199,46 @@ impl Handle {
         unsafe { vt_screen(self.at.as_ptr()) }
     }
 
+    /// Eight bytes of the text written last, from an index on.
     pub(crate) fn screen_word(&self, index: u64) -> u64 {
         // SAFETY: `at` is a terminal, which no other thread uses, since `Handle` is not `Sync`.
         unsafe { vt_screen_word(self.at.as_ptr(), index) }
+    }
+
+    /// Lists the working sets and returns the number of bytes of their list, 16 for each, or `u64::MAX`.
+    pub(crate) fn sets(&mut self) -> u64 {
+        // SAFETY: `at` is a terminal, lent alone.
+        unsafe { vt_text_of_sets(self.at.as_ptr()) }
+    }
+
+    /// The active mask of a set, its soft key mask, its selected input and its held key, 16 bits each, the first lowest.
+    pub(crate) fn active(&mut self, address: u8) -> u64 {
+        // SAFETY: `at` is a terminal, lent alone.
+        unsafe { vt_ids_of_active(self.at.as_ptr(), u32::from(address)) }
+    }
+
+    /// Writes the record of an object and returns the number of its bytes, or `u64::MAX`.
+    pub(crate) fn object(&mut self, address: u8, id: u16) -> u64 {
+        // SAFETY: `at` is a terminal, lent alone.
+        unsafe { vt_text_of_object(self.at.as_ptr(), u32::from(address), u32::from(id)) }
+    }
+
+    /// Lists the elements of the shown mask and returns the number of bytes of their list, 40 for each, or `u64::MAX`.
+    pub(crate) fn elements(&mut self) -> u64 {
+        // SAFETY: `at` is a terminal, lent alone.
+        unsafe { vt_text_of_elements(self.at.as_ptr()) }
+    }
+
+    /// The ID of what is shown at a place, 65535 or `u64::MAX`.
+    pub(crate) fn touch(&mut self, x: u32, y: u32) -> u64 {
+        // SAFETY: `at` is a terminal, lent alone.
+        unsafe { vt_id_at(self.at.as_ptr(), x, y) }
+    }
+
+    /// Draws a mask as SVG and returns the number of bytes, or `u64::MAX`.
+    pub(crate) fn picture(&mut self, address: u8, mask: u16) -> u64 {
+        // SAFETY: `at` is a terminal, lent alone.
+        unsafe { vt_text_of_picture(self.at.as_ptr(), u32::from(address), u32::from(mask)) }
     }
 
     pub(crate) fn shown(&self) -> u32 {

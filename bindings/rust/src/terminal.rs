@@ -1,5 +1,6 @@
 use crate::raw::{status, Action, Handle};
-use crate::{Error, Frame, Outputs, Profile};
+use crate::set::NO_ID;
+use crate::{Active, Element, Error, Frame, Outputs, Profile, Set};
 
 /// An ISOBUS virtual terminal: its working sets, their object pools, and the screen of the shown set.
 ///
@@ -127,16 +128,50 @@ impl Terminal {
     /// [`Error::OutOfMemory`].
     pub fn screen(&mut self) -> Result<String, Error> {
         let count = self.handle.screen();
-        let mut text = String::new();
-        let room = usize::try_from(count).map_err(|_| Error::OutOfMemory)?;
-        text.try_reserve_exact(room)
-            .map_err(|_| Error::OutOfMemory)?;
-        for index in (0..count).step_by(8) {
-            let word = self.handle.screen_word(index).to_le_bytes();
-            let left = (count - index).min(8) as usize;
-            text.extend(word[..left].iter().copied().map(char::from));
-        }
-        Ok(text)
+        self.written(count).map(text_of)
+    }
+
+    // ---- reading the state
+
+    /// The working sets in the order in which they registered. The only error is [`Error::OutOfMemory`].
+    pub fn sets(&mut self) -> Result<Vec<Set>, Error> {
+        let count = self.handle.sets();
+        let bytes = self.written(count)?;
+        Ok(bytes.chunks_exact(16).map(Set::from_bytes).collect())
+    }
+
+    /// What is active in the set at an address, or `None` if there is no set with a pool.
+    pub fn active(&mut self, address: u8) -> Option<Active> {
+        Active::from_ids(self.handle.active(address))
+    }
+
+    /// The record of an object of the set at an address, as it is now, in the layout of object pools (ISO 11783-6), or `None` if there
+    /// is no such object. The only error is [`Error::OutOfMemory`].
+    pub fn object(&mut self, address: u8, id: u16) -> Result<Option<Vec<u8>>, Error> {
+        let count = self.handle.object(address, id);
+        Ok(Some(self.written(count)?).filter(|record| !record.is_empty()))
+    }
+
+    /// A mask of the set at an address as SVG, with its soft keys to its right, or the active mask for `None`. `None` if there is no
+    /// set with a pool. The only error is [`Error::OutOfMemory`].
+    pub fn picture(&mut self, address: u8, mask: Option<u16>) -> Result<Option<String>, Error> {
+        let count = self.handle.picture(address, mask.unwrap_or(NO_ID));
+        Ok(Some(text_of(self.written(count)?)).filter(|picture| !picture.is_empty()))
+    }
+
+    /// The elements that the shown mask and its soft keys show, in the order in which they are drawn, at most 2,000. The only error is
+    /// [`Error::OutOfMemory`].
+    pub fn elements(&mut self) -> Result<Vec<Element>, Error> {
+        let count = self.handle.elements();
+        let bytes = self.written(count)?;
+        Ok(bytes.chunks_exact(40).map(Element::from_bytes).collect())
+    }
+
+    /// The key, button or input that is shown at a place, in pixels from the upper left corner of the mask: of several the one drawn
+    /// last. The only error is [`Error::OutOfMemory`].
+    pub fn touch(&mut self, x: u32, y: u32) -> Result<Option<u16>, Error> {
+        let id = u16::try_from(self.handle.touch(x, y)).map_err(|_| Error::OutOfMemory)?;
+        Ok(Some(id).filter(|id| *id != NO_ID))
     }
 
     // ---- what a host asks
@@ -167,6 +202,21 @@ impl Terminal {
         self.outputs(status)
     }
 
+    // The text written last, of this many bytes.
+    fn written(&self, count: u64) -> Result<Vec<u8>, Error> {
+        let room = usize::try_from(count).map_err(|_| Error::OutOfMemory)?;
+        let mut bytes = Vec::new();
+        bytes
+            .try_reserve_exact(room)
+            .map_err(|_| Error::OutOfMemory)?;
+        for index in (0..count).step_by(8) {
+            let word = self.handle.screen_word(index).to_le_bytes();
+            let left = (count - index).min(8) as usize;
+            bytes.extend_from_slice(&word[..left]);
+        }
+        Ok(bytes)
+    }
+
     // The handle, of which no output waits. One may wait only where `Outputs` were forgotten (`std::mem::forget`).
     fn ready(&mut self) -> &mut Handle {
         self.handle.discard();
@@ -180,6 +230,11 @@ impl Terminal {
             other => Err(Error::Unexpected(other)),
         }
     }
+}
+
+// A text of one byte a character.
+fn text_of(bytes: Vec<u8>) -> String {
+    bytes.into_iter().map(char::from).collect()
 }
 
 #[cfg(test)]
@@ -245,6 +300,38 @@ mod tests {
             terminal.screen().unwrap(),
             "screen 80 mask 1000\ncontainer 100 10 5 50x20\n"
         );
+    }
+
+    #[test]
+    fn the_state_is_read() {
+        let mut terminal = terminal();
+        assert_eq!(terminal.sets(), Ok(vec![]));
+        assert_eq!(terminal.active(0x80), None);
+        assert_eq!(terminal.object(0x80, 0), Ok(None));
+        assert_eq!(terminal.picture(0x80, None), Ok(None));
+        terminal.preload(0x80, &pool()).unwrap();
+        let set = Set {
+            address: 0x80,
+            name: None,
+            has_pool: true,
+            is_shown: true,
+        };
+        assert_eq!(terminal.sets(), Ok(vec![set]));
+        let active = terminal.active(0x80).expect("a set with a pool");
+        assert_eq!((active.mask, active.key), (Some(1000), None));
+        let container = pool()[24..34].to_vec();
+        assert_eq!(terminal.object(0x80, 100), Ok(Some(container)));
+        assert_eq!(terminal.object(0x80, 101), Ok(None));
+        let picture = terminal.picture(0x80, None).unwrap().expect("a picture");
+        assert!(picture.starts_with("<svg ") && picture.contains(r#"data-id="100""#));
+        assert_eq!(terminal.picture(0x80, Some(1000)), Ok(Some(picture)));
+        let elements = terminal.elements().unwrap();
+        let places: Vec<_> = elements.iter().map(|e| (e.id, e.kind, e.x, e.y)).collect();
+        assert_eq!(places, [(100, 3, 10, 5)]);
+        assert_eq!((elements[0].width, elements[0].height), (50, 20));
+        assert_eq!(elements[0].around, None);
+        // A container is nothing to touch.
+        assert_eq!(terminal.touch(20, 10), Ok(None));
     }
 
     #[test]

@@ -51,6 +51,23 @@ pub struct Acted {
 }
 
 impl<S: Store> Live<S> {
+    /// The Key or Button that the operator holds.
+    pub fn held_key(&self) -> Option<ObjectId>
+        ensures { result ≡ option_map (λ key. key.id) self.now.key }
+    {
+        match self.key {
+            Some(key) => Some(key.id),
+            None => None,
+        }
+    }
+
+    /// The input that the operator has selected.
+    pub fn selected_input(&self) -> Option<ObjectId>
+        ensures { result ≡ self.now.input }
+    {
+        self.input
+    }
+
     /// Presses a Key or a Button. Its message has code 1 and the active mask, the key is held, and its event Key Press is
     /// raised. Refuses, in this order, an object that is not shown, one of another kind, and any key while one is held; a
     /// refusal changes nothing.

@@ -23,13 +23,13 @@ use vt_shown::soft_key_mask;
 use vt_svg::{Attribute, Element, Flag, Paint, close, empty, open};
 
 /// The most inclusions in a chain.
-const MOST_INCLUSIONS: u8 = TERMINAL_LIMITS.inclusions;
+pub(crate) const MOST_INCLUSIONS: u8 = TERMINAL_LIMITS.inclusions;
 
 /// The most elements of a picture.
 const MOST_ELEMENTS: u16 = 2000;
 
 /// The pixels between a mask and its keys, and between keys.
-const GAP: u64 = 8;
+pub(crate) const GAP: u64 = 8;
 
 /// The farthest position of an entry.
 const FARTHEST: u64 = 32_767;
@@ -105,7 +105,7 @@ fn walk_keys<S: Store>(
 }
 
 /// The soft keys of a mask. Empty without a soft key mask.
-fn soft_keys<S: Store>(store: &S, mask: ObjectId) -> &[ObjectId]
+pub(crate) fn soft_keys<S: Store>(store: &S, mask: ObjectId) -> &[ObjectId]
     ensures keys { result.now ≡ soft_keys (S.contents store.now) mask }
     ensures most { length result.now ≤ 255 }
 {
@@ -144,7 +144,11 @@ fn key_place(sizes: Sizes, index: usize, id: ObjectId) -> Child
 }
 
 /// The places of keys.
-fn key_places(alloc: Global, sizes: Sizes, keys: &[ObjectId]) -> Result<Vec<Child>, AllocError>
+pub(crate) fn key_places(
+    alloc: Global,
+    sizes: Sizes,
+    keys: &[ObjectId],
+) -> Result<Vec<Child>, AllocError>
     requires { length keys.now ≤ 65536 }
     ensures { IfOk result (λ places. places.items ≡ documents.key_places sizes 0 keys.now) }
 {
@@ -156,7 +160,7 @@ fn key_places(alloc: Global, sizes: Sizes, keys: &[ObjectId]) -> Result<Vec<Chil
 }
 
 /// The width of a picture with some keys, as far as it is a number of 32 bits.
-fn width_of(sizes: Sizes, keys: usize) -> u32
+pub(crate) fn width_of(sizes: Sizes, keys: usize) -> u32
     requires { keys ≤ 65535 }
     ensures { result ≡ documents.width_of sizes keys }
 {

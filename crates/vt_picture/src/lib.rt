@@ -2,6 +2,7 @@
 //!
 //! - `draw` returns the picture of a mask with its soft keys: each element in its area, with its own shapes and the elements
 //!   within it.
+//! - `list_elements` lists the same elements with their places, and `touched` finds the one at a place.
 //!
 //! The laws about the definitions are in the crate vt_picture_laws. docs/PROFILE.md, "Pictures", says how each kind looks.
 #![tactic(auto)]
@@ -9,9 +10,11 @@
 mod document;
 mod elements;
 mod frame;
+mod listing;
 mod walk;
 
 pub use document::draw;
+pub use listing::{Bounds, Element, Position, list_elements, touched};
 
 /// A refused allocation.
 pub use std::alloc::AllocError as OutOfMemory;

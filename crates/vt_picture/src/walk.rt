@@ -110,7 +110,7 @@ pub(crate) fn walk_within<S: Store>(
 }
 
 /// The entries of a container. Empty if it is hidden.
-fn if_visible(container: &Container) -> &[Child]
+pub(crate) fn if_visible(container: &Container) -> &[Child]
     ensures { result.now ≡ (if container.now.hidden == 0 then container.now.children else []) }
 {
     if container.hidden == 0 {
@@ -137,7 +137,7 @@ fn walk_item<S: Store>(
 }
 
 /// The current item of an input list, if there is one.
-fn item<S: Store>(store: &S, list: &InputList) -> Option<ObjectId>
+pub(crate) fn item<S: Store>(store: &S, list: &InputList) -> Option<ObjectId>
     ensures { option_to_list result ≡ item_of list.now.items (number_shown (S.contents store.now) list.now.variable list.now.value) }
 {
     let index = number_shown(store, list.variable, u32::from(list.value))?;

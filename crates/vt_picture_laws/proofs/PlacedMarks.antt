@@ -50,7 +50,7 @@ marks_placed store (suc depth) entries from = each_placed store (marks depth sto
 
 -- ---- the first of them
 
-spots_counted : (x y : ℤ) (m : Marks) → count m ≡ length (spots x y m)
+pub spots_counted : (x y : ℤ) (m : Marks) → count m ≡ length (spots x y m)
 spots_counted x y Nothing = refl
 spots_counted x y (Mark entry inside later) =
     ap suc (ap₂ (λ a b. a + b) (spots_counted (x +ℤ entry.x) (y +ℤ entry.y) inside) (spots_counted x y later)
@@ -60,7 +60,7 @@ none_taken : {A : Type 0} (n : ℕ) → [] ≡ take {A = A} n []
 none_taken zero = refl
 none_taken (suc n) = refl
 
-first_spots : (n : ℕ) (x y : ℤ) (m : Marks) → spots x y (cut n m) ≡ take n (spots x y m)
+pub first_spots : (n : ℕ) (x y : ℤ) (m : Marks) → spots x y (cut n m) ≡ take n (spots x y m)
 unfolding cut
 first_spots n x y Nothing = none_taken n
 first_spots zero x y (Mark entry inside later) = refl

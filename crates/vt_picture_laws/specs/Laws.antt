@@ -15,6 +15,7 @@ use Rattle.vt_svg.specs.Elements.{Nodes, references, spots_in, text_of}
 use Rattle.vt_shapes.specs.Shapes.{shapes}
 use Rattle.vt_shapes.specs.UsedPictures.{used_picture}
 use Rattle.vt_picture.specs.Documents.{IsPicture, gap, most_marks, mask_marks, key_marks, pictures}
+use Rattle.vt_picture.specs.Listings.{elements_of}
 use Rattle.vt_picture.specs.Marks.{Marks, marks, count, cut, ids, spots}
 use Rattle.vt_picture.specs.Pictures.{EachOnce, is_in, picture_of}
 
@@ -47,6 +48,12 @@ PicturesShowTheDrawing = (sizes : Sizes) (store : ObjectMap) (mask : ℕ) (text 
     ≡ take most_marks (map (λ e. (e.id, e.at.x, e.at.y)) (elements terminal.inclusions store (mask_entries store mask) origin))
     ++ spots (pos (sizes.mask.width + gap)) (pos 0) (key_marks sizes store mask))
     × (map (λ spot. spot.0) (spots_in (pos 0) (pos 0) nodes) ≡ take most_marks (map (λ e. e.id) (drawing store mask)))
+
+-- The list of elements has the objects of the picture, in its order and at their places.
+abbrev pub ListsShowThePicture : Type 0
+ListsShowThePicture = (sizes : Sizes) (store : ObjectMap) (mask : ℕ)
+    → map (λ e. (e.id, e.at.x, e.at.y)) (elements_of sizes store mask)
+    ≡ spots (pos 0) (pos 0) (mask_marks store mask) ++ spots (pos (sizes.mask.width + gap)) (pos 0) (key_marks sizes store mask)
 
 -- Each Picture object to which an element of a picture refers is written, and none is written twice.
 pub record PicturesAreWrittenOnce : Type 0 where

@@ -4,7 +4,7 @@
 //! code meets by its contracts, and calling it changes nothing.
 #![tactic(auto)]
 
-ghost use Rattle.vt_picture_laws.specs.Laws.{CutMarksAreFirst, ElementsAreInPlace, ElementsAreTheDrawing, MarksAreDrawn, PicturesAreWrittenOnce, PicturesShowTheDrawing, ShapesReferToTheirPicture};
+ghost use Rattle.vt_picture_laws.specs.Laws.{CutMarksAreFirst, ElementsAreInPlace, ElementsAreTheDrawing, ListsShowThePicture, MarksAreDrawn, PicturesAreWrittenOnce, PicturesShowTheDrawing, ShapesReferToTheirPicture};
 
 /// The marks of entries are the elements of their drawing, in its order and at its places.
 pub fn marks_are_drawn()
@@ -31,6 +31,11 @@ pub fn elements_are_the_drawing()
 /// is in them, from the place of the first key.
 pub fn pictures_show_the_drawing()
     ensures { PicturesShowTheDrawing }
+{}
+
+/// The list of elements has the objects of the picture, in its order and at their places.
+pub fn lists_show_the_picture()
+    ensures { ListsShowThePicture }
 {}
 
 /// Each Picture object to which an element of a picture refers is written, and none is written twice.

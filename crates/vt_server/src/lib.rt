@@ -19,6 +19,7 @@ mod message;
 mod operator;
 mod output;
 mod pools;
+mod sets;
 mod shown;
 mod terminal;
 

@@ -3,5 +3,6 @@ pub mod Calls
 pub mod Inputs
 pub mod Outputs
 pub mod Preloads
+pub mod Readings
 pub mod Sessions
 pub mod Statuses

@@ -5,6 +5,7 @@
 //! - `preload`: a working set whose pool is there from the start.
 //! - `outputs`: the outputs are taken one by one; the address claim and the status that a host sends.
 //! - `screen`: the screen's text, and what a host asks of the terminal.
+//! - `reading`: what a display reads: the working sets, their objects and their pictures.
 //! - `status`: what the calls return.
 //!
 //! After a call that returns another status than `DONE` the terminal is unchanged.
@@ -12,6 +13,7 @@
 
 pub mod outputs;
 pub mod preload;
+pub mod reading;
 pub mod screen;
 pub mod session;
 pub mod status;

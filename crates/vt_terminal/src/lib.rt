@@ -11,11 +11,12 @@ ghost use Rattle.std.specs.Ptr.{lies_at, room_at};
 ghost use Rattle.vt_session.specs.contracts.session.Session.{the_row};
 ghost use Rattle.vt_session.specs.Calls.{Acts, Claims, Draws, Hears, Nexts, TellsCount, TellsData, TellsDeadline, TellsId, TellsLost, TellsRedraws, TellsShown, SendsStatus, TellsWord, Texts, Ticks};
 ghost use Rattle.vt_session.specs.Preloads.{Preloads};
+ghost use Rattle.vt_session.specs.Readings.{Lists, ListsElements, Pictures, TellsActive, TellsTouched, WritesObject};
 ghost use Rattle.vt_session.specs.Sessions.{Begins};
 
 use std::alloc::Global;
 use vt_session::session::Session;
-use vt_session::{outputs, preload, screen, session};
+use vt_session::{outputs, preload, reading, screen, session};
 
 /// A terminal behind a pointer.
 #[repr(C)]
@@ -221,6 +222,69 @@ pub unsafe extern "C" fn vt_deadline(at: *mut VtTerminal) -> u64
     ensures* { ∃ₛ (λ (after : Session). sem 𝓛 (lies_at the_row full_share at after) ∗ ⌜ TellsDeadline before after result ⌝) }
 {
     screen::deadline(unsafe { &mut *(at as *mut Session) })
+}
+
+/// Lists the working sets in the terminal's text, 16 bytes each, and returns the number of its bytes, or 2^64 - 1 if memory was refused.
+#[unsafe(no_mangle)]
+pub unsafe extern "C" fn vt_text_of_sets(at: *mut VtTerminal) -> u64
+    ghost before: { Session }
+    requires* { sem 𝓛 (lies_at the_row full_share at before) }
+    ensures* { ∃ₛ (λ (after : Session). sem 𝓛 (lies_at the_row full_share at after) ∗ ⌜ Lists before after result ⌝) }
+{
+    reading::sets(unsafe { &mut *(at as *mut Session) })
+}
+
+/// The active mask of the set at an address, its soft key mask, its selected input and its held key, 16 bits each, the first lowest.
+#[unsafe(no_mangle)]
+pub unsafe extern "C" fn vt_ids_of_active(at: *mut VtTerminal, address: u32) -> u64
+    ghost before: { Session }
+    requires* { sem 𝓛 (lies_at the_row full_share at before) }
+    ensures* { ∃ₛ (λ (after : Session). sem 𝓛 (lies_at the_row full_share at after) ∗ ⌜ TellsActive before address after result ⌝) }
+{
+    reading::active(unsafe { &mut *(at as *mut Session) }, address)
+}
+
+/// Writes the record of an object of the set at an address as the terminal's text, and returns the number of its bytes, or 2^64 - 1 if
+/// memory was refused.
+#[unsafe(no_mangle)]
+pub unsafe extern "C" fn vt_text_of_object(at: *mut VtTerminal, address: u32, id: u32) -> u64
+    ghost before: { Session }
+    requires* { sem 𝓛 (lies_at the_row full_share at before) }
+    ensures* { ∃ₛ (λ (after : Session). sem 𝓛 (lies_at the_row full_share at after) ∗ ⌜ WritesObject before address id after result ⌝) }
+{
+    reading::object(unsafe { &mut *(at as *mut Session) }, address, id)
+}
+
+/// Draws a mask of the set at an address as SVG in the terminal's text, and returns the number of its bytes, or 2^64 - 1 if memory was
+/// refused.
+#[unsafe(no_mangle)]
+pub unsafe extern "C" fn vt_text_of_picture(at: *mut VtTerminal, address: u32, mask: u32) -> u64
+    ghost before: { Session }
+    requires* { sem 𝓛 (lies_at the_row full_share at before) }
+    ensures* { ∃ₛ (λ (after : Session). sem 𝓛 (lies_at the_row full_share at after) ∗ ⌜ Pictures before address mask after result ⌝) }
+{
+    reading::picture(unsafe { &mut *(at as *mut Session) }, address, mask)
+}
+
+/// Lists the elements of the shown mask and its soft keys in the terminal's text, 40 bytes each, and returns the number of its bytes, or
+/// 2^64 - 1 if memory was refused.
+#[unsafe(no_mangle)]
+pub unsafe extern "C" fn vt_text_of_elements(at: *mut VtTerminal) -> u64
+    ghost before: { Session }
+    requires* { sem 𝓛 (lies_at the_row full_share at before) }
+    ensures* { ∃ₛ (λ (after : Session). sem 𝓛 (lies_at the_row full_share at after) ∗ ⌜ ListsElements before after result ⌝) }
+{
+    reading::shown_elements(unsafe { &mut *(at as *mut Session) })
+}
+
+/// The ID of the key, button or input that is shown at a place, 65535 if there is none, or 2^64 - 1 if memory was refused.
+#[unsafe(no_mangle)]
+pub unsafe extern "C" fn vt_id_at(at: *mut VtTerminal, x: u32, y: u32) -> u64
+    ghost before: { Session }
+    requires* { sem 𝓛 (lies_at the_row full_share at before) }
+    ensures* { ∃ₛ (λ (after : Session). sem 𝓛 (lies_at the_row full_share at after) ∗ ⌜ TellsTouched before x y after result ⌝) }
+{
+    reading::touch(unsafe { &mut *(at as *mut Session) }, x, y)
 }
 
 /// Enters a text of the operator into an object, and returns a status.
