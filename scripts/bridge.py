@@ -6,8 +6,8 @@
 PROGRAM is vt_replay, or else crates/vt_replay/out/vt_replay. It runs as a child that reads its log from a pipe. The bridge sends the
 address claim, gives the child each frame with the time of its reception, sends the frames that the child prints, and repeats the
 status each second. For 250 ms after its claim it gives the child only claims and requests for them, and passes over other frames.
-The child hears the time with frames only; so each tenth of a second it gets its own last status as a frame, which it takes as an
-echo. The bridge ends with status 1 when another node takes the address, or the child ends.
+The child hears the time with frames only; so before each action of the operator, and each tenth of a second in which no frame waits, it
+gets its own last status as a frame, which it takes as an echo. The bridge ends with status 1 when another node takes the address, or the child ends.
 
 With --interface and --channel the bus is one of python-can (socketcan and can0, virtual and any name). Then the lines of the standard
 input are the operator's: press ID, release ID, select ID, number ID N, text ID TEXT and set AA. Screens go to the standard output.
@@ -41,6 +41,13 @@ def micros():
 def is_about_claims(frame):
     """Whether a frame, `ID#HEX`, is an address claim, or a request. The child answers requests for claims alone."""
     return (int(frame[:8], 16) >> 8 & 0x3FF00) in (CLAIMS, REQUESTS)
+
+
+def reception(message):
+    """The time at which a message was received. python-can tells it by the time of day, if the interface does, whose distance from the
+    other clock is that of now."""
+    age = time.time() - message.timestamp if message.timestamp else 0
+    return micros() - max(0, int(age * 1000000))
 
 
 class Pipe:
@@ -82,7 +89,7 @@ class Bus:
         threading.Thread(target=self.listen_to_operator, args=[events], daemon=True).start()
         for message in self.bus:
             if message.is_extended_id and not (message.is_remote_frame or message.is_error_frame or message.is_fd):
-                events.put(('frame', f'{message.arbitration_id:08X}#{message.data.hex().upper()}', micros()))
+                events.put(('frame', f'{message.arbitration_id:08X}#{message.data.hex().upper()}', reception(message)))
 
     def listen_to_operator(self, events):
         for line in sys.stdin:
@@ -167,6 +174,7 @@ class Bridge:
         if kind == 'frame':
             self.hear(*more)
         elif kind == 'action':
+            self.terminal.tick()
             self.terminal.tell(*more)
         elif kind == 'printed':
             self.take_printed(*more)
@@ -191,11 +199,13 @@ class Bridge:
                 pass
             if self.is_ending:
                 continue
-            if time.monotonic() >= next_tick:
+            if time.monotonic() >= next_tick and events.empty():
                 next_tick = time.monotonic() + TICK_SECONDS
                 self.terminal.tick()
             if time.monotonic() >= next_status:
                 next_status += STATUS_SECONDS
+                if next_status <= time.monotonic():
+                    next_status = time.monotonic() + STATUS_SECONDS
                 self.bus.send(*self.terminal.status_frame())
         return 0 if self.is_ending and self.fault == 'the program ended' else 1
 

@@ -57,8 +57,8 @@ static bool preload(struct host *host, const char *path, const char *owner)
     static uint8_t pool[MOST];
     struct span span = {owner, strlen(owner)};
     uint32_t address = 0;
-    FILE *file = fopen(path, "rb");
-    if (file == NULL || !read_address(span, 0xFD, &address)) {
+    FILE *file = read_address(span, 0xFD, &address) ? fopen(path, "rb") : NULL;
+    if (file == NULL) {
         return false;
     }
     size_t count = fread(pool, 1, sizeof pool, file);

@@ -14,7 +14,10 @@ int open_bus(const char *interface);
 /* Sends a frame. While the interface has no room for it, it is tried again. Returns false if it could not be sent. */
 bool send_on_bus(int bus, const struct frame *frame);
 
-/* Reads a frame, if one waits. The frame has the time 0. */
+/* Reads a frame, if one waits, with the time at which it was received. */
 enum bus_read read_from_bus(int bus, struct frame *frame);
+
+/* The time now, in microseconds of a clock that does not jump. */
+uint64_t time_now(void);
 
 #endif

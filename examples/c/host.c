@@ -178,24 +178,13 @@ static uint64_t try_screen(struct host *host)
     return count;
 }
 
-/* Copies the text drawn last. */
-static void copy_text(struct host *host, size_t count)
-{
-    for (size_t i = 0; i < count; i += 8) {
-        uint64_t word = vt_screen_word(host->vt, i);
-        for (size_t k = 0; k < 8; k++) {
-            host->drawn[i + k] = (char)(word >> 8 * k & 0xFF);
-        }
-    }
-}
-
 enum draw host_draw(struct host *host)
 {
     uint64_t count = try_screen(host);
     if (count == UINT64_MAX || !make_room(host, (size_t)count)) {
         return DRAW_NO_MEMORY;
     }
-    copy_text(host, (size_t)count);
+    vt_copy(host->vt, (uint8_t *)host->drawn, (size_t)count);
     if (count == host->count && memcmp(host->drawn, host->screen, host->count) == 0) {
         return DRAW_SAME;
     }

@@ -3,8 +3,12 @@
  *     live INTERFACE [--own AA] [--name N]     on an interface of SocketCAN, such as can0
  *     live --pipe [--own AA] [--name N]        over the standard input and output
  *
- * It claims its address, hears each frame with the time at which it is read, tells the terminal the time when that has something to do,
- * repeats the status each second, and prints each new screen. It ends with status 1 when another node takes its address.
+ * It claims its address, hears each frame with the time at which it was received, tells the terminal the time before each action of the
+ * operator and when that has something to do, repeats the status each second, and prints each new screen. It ends with status 1 when
+ * another node takes its address.
+ *
+ * All frames that wait are heard before the time is told: a program that stood still for some seconds would otherwise close sets that
+ * were speaking, and lose their pools.
  *
  * For 250 ms after its claim it hears only claims and requests for them, and passes over other frames. It reads and hears in one thread.
  *
@@ -12,7 +16,7 @@
  * set AA. Screens go to the standard output.
  *
  * With --pipe a line of the standard input is a frame, ID#HEX, or an operator's, with `! ` in front. Frames go to the standard output
- * in the same form, and screens to the error output. It ends with the standard input.
+ * in the same form, and screens to the error output. A frame counts as received when its line is read. It ends with the standard input.
  */
 #define _GNU_SOURCE
 #include "bus.h"
@@ -21,7 +25,6 @@
 #include <poll.h>
 #include <signal.h>
 #include <string.h>
-#include <time.h>
 #include <unistd.h>
 
 enum { STATUS_FAULT = 1, STATUS_WORDS = 2 };
@@ -35,7 +38,7 @@ enum { CLAIMS = 0xEE00, REQUESTS = 0xEA00 };
 /* How often a call is made whose memory is refused, the microseconds between, and those after a tick that was left out. */
 enum { TRIES = 10, PAUSE = 1000, TICK_PAUSE = 100000 };
 
-/* The most frames heard before the time is looked at. */
+/* The most frames heard before the status is looked at. */
 enum { FRAMES = 64 };
 
 enum { LONGEST = 4096 };
@@ -54,13 +57,6 @@ struct live {
     bool is_too_long;
     const char *fault; /* what ends the program, or null */
 };
-
-static uint64_t now(void)
-{
-    struct timespec time;
-    clock_gettime(CLOCK_MONOTONIC, &time);
-    return (uint64_t)time.tv_sec * 1000000 + (uint64_t)time.tv_nsec / 1000;
-}
 
 /* ---- what comes of an input */
 
@@ -132,7 +128,6 @@ static bool is_about_claims(const struct frame *frame)
 /* Hears a frame. Right after the claim at the start one that might be answered with something else is passed over. */
 static void hear(struct live *live, struct frame *frame)
 {
-    frame->time = now();
     if (frame->time >= live->quiet_end || is_about_claims(frame)) {
         end_input(live, host_hear(&live->host, frame));
     }
@@ -155,7 +150,25 @@ static void hear_bus(struct live *live)
     }
 }
 
-/* Takes a line of the operator. */
+/* Tells the terminal the time. Where memory is refused for that, it is told again some time later. */
+static void tick(struct live *live, uint64_t time)
+{
+    uint32_t result = host_tick(&live->host, time);
+    live->next_tick = time + TICK_PAUSE;
+    end_input(live, result);
+}
+
+/* Releases the key that is held of the shown set. A key of a set that is not shown could no longer be released. */
+static void release_held(struct live *live)
+{
+    struct vt_active_ids active;
+    if (vt_active(live->host.vt, vt_shown(live->host.vt), &active) == VT_DONE && active.key != VT_NO_ID) {
+        struct action release = {.kind = VT_RELEASE, .id = active.key};
+        end_input(live, host_act(&live->host, &release));
+    }
+}
+
+/* Takes a line of the operator. The action happens now: a session that it begins would time out at once at an earlier time. */
 static void take_action(struct live *live, struct span text)
 {
     struct action action;
@@ -163,7 +176,13 @@ static void take_action(struct live *live, struct span text)
         fprintf(live->people, "this is no action: %.*s\n", (int)text.count, text.at);
         return;
     }
-    end_input(live, host_act(&live->host, &action));
+    tick(live, time_now());
+    if (action.kind == VT_SET && live->fault == NULL) {
+        release_held(live);
+    }
+    if (live->fault == NULL) {
+        end_input(live, host_act(&live->host, &action));
+    }
 }
 
 /* Takes a line that has a frame. */
@@ -174,6 +193,7 @@ static void take_frame(struct live *live, struct span text)
         fprintf(live->people, "this is no frame: %.*s\n", (int)text.count, text.at);
     }
     if (line.kind == LINE_FRAME) {
+        line.frame.time = time_now();
         hear(live, &line.frame);
     }
 }
@@ -236,28 +256,29 @@ static uint64_t next_time(struct live *live)
 /* The milliseconds from now to a time, rounded up. */
 static int wait_until(uint64_t time)
 {
-    uint64_t at = now();
+    uint64_t at = time_now();
     return time <= at ? 0 : (int)((time - at + 999) / 1000);
 }
 
-/* Tells the terminal the time. Where memory is refused for that, it is told again some time later. */
-static void tick(struct live *live, uint64_t time)
+/* Sends the status, if it is due. After a while in which the program stood still it is sent once, and not for each second of that. */
+static void repeat_status(struct live *live)
 {
-    uint32_t result = host_tick(&live->host, time);
-    live->next_tick = time + TICK_PAUSE;
-    end_input(live, result);
+    uint64_t time = time_now();
+    if (live->next_status <= time) {
+        live->next_status += SECOND;
+        if (live->next_status <= time) {
+            live->next_status = time + SECOND;
+        }
+        end_input(live, host_status(&live->host));
+    }
 }
 
-/* Does what the time asks for. */
+/* Tells the terminal the time, if that has something to do. */
 static void pass_time(struct live *live)
 {
-    uint64_t time = now();
+    uint64_t time = time_now();
     if (vt_deadline(live->host.vt) <= time && live->next_tick <= time) {
         tick(live, time);
-    }
-    if (live->fault == NULL && live->next_status <= time) {
-        live->next_status += SECOND;
-        end_input(live, host_status(&live->host));
     }
 }
 
@@ -267,7 +288,7 @@ static void pass_time(struct live *live)
 static void begin_claim(struct live *live)
 {
     end_input(live, host_claim(&live->host));
-    uint64_t time = now();
+    uint64_t time = time_now();
     live->quiet_end = time + QUIET;
     live->next_tick = live->quiet_end;
     live->next_status = time + SECOND;
@@ -287,12 +308,13 @@ static void run(struct live *live)
         }
         if (files[1].revents != 0) {
             hear_bus(live);
-        }
-        if (files[0].revents != 0 && live->fault == NULL) {
+        } else if (files[0].revents != 0) {
             take_input(live);
+        } else {
+            pass_time(live);
         }
         if (live->fault == NULL) {
-            pass_time(live);
+            repeat_status(live);
         }
     }
 }

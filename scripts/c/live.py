@@ -2,6 +2,7 @@
 import os
 import re
 import shlex
+import signal
 import subprocess
 import sys
 import threading
@@ -160,6 +161,73 @@ def check_quiet(words):
     expect([frame for _, frame in live.frames] == [CLAIM, CLAIM, NO_SET_STATUS, SESSION_ANSWER], f'frames {live.frames}')
 
 
+# A Working Set 0 with the Data Mask 1000, and in it the Input String 301 of 8 bytes.
+POOL_WITH_TEXT = bytes.fromhex('00000000 01 E803 000000  E80301 00 FFFF 01 00 2D01 0000 0000  2D0108 0A00 0500 00 FFFF FFFF 00 FFFF 00 08'
+                               '2020202020202020 01 00')
+# The begin of the session for a text of 8 bytes, and its abort.
+TEXT_SESSION, TEXT_ABORT = '1CEC8026#100C0002FF00E600', '1CEC8026#FF03FFFFFF00E600'
+
+# A Working Set 0 with the Data Mask 1000, and in it the Button 500 with the key code 7; its messages when it is pressed and released.
+POOL_WITH_KEY = bytes.fromhex('00000000 01 E803 000000  E80301 00 FFFF 01 00 F401 0000 0000  F40106 1400 1400 01 00 07 00 00 00')
+KEY_PRESSED, KEY_RELEASED = '14E68026#0101F401E80307FF', '14E68026#0100F401E80307FF'
+
+
+def check_late_text(words):
+    """A text after a silence of nearly two seconds begins its session then: it does not time out at once."""
+    log = Log()
+    log.register()
+    log.upload_by_tp(POOL_WITH_TEXT)
+    live = Live(words)
+    try:
+        live.wait_for(NO_SET_STATUS, 1, 5)
+        live.say([line.split()[2] for line in log.lines])
+        time.sleep(1.9)
+        live.say(['! text 301 ABCDEFGH'])
+        live.wait_for(TEXT_ABORT, 1, 5)
+    finally:
+        status = live.end()
+    expect(status == 0, f'status {status}: {live.words[-3:]}')
+    times = {frame: at for at, frame in live.frames}
+    expect(TEXT_SESSION in times and TEXT_ABORT in times, f'frames {live.frames}')
+    waited = times[TEXT_ABORT] - times[TEXT_SESSION]
+    expect(1.1 < waited < 2.5, f'the session is aborted after {waited:.2f} s')
+    return f'aborted after {waited:.2f} s'
+
+
+def check_standstill(words):
+    """A program that stood still sends its status once then, and not for each second of that."""
+    live = Live(words)
+    try:
+        live.wait_for(NO_SET_STATUS, 1, 5)
+        live.child.send_signal(signal.SIGSTOP)
+        time.sleep(4)
+        begin = time.monotonic()
+        live.child.send_signal(signal.SIGCONT)
+        time.sleep(0.5)
+    finally:
+        status = live.end()
+    expect(status == 0, f'status {status}: {live.words[-3:]}')
+    repeats = [at for at, frame in live.frames if frame == NO_SET_STATUS and at >= begin]
+    expect(len(repeats) == 1, f'{len(repeats)} statuses after the standstill')
+
+
+def check_held_key(words):
+    """A key that is held is released before another set is chosen."""
+    log = Log()
+    log.register()
+    log.upload_by_tp(POOL_WITH_KEY)
+    live = Live(words)
+    try:
+        live.wait_for(NO_SET_STATUS, 1, 5)
+        live.say([line.split()[2] for line in log.lines] + ['! press 500', '! set 81'])
+        live.wait_for(KEY_RELEASED, 1, 5)
+    finally:
+        status = live.end()
+    expect(status == 0, f'status {status}: {live.words[-3:]}')
+    frames = [frame for _, frame in live.frames]
+    expect(KEY_PRESSED in frames and KEY_RELEASED in frames, f'frames {frames}')
+
+
 def check_live_refusals(program):
     """A frame for which there is no memory is tried some times and left out, and the terminal goes on."""
     live = Live([program, '--pipe'])
@@ -214,6 +282,11 @@ def test_live(tests, programs):
     tests.run('live in 36 KB', in_time, check_live_refusals, small)
     tests.run('live loss', in_time, check_loss, [programs.get('live'), '--pipe'])
     tests.run('live quiet', in_time, check_quiet, [programs.get('live'), '--pipe'])
+    tests.run('live late text', in_time, check_late_text, [programs.get('live'), '--pipe'])
+    tests.run('live standstill', in_time, check_standstill, [programs.get('live'), '--pipe'])
+    tests.run('live held key', in_time, check_held_key, [programs.get('live'), '--pipe'])
     tests.run(f'bridge over {os.path.basename(child)}', in_time, check_bridge, bridge, replay, programs.folder)
     tests.run('bridge loss', in_time, check_loss, bridge)
     tests.run('bridge quiet', in_time, check_quiet, bridge)
+    tests.run('bridge late text', in_time, check_late_text, bridge)
+    tests.run('bridge standstill', in_time, check_standstill, bridge)
