@@ -3,7 +3,7 @@ ARGS ?= examples/seeder.log
 # The pool that is drawn.
 POOL ?= examples/sprayer.iop
 
-.PHONY: run picture pictures quick help test prove examples wrong-bodies build bench bench-hostile bench-counts refuse-memory test-c \
+.PHONY: run picture pictures quick help test prove examples wrong-bodies build bench bench-hostile bench-counts refuse-memory test-c shared \
 	libs-aarch64
 
 # Replays a log by the quick build of vt_replay, which proves nothing. Two minutes at first, a second later.
@@ -37,6 +37,7 @@ prove:
 	@rt version
 	@python3 scripts/crates.py
 	@python3 scripts/links.py
+	@python3 scripts/records.py
 	@bash scripts/examples.sh --check
 	@python3 scripts/build.py --gate
 	@python3 scripts/run_tests.py --programs 'crates/{}/out/{}'
@@ -82,6 +83,12 @@ refuse-memory:
 test-c:
 	@python3 scripts/static_libs.py
 	@python3 scripts/test_c.py $(foreach folder,$(CASES),--cases $(folder))
+
+# Links the static libraries to a shared one, out/lib/libsegyolant.so. PREFIX=/usr/local installs all three with their headers, and with
+# files for pkg-config and CMake; DESTDIR is put before that path.
+shared:
+	@python3 scripts/static_libs.py
+	@python3 scripts/shared_lib.py $(if $(PREFIX),--prefix $(PREFIX) --root "$(DESTDIR)")
 
 # Proves the static libraries for aarch64 and leaves them at crates/*/out/aarch64-unknown-linux-gnu, over the libraries that make prove
 # or make test-c left in this tree. make test-c then runs them too, if qemu-aarch64 and aarch64-linux-gnu-gcc are there.

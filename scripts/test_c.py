@@ -22,8 +22,10 @@ from c.languages import test_other_languages
 from c.live import test_live
 from c.memory import test_memory
 from c.programs import CHECKING, LIBRARY, Programs
+from c.readings import test_readings
 from c.replays import test_replays
 from c.results import Tests
+from c.shared import test_shared
 from c.stacks import test_stacks
 from c.symbols import test_symbols
 from c.times import test_times
@@ -34,10 +36,12 @@ def test_all(tests, folder, cases):
     test_symbols(tests)
     test_times(tests, programs)
     test_replays(tests, programs, cases)
+    test_readings(tests, programs)
     test_memory(tests, programs)
     test_stacks(tests, programs)
     test_live(tests, programs)
     test_other_languages(tests, folder)
+    test_shared(tests, folder)
 
 
 def main():
