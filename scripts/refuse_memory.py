@@ -4,9 +4,9 @@
 usage: refuse_memory.py [--built] [CRATE ...]
 
 Of each crate that has it, it runs the test `want_of_memory`, which makes each call again that is refused, and must pass every time.
-Of vt_replay it runs the program too, on the shipped logs and for a report: it must end with status 1, and what it has written be
-the front of the whole output, or do without the memory and write all. The tests are built by `rt test`, and the program by `rt run`;
-with --built they are taken as they are.
+It runs each program too, on the shipped logs and pools: it must end with the status of want of memory, and what it has written be the
+front of the whole output, or do without the memory and write all. The tests are built by `rt test`, and the programs by `rt run`; with
+--built they are taken as they are.
 
 The toolchain's `rt try --fail-alloc N` does the same to a test, but builds it anew for each number.
 """
@@ -23,7 +23,15 @@ TEST = "want_of_memory"
 EXAMPLE = f"{ROOT}/examples"
 # Other calls of the C library by which memory is had.
 OTHERS = r"\b(?:calloc|reallocarray|aligned_alloc|posix_memalign|memalign|p?valloc|mmap(?:64)?|mremap|s?brk|strn?dup|getline|getdelim|v?asprintf|f(?:d)?open|open_memstream)\b"
-RUNS = (["seeder.log"], ["hide.log", "--pool", "pool.iop", "--owner", "80"], ["pool.iop", "--report"])
+# Each program with its status for want of memory, and what it is run on.
+PROGRAMS = {
+    "vt_replay": (1, (["seeder.log"], ["hide.log", "--pool", "pool.iop", "--owner", "80"], ["pool.iop", "--report"])),
+    "segyolant": (2, (["check", "many-faults.iop"], ["why", "pool.iop", "1000:3"], ["needs", "pool.iop", "--size", "60x25"],
+                      ["diff", "pool.iop", "refusal-03-missing.iop"], ["draw", "kinds.iop"],
+                      ["draw", "pool.iop", "--state", "hide.log", "--owner", "80"])),
+    "segyolant_log": (2, (["pools", "seeder.log"], ["operator", "seeder.log"], ["trace", "seeder.log"], ["compare", "seeder.log"],
+                          ["stats", "seeder.log", "--format", "json"], ["test", "seeder.log"])),
+}
 
 
 def built_library(folder):
@@ -72,13 +80,14 @@ def sweep_test(library, program, name):
         number += 1
 
 
-def sweep_program(library, program, words):
-    whole = subprocess.run([program, *words], cwd=EXAMPLE, capture_output=True, check=True).stdout
+def sweep_program(library, program, words, status_of_want):
+    ran = subprocess.run([program, *words], cwd=EXAMPLE, capture_output=True, stdin=subprocess.DEVNULL)
+    whole = ran.stdout
     failed, number = [], 1
     while True:
         status, text, refused = run_refused(library, number, [program, *words], EXAMPLE)
-        is_whole = status == 0 and text == whole
-        is_ended = refused and status == 1 and whole.startswith(text)
+        is_whole = status == ran.returncode and text == whole
+        is_ended = refused and status == status_of_want and whole.startswith(text)
         if not (is_whole or is_ended):
             failed.append(number)
         if not refused:
@@ -104,7 +113,7 @@ def main():
         for crate in chosen:
             where = f"{ROOT}/crates/{crate}"
             if not glob.glob(f"{where}/src/**/{TEST}.rt", recursive=True):
-                if crate in words:
+                if crate in words and crate not in PROGRAMS:
                     print(f"{crate} has no test {TEST}", file=sys.stderr)
                     is_wrong = True
                 continue
@@ -118,13 +127,13 @@ def main():
                 is_wrong = True
             for name in found:
                 is_wrong |= tell(f"{crate} {name}", *sweep_test(library, program, name))
-        if "vt_replay" in chosen:
-            where = f"{ROOT}/crates/vt_replay"
+        for name in [name for name in PROGRAMS if name in chosen]:
+            where, (status, runs) = f"{ROOT}/crates/{name}", PROGRAMS[name]
             if not is_built:
                 subprocess.run(["rt", "run", "--", "--version"], cwd=where, check=True, stdout=subprocess.DEVNULL)
-            stop_on_other_requests(f"{where}/out/vt_replay")
-            for run in RUNS:
-                is_wrong |= tell(f"vt_replay {' '.join(run)}", *sweep_program(library, f"{where}/out/vt_replay", run))
+            stop_on_other_requests(f"{where}/out/{name}")
+            for run in runs:
+                is_wrong |= tell(f"{name} {' '.join(run)}", *sweep_program(library, f"{where}/out/{name}", run, status))
     return 1 if is_wrong else 0
 
 

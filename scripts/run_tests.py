@@ -2,7 +2,7 @@
 """Runs the tests that are data: run_tests.py [--only WORD] [--bless] [--programs PATTERN] [FILE ...]
 
 Below tests/, a log `*.log` says behind `#<` what the terminal prints, and a session `*.run` has command lines with what they print, say
-and write (docs/TESTING.md). Without FILE all are run, by the quick builds unless PATTERN says where the programs are, as
+and write (docs/TESTING.md). Without FILE all are run, and those of scripts/testing/faults.py, consoles.py and limits.py, by the quick builds unless PATTERN says where the programs are, as
 'crates/{}/out/{}'. Each test that fails is shown with its file and line, what was expected behind `-` and what came behind `+`. --bless
 writes what came into the files, to be read before it is kept. --functions runs the tests that are functions as well, by the toolchain's
 quick build. The last line is 'N passed, N failed'.
@@ -19,7 +19,7 @@ TOP = os.path.dirname(os.path.dirname(os.path.abspath(__file__)))
 sys.path.insert(0, f'{TOP}/scripts')
 
 import quick  # noqa: E402
-from testing import functions, logs, sessions  # noqa: E402
+from testing import consoles, faults, functions, limits, logs, sessions  # noqa: E402
 
 
 def tests_below(folder):
@@ -95,15 +95,23 @@ def programs_at(pattern):
     return found
 
 
+def count(told):
+    """Shows the tests that failed, and returns how many passed and failed."""
+    passed = failed = 0
+    for _, differing in told:
+        passed, failed = passed + (not differing), failed + bool(differing)
+        if differing:
+            print('FAILED ' + '\n'.join(differing), flush=True)
+    return passed, failed
+
+
 def run_data(tests, programs, only, bless):
     """Runs files of tests side by side, shows those that fail, and returns how many passed and failed."""
     passed = failed = 0
     with concurrent.futures.ThreadPoolExecutor(len(os.sched_getaffinity(0))) as pool:
         for each in pool.map(lambda test: results(test, programs, only, bless), tests):
-            for _, faults in each:
-                passed, failed = passed + (not faults), failed + bool(faults)
-                if faults:
-                    print('FAILED ' + '\n'.join(faults), flush=True)
+            more = count(each)
+            passed, failed = passed + more[0], failed + more[1]
     return passed, failed
 
 
@@ -121,7 +129,12 @@ def main():
         sys.exit(f'{lacking[0]} is no file')
     with concurrent.futures.ThreadPoolExecutor(1) as pool:
         later = pool.submit(functions.run, options.only) if options.functions else None
-        passed, failed = run_data(tests, programs_at(options.programs), options.only, options.bless)
+        programs = programs_at(options.programs)
+        passed, failed = run_data(tests, programs, options.only, options.bless)
+        if not options.files and not options.bless:
+            for module in (faults, consoles, limits):
+                more = count(module.results(TOP, programs, options.only))
+                passed, failed = passed + more[0], failed + more[1]
         if later is not None:
             more = later.result()
             passed, failed = passed + more[0], failed + more[1]

@@ -14,8 +14,6 @@ mod rank;
 #[cfg(test)]
 mod redrawing;
 #[cfg(test)]
-mod replay;
-#[cfg(test)]
 mod terminal;
 #[cfg(test)]
 mod want_of_memory;

@@ -1,3 +1,0 @@
-//! Tests of `segyolant_log`.
-
-mod want_of_memory;
