@@ -1,5 +1,5 @@
 -- The elements of a picture as a list (docs/PROFILE.md, "The list of elements").
-use Rattle.std.specs.Prelude.{◌≡◌, ℕ, zero, suc, ℤ, pos, ◌+ℤ◌, ◌+◌, nat_le, int_lt, Bool, not, ◌&&◌, if◌then◌else◌, List, [], ◌∷◌, ◌++◌, length, take, Option, Some, None}
+use Rattle.std.specs.Prelude.{◌≡◌, ℕ, zero, suc, ℤ, pos, ◌+ℤ◌, ◌+◌, max, nat_le, int_lt, Bool, not, ◌&&◌, if◌then◌else◌, List, [], ◌∷◌, ◌++◌, length, take, Option, Some, None}
 use Rattle.std.specs.FinMap as finite
 use Rattle.std.specs.Int.{int_max, int_min}
 use Rattle.vt_kinds.specs.declared.entries.Child.{Child}
@@ -34,7 +34,7 @@ within around at width height = record {
   bottom = int_min (end_of at.y height) around.bottom;
 }
 
--- what is shown of an element lies in its area, or in what is around it for one that has no area, or whose lines may reach out of it
+-- what is shown of an element lies in its area, or in what is around it where its record has no size, or where its lines may reach out of it
 abbrev pub bounds_of : Frame → Position → Bounds → Bounds
 bounds_of frames.Whole at around = around
 bounds_of (frames.Clipped width height) at around = within around at width height
@@ -43,12 +43,12 @@ bounds_of (frames.Fine area) at around = around
 abbrev pub width_in : Frame → ℕ
 width_in frames.Whole = 0
 width_in (frames.Clipped width height) = width
-width_in (frames.Fine area) = area.width
+width_in (frames.Fine area) = max 1 area.width
 
 abbrev pub height_in : Frame → ℕ
 height_in frames.Whole = 0
 height_in (frames.Clipped width height) = height
-height_in (frames.Fine area) = area.height
+height_in (frames.Fine area) = max 1 area.height
 
 -- the spot of an entry
 abbrev pub spot_of : Around → Child → Around

@@ -59,9 +59,9 @@ pub struct Element {
     pub around: Option<u16>,
     /// The upper left corner.
     pub at: Position,
-    /// The width, 0 of a kind without an area.
+    /// The width, 0 where its record has no size.
     pub width: u32,
-    /// The height, 0 of a kind without an area.
+    /// The height, 0 where its record has no size.
     pub height: u32,
     /// Nothing of the element is shown outside of these.
     pub bounds: Bounds,
@@ -158,14 +158,25 @@ fn less(a: i32, b: i32) -> i32
     if b < a { b } else { a }
 }
 
-/// The width and the height of a frame.
-fn size_of(frame: Frame) -> (u32, u32)
-    ensures { result ≡ (listings.width_in frame, listings.height_in frame) }
+/// The width of a frame.
+fn width_in(frame: Frame) -> u32
+    ensures { result ≡ listings.width_in frame }
 {
     match frame {
-        Frame::Whole => (0, 0),
-        Frame::Clipped { width, height } => (width, height),
-        Frame::Fine(area) => (u32::from(area.width), u32::from(area.height)),
+        Frame::Whole => 0,
+        Frame::Clipped { width, .. } => width,
+        Frame::Fine(area) => u32::from(area.width).max(1),
+    }
+}
+
+/// The height of a frame.
+fn height_in(frame: Frame) -> u32
+    ensures { result ≡ listings.height_in frame }
+{
+    match frame {
+        Frame::Whole => 0,
+        Frame::Clipped { height, .. } => height,
+        Frame::Fine(area) => u32::from(area.height).max(1),
     }
 }
 
@@ -174,15 +185,14 @@ fn element_at(sizes: Sizes, id: ObjectId, object: &Object<Vec<u8>>, spot: Around
     ensures { result ≡ listings.element_at sizes id (seen object.now) spot }
 {
     let frame = frame_of(sizes, object);
-    let (width, height) = size_of(frame);
     Element {
         id,
         kind: object.kind().number(),
         depth: spot.depth,
         around: spot.index,
         at: spot.at,
-        width,
-        height,
+        width: width_in(frame),
+        height: height_in(frame),
         bounds: bounds_of(frame, spot.at, spot.bounds),
     }
 }
