@@ -151,7 +151,8 @@ uint64_t vt_screen(struct vt_terminal *at);
  * that of vt_screen or of a call of "reading the state". vt_copy takes it whole. */
 uint64_t vt_screen_word(struct vt_terminal *at, uint64_t index);
 
-/* Copies the text written last to `buf`, as much as there is room for. `buf` may be null if `room` is 0. */
+/* Copies the text written last to `buf`, as much as there is room for, and fills the rest of the room with 0. `buf` may be null if
+ * `room` is 0. */
 VT_INLINE void vt_copy(struct vt_terminal *at, uint8_t *buf, size_t room)
 {
     for (size_t k = 0; k < room; k += 8) {
@@ -164,16 +165,21 @@ VT_INLINE void vt_copy(struct vt_terminal *at, uint8_t *buf, size_t room)
 
 /* ---- reading the state
  *
- * What a display draws and its dialogs ask. The calls change nothing but the text written last. Each returns how much there is, also
- * where it is more than the room, and UINT64_MAX if memory was refused. The caller's memory may be null if `room` is 0. */
+ * What a display draws and its dialogs ask. The calls change nothing but the text written last, and vt_active, vt_touch and vt_has_pool
+ * not even that. The calls with a `room` return how much there is, also where it is more than the room, and UINT64_MAX if memory was
+ * refused. The caller's memory may be null if `room` is 0. */
 
-/* The calls behind those below. A vt_text_of_ call writes a text, which vt_copy copies, and returns its number of bytes. */
+/* The calls behind those below. A vt_text_of_ call writes a text, which vt_copy copies, and returns its number of bytes. Where memory was
+ * refused the text is empty. vt_ids_of_active gives four IDs of 16 bits, the active mask lowest. */
 uint64_t vt_text_of_sets(struct vt_terminal *at);
 uint64_t vt_text_of_object(struct vt_terminal *at, uint32_t address, uint32_t id);
 uint64_t vt_text_of_picture(struct vt_terminal *at, uint32_t address, uint32_t mask);
 uint64_t vt_text_of_elements(struct vt_terminal *at);
 uint64_t vt_ids_of_active(struct vt_terminal *at, uint32_t address);
 uint64_t vt_id_at(struct vt_terminal *at, uint32_t x, uint32_t y);
+
+/* 1 if there is a working set with a pool at an address, or else 0. */
+uint64_t vt_has_pool(struct vt_terminal *at, uint32_t address);
 
 /* The number of no object. */
 #define VT_NO_ID 65535
@@ -188,7 +194,7 @@ struct vt_set {
 };
 
 /* Lists the working sets in the order in which they registered, as many as there is room for, and returns how many there are: at most
- * 254. */
+ * 254, one for each address. */
 VT_INLINE uint64_t vt_sets(struct vt_terminal *at, struct vt_set *sets, size_t room)
 {
     uint64_t count = vt_text_of_sets(at);
@@ -215,7 +221,8 @@ struct vt_active_ids {
     uint16_t key;           /* the key or button that the operator holds */
 };
 
-/* Tells what is active in the set at an address. Returns VT_NO_SUCH if there is no set with a pool, and then each is VT_NO_ID. */
+/* Tells what is active in the set at an address. Returns VT_DONE, or VT_NO_SUCH if there is no set with a pool, and then each is
+ * VT_NO_ID. */
 VT_INLINE enum vt_result vt_active(struct vt_terminal *at, uint32_t address, struct vt_active_ids *active)
 {
     uint64_t ids = vt_ids_of_active(at, address);
@@ -223,7 +230,7 @@ VT_INLINE enum vt_result vt_active(struct vt_terminal *at, uint32_t address, str
     active->soft_key_mask = (uint16_t)(ids >> 16);
     active->input = (uint16_t)(ids >> 32);
     active->key = (uint16_t)(ids >> 48);
-    return ids == UINT64_MAX ? VT_NO_SUCH : VT_DONE;
+    return vt_has_pool(at, address) == 0 ? VT_NO_SUCH : VT_DONE;
 }
 
 /* Writes the record of an object of the set at an address to `buf`: its attributes as they are now, in the layout of object pools
@@ -237,8 +244,9 @@ VT_INLINE uint64_t vt_object(struct vt_terminal *at, uint32_t address, uint32_t 
     return count;
 }
 
-/* Draws a mask of the set at an address as SVG, with its soft keys in columns to its right, or the active mask for VT_NO_ID, at the
- * sizes of the terminal's profile (docs/PROFILE.md, "Pictures"). Returns the number of bytes, 0 if there is no set with a pool. */
+/* Draws a mask of the set at an address as SVG, with its soft keys in columns to its right, at the sizes of the terminal's profile
+ * (docs/PROFILE.md, "Pictures"). VT_NO_ID, and each number above it, draws the active mask. An ID of no mask draws a picture without
+ * elements. Returns the number of bytes, 0 if there is no set with a pool. */
 VT_INLINE uint64_t vt_picture(struct vt_terminal *at, uint32_t address, uint32_t mask, uint8_t *buf, size_t room)
 {
     uint64_t count = vt_text_of_picture(at, address, mask);
@@ -256,7 +264,7 @@ struct vt_element {
     uint16_t around; /* the index of the element around it, or VT_NO_ELEMENT in the mask itself and for a soft key */
     int32_t x;       /* the left edge */
     int32_t y;       /* the upper edge */
-    uint32_t width;  /* 0 of a kind without an area */
+    uint32_t width;  /* 0 where the record has no size */
     uint32_t height;
     int32_t left; /* nothing of it is shown to the left of this column, above `top`, from `right` on, or from `bottom` on */
     int32_t top;
@@ -268,8 +276,8 @@ struct vt_element {
 #define VT_NO_ELEMENT 65535
 
 /* Lists the elements that the shown mask and its soft keys show, in the order in which they are drawn, as many as there is room for, and
- * returns how many there are: at most 2,000. Each is in the list after the one around it. The soft keys are in columns to the right of
- * the mask, as vt_picture draws them; a host that shows them elsewhere moves each key with what is in it. */
+ * returns how many there are. Of a longer drawing the first 2,000 are listed. Each is in the list after the one around it. The soft keys
+ * are in columns to the right of the mask, as vt_picture draws them; a host that shows them elsewhere moves each key with what is in it. */
 VT_INLINE uint64_t vt_elements(struct vt_terminal *at, struct vt_element *elements, size_t room)
 {
     uint64_t count = vt_text_of_elements(at);
@@ -299,7 +307,7 @@ VT_INLINE uint64_t vt_elements(struct vt_terminal *at, struct vt_element *elemen
 }
 
 /* The ID of the key, button or input that is shown at a place, in pixels from the upper left corner of the mask: of several the one drawn
- * last. VT_NO_ID if there is none. */
+ * last. VT_NO_ID if there is none, as where a number is negative; UINT64_MAX if memory was refused. */
 VT_INLINE uint64_t vt_touch(struct vt_terminal *at, int32_t x, int32_t y)
 {
     return vt_id_at(at, (uint32_t)x, (uint32_t)y);

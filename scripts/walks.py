@@ -31,6 +31,7 @@ LENDING = [
     ("vt_deadline", "screen::deadline", "TellsDeadline", [], "u64"),
     ("vt_text_of_sets", "reading::sets", "Lists", [], "u64"),
     ("vt_ids_of_active", "reading::active", "TellsActive", ["u32"], "u64"),
+    ("vt_has_pool", "reading::has_pool", "TellsPool", ["u32"], "u64"),
     ("vt_text_of_object", "reading::object", "WritesObject", ["u32", "u32"], "u64"),
     ("vt_text_of_picture", "reading::picture", "Pictures", ["u32", "u32"], "u64"),
     ("vt_text_of_elements", "reading::shown_elements", "ListsElements", [], "u64"),
@@ -38,7 +39,7 @@ LENDING = [
 ]
 
 # The relations of a module other than Calls.
-READINGS = ["Lists", "TellsActive", "WritesObject", "Pictures", "ListsElements", "TellsTouched"]
+READINGS = ["Lists", "TellsActive", "TellsPool", "WritesObject", "Pictures", "ListsElements", "TellsTouched"]
 
 # Exports with a number and a slice of bytes: the export, the function, its relation, the module of the relation, and the slice in it.
 SLICES = [

@@ -156,7 +156,7 @@ static bool tell_all(struct vt_terminal *vt)
         told = tell_objects(vt, &buf, &room) && tell_elements(vt) && tell_picture(vt, &buf, &room);
     }
     free(buf);
-    return told;
+    return told && fflush(stdout) == 0 && !ferror(stdout);
 }
 
 /* ---- the program */

@@ -1,4 +1,5 @@
 """Tests of examples/c/state.c: what a display reads is what the pool has, and what segyolant draws."""
+import subprocess
 import xml.etree.ElementTree as xml
 
 from c.programs import EXAMPLES, ROOT, run
@@ -9,9 +10,6 @@ SEGYOLANT = f'{ROOT}/crates/segyolant/out/segyolant'
 # Pools that a terminal accepts, and logs over them.
 POOLS = ['pool.iop', 'sprayer.iop', 'kinds.iop']
 LOGS = [('pool.iop', 'hide.log'), ('sprayer.iop', 'sprayer.log'), ('sprayer.iop', 'seeder.log')]
-
-# The kinds of lines, rectangles, ellipses, polygons, meters and bars, whose areas have a side of at least one pixel.
-SHAPES = range(13, 20)
 
 
 def told(programs, kind, *words):
@@ -37,6 +35,25 @@ def check_records(programs, kind, pool):
         at, count = at + len(record), count + 1
     expect(count == len(records), f'{len(records)} objects are told, and the pool has {count}')
     return f'{count} objects'
+
+
+def check_no_mask(programs, kind):
+    """Of a set without an active mask it is told that nothing is active, and not that there is no set."""
+    pool = bytearray(read(f'{EXAMPLES}/pool.iop'))
+    expect(pool[2] == 0, 'the working set is not the first object')
+    pool[5:7] = b'\xFF\xFF'
+    path = f'{programs.folder}/no-mask.iop'
+    with open(path, 'wb') as file:
+        file.write(pool)
+    lines, _, _ = told(programs, kind, path)
+    expect(lines == ['set 80 pool 1 shown 1', 'active 65535 65535 65535 65535'], f'told {lines}')
+
+
+def check_full(programs, kind):
+    """A full output is a failure."""
+    with open('/dev/full', 'w') as full:
+        ran = subprocess.run([programs.get(kind), 'pool.iop'], cwd=EXAMPLES, stdout=full, stderr=subprocess.PIPE)
+    expect(ran.returncode == 1, f'status {ran.returncode}')
 
 
 def check_picture(programs, kind, pool, *log):
@@ -109,12 +126,10 @@ def add_boxes(found, node, around, depth, left, top, bounds):
 
 
 def box_of(line):
-    """What a line of state says of an element, but for its kind. A side that has no length is drawn as 1 if the kind is that of a shape."""
+    """What a line of state says of an element, but for its kind."""
     words = line.split()
-    number, kind, depth = (int(word) for word in words[1:4])
+    number, _, depth = (int(word) for word in words[1:4])
     size = [int(word) for word in words[7].split('x')]
-    if kind in SHAPES:
-        size = [max(1, side) for side in size]
     return (number, depth, None if words[4] == '-' else int(words[4]), int(words[5]), int(words[6]), *size, *(int(word) for word in words[8:]))
 
 
@@ -122,6 +137,8 @@ def test_readings(tests, programs):
     for pool in POOLS:
         tests.run(f'records.h on {pool}', check_layout, programs, pool)
     for kind in ['state', 'state-sanitized']:
+        tests.run(f'{kind} without an active mask', check_no_mask, programs, kind)
+        tests.run(f'{kind} into a full file', check_full, programs, kind)
         for pool in POOLS:
             tests.run(f'{kind} records of {pool}', check_records, programs, kind, pool)
             tests.run(f'{kind} picture of {pool}', check_first_picture, programs, kind, pool)

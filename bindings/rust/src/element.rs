@@ -15,9 +15,9 @@ pub struct Element {
     pub x: i32,
     /// The upper edge.
     pub y: i32,
-    /// The width, 0 of a kind without an area.
+    /// The width, 0 where its record has no size.
     pub width: u32,
-    /// The height, 0 of a kind without an area.
+    /// The height, 0 where its record has no size.
     pub height: u32,
     /// Nothing of the element is shown outside of these.
     pub bounds: Bounds,

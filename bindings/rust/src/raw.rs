@@ -65,6 +65,7 @@ extern "C" {
     fn vt_text_of_elements(at: *mut VtTerminal) -> u64;
     fn vt_id_at(at: *mut VtTerminal, x: u32, y: u32) -> u64;
     fn vt_ids_of_active(at: *mut VtTerminal, address: u32) -> u64;
+    fn vt_has_pool(at: *mut VtTerminal, address: u32) -> u64;
     fn vt_text_of_object(at: *mut VtTerminal, address: u32, id: u32) -> u64;
     fn vt_text_of_picture(at: *mut VtTerminal, address: u32, mask: u32) -> u64;
     fn vt_shown(at: *mut VtTerminal) -> u32;
@@ -215,6 +216,12 @@ impl Handle {
     pub(crate) fn active(&mut self, address: u8) -> u64 {
         // SAFETY: `at` is a terminal, lent alone.
         unsafe { vt_ids_of_active(self.at.as_ptr(), u32::from(address)) }
+    }
+
+    /// Whether there is a set with a pool at an address.
+    pub(crate) fn has_pool(&mut self, address: u8) -> bool {
+        // SAFETY: `at` is a terminal, lent alone.
+        unsafe { vt_has_pool(self.at.as_ptr(), u32::from(address)) != 0 }
     }
 
     /// Writes the record of an object and returns the number of its bytes, or `u64::MAX`.

@@ -42,14 +42,14 @@ pub struct Active {
 }
 
 impl Active {
-    /// The four IDs in a number, the first lowest. `None` if the number has all bits.
-    pub(crate) fn from_ids(ids: u64) -> Option<Active> {
+    /// The four IDs in a number, the first lowest.
+    pub(crate) fn from_ids(ids: u64) -> Active {
         let id = |bit: u32| Some((ids >> bit) as u16).filter(|id| *id != NO_ID);
-        (ids != u64::MAX).then(|| Active {
+        Active {
             mask: id(0),
             soft_key_mask: id(16),
             input: id(32),
             key: id(48),
-        })
+        }
     }
 }

@@ -136,13 +136,13 @@ impl Terminal {
     /// The working sets in the order in which they registered. The only error is [`Error::OutOfMemory`].
     pub fn sets(&mut self) -> Result<Vec<Set>, Error> {
         let count = self.handle.sets();
-        let bytes = self.written(count)?;
-        Ok(bytes.chunks_exact(16).map(Set::from_bytes).collect())
+        rows(&self.written(count)?, 16, Set::from_bytes)
     }
 
     /// What is active in the set at an address, or `None` if there is no set with a pool.
     pub fn active(&mut self, address: u8) -> Option<Active> {
-        Active::from_ids(self.handle.active(address))
+        let has_pool = self.handle.has_pool(address);
+        has_pool.then(|| Active::from_ids(self.handle.active(address)))
     }
 
     /// The record of an object of the set at an address, as it is now, in the layout of object pools (ISO 11783-6), or `None` if there
@@ -159,18 +159,18 @@ impl Terminal {
         Ok(Some(text_of(self.written(count)?)).filter(|picture| !picture.is_empty()))
     }
 
-    /// The elements that the shown mask and its soft keys show, in the order in which they are drawn, at most 2,000. The only error is
-    /// [`Error::OutOfMemory`].
+    /// The elements that the shown mask and its soft keys show, in the order in which they are drawn; of a longer drawing the first
+    /// 2,000. The only error is [`Error::OutOfMemory`].
     pub fn elements(&mut self) -> Result<Vec<Element>, Error> {
         let count = self.handle.elements();
-        let bytes = self.written(count)?;
-        Ok(bytes.chunks_exact(40).map(Element::from_bytes).collect())
+        rows(&self.written(count)?, 40, Element::from_bytes)
     }
 
     /// The key, button or input that is shown at a place, in pixels from the upper left corner of the mask: of several the one drawn
     /// last. The only error is [`Error::OutOfMemory`].
-    pub fn touch(&mut self, x: u32, y: u32) -> Result<Option<u16>, Error> {
-        let id = u16::try_from(self.handle.touch(x, y)).map_err(|_| Error::OutOfMemory)?;
+    pub fn touch(&mut self, x: i32, y: i32) -> Result<Option<u16>, Error> {
+        let id = self.handle.touch(x as u32, y as u32);
+        let id = u16::try_from(id).map_err(|_| Error::OutOfMemory)?;
         Ok(Some(id).filter(|id| *id != NO_ID))
     }
 
@@ -232,9 +232,19 @@ impl Terminal {
     }
 }
 
-// A text of one byte a character.
+// The rows of a list, each of this many bytes.
+fn rows<T>(bytes: &[u8], size: usize, row: impl Fn(&[u8]) -> T) -> Result<Vec<T>, Error> {
+    let mut all = Vec::new();
+    all.try_reserve_exact(bytes.len() / size)
+        .map_err(|_| Error::OutOfMemory)?;
+    all.extend(bytes.chunks_exact(size).map(row));
+    Ok(all)
+}
+
+// A text of one byte a character. One in ASCII, as all texts of the library are, is not copied.
 fn text_of(bytes: Vec<u8>) -> String {
-    bytes.into_iter().map(char::from).collect()
+    String::from_utf8(bytes)
+        .unwrap_or_else(|error| error.into_bytes().into_iter().map(char::from).collect())
 }
 
 #[cfg(test)]
@@ -332,6 +342,7 @@ mod tests {
         assert_eq!(elements[0].around, None);
         // A container is nothing to touch.
         assert_eq!(terminal.touch(20, 10), Ok(None));
+        assert_eq!(terminal.touch(-1, 10), Ok(None));
     }
 
     #[test]

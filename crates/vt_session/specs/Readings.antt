@@ -66,6 +66,14 @@ active_of (Some set) =
 abbrev pub TellsActive : Session → ℕ → Session → ℕ → Type 0
 TellsActive before address after ids = (after ≡ before) × (ids ≡ active_of (pool_by (state before) address))
 
+abbrev pub number_of_pools : Option SetState → ℕ
+number_of_pools None = 0
+number_of_pools (Some set) = 1
+
+-- whether there is a set with a pool at an address
+abbrev pub TellsPool : Session → ℕ → Session → ℕ → Type 0
+TellsPool before address after number = (after ≡ before) × (number ≡ number_of_pools (pool_by (state before) address))
+
 -- ---- an object
 
 abbrev pub record_if : ℕ → Option Seen → List ℕ

@@ -1,4 +1,4 @@
--- A session: a terminal, the outputs that wait to be taken, and the text of its screen (docs/EMBEDDING.md, "Inputs").
+-- A session: a terminal, the outputs that wait to be taken, and the text written last (docs/EMBEDDING.md, "Inputs").
 use Rattle.std.specs.List.{slice_get}
 use Rattle.std.specs.Prelude.{◌≡◌, ◌⊎◌, ℕ, ◌==◌, ◌-◌, ◌/◌, ◌%◌, ◌^◌, true, false, nat_le, nat_lt, if◌then◌else◌, List, [], ◌∷◌, length, drop, Option, Some, None}
 use Rattle.vt_can.specs.declared.frames.frame.Frame.{Frame}
@@ -74,14 +74,14 @@ pub record Begins (own name memory keys fonts hardware size : ℕ) (after : Sess
 
 -- ---- calls without an input
 
--- The terminal and the text of its screen are unchanged.
+-- The terminal and the text written last are unchanged.
 pub record Stays (before after : Session) : Type 0 where
   pub state : state after ≡ state before
   pub redraws : redraws after.terminal ≡ redraws before.terminal
   pub begun : after.begun ≡ before.begun
   pub text : after.text.items ≡ before.text.items
 
--- The terminal, the text of its screen, the outputs that wait and the one taken last are unchanged.
+-- The terminal, the text written last, the outputs that wait and the one taken last are unchanged.
 pub record Remains (before after : Session) : Type 0 where
   pub stays : Stays before after
   pub waiting : waiting after ≡ waiting before

@@ -1,4 +1,4 @@
-//! A terminal as a host holds it: with the outputs of its last input, which wait to be taken, and the text of its screen. Arguments and
+//! A terminal as a host holds it: with the outputs of its last input, which wait to be taken, and the text written last. Arguments and
 //! results are numbers, bytes and texts, as a caller in another language passes them.
 //!
 //! - `session`: a session begins, hears frames, takes ticks, actions and texts of the operator, and ends.

@@ -8,7 +8,7 @@ ghost use Rattle.byteorder.specs.Endian.{little_bytes};
 ghost use Rattle.vt_kinds.specs.Ids.{null_id};
 ghost use Rattle.vt_server.specs.States.{state_of};
 ghost use Rattle.vt_server.specs.Terminals.{pool_at};
-ghost use Rattle.vt_session.specs.Readings.{IsPictureIn, Lists, ListsElements, Pictures, TellsActive, TellsTouched, WritesObject, active_of, element_bytes, elements_shown, four_ids, head_bytes, mask_in, numbers_of, pool_by, record_in, set_bytes, sizes_of, touched_of};
+ghost use Rattle.vt_session.specs.Readings.{IsPictureIn, Lists, ListsElements, Pictures, TellsActive, TellsPool, TellsTouched, WritesObject, active_of, element_bytes, elements_shown, four_ids, head_bytes, mask_in, numbers_of, pool_by, record_in, set_bytes, sizes_of, touched_of};
 
 use crate::session::Session;
 use std::alloc::{AllocError, Global};
@@ -80,6 +80,16 @@ pub fn active(session: &mut Session, address: u32) -> u64
     match pool_at(&session.terminal, address) {
         Some(live) => ids_of(live),
         None => u64::MAX,
+    }
+}
+
+/// Whether there is a set with a pool at an address: 1 or 0.
+pub fn has_pool(session: &mut Session, address: u32) -> u64
+    ensures { TellsPool session.old address session.new result }
+{
+    match pool_at(&session.terminal, address) {
+        Some(_) => 1,
+        None => 0,
     }
 }
 

@@ -16,7 +16,7 @@ pub fn screen(session: &mut Session) -> u64
     }
 }
 
-/// Eight bytes of the text drawn last, from an index on, the first lowest.
+/// Eight bytes of the text written last, from an index on, the first lowest.
 pub fn screen_word(session: &mut Session, at: u64) -> u64
     ensures { TellsWord session.old at session.new result }
 {

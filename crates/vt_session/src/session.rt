@@ -1,4 +1,4 @@
-//! A terminal with the outputs that wait to be taken and the text of its screen, and the inputs that it takes.
+//! A terminal with the outputs that wait to be taken and the text written last, and the inputs that it takes.
 
 ghost use Rattle.std.specs.Prelude.{◌≡◌, [], length};
 ghost use Rattle.vt_session.specs.Calls.{Acts, Hears, Texts, Ticks};
@@ -13,14 +13,14 @@ use vt_can::{Action, CanId, Frame};
 use vt_names::Name;
 use vt_server::{Input, Output, Profile, Terminal};
 
-/// A terminal, the outputs of its last input, and the text of its screen.
+/// A terminal, the outputs of its last input, and the text written last.
 #[derive(Drop)]
 pub struct Session {
     pub(crate) terminal: Terminal,
     // The outputs of the last input. Those from the index `next` on wait to be taken.
     pub(crate) outputs: Vec<Output>,
     pub(crate) next: usize,
-    // The text of the screen drawn last.
+    // The text written last: of the screen, or of what a display read.
     pub(crate) text: Vec<u8>,
     // Whether the own address is one that a node may have. A session without such an address takes no input.
     pub(crate) begun: bool,

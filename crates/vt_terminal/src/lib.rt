@@ -11,7 +11,7 @@ ghost use Rattle.std.specs.Ptr.{lies_at, room_at};
 ghost use Rattle.vt_session.specs.contracts.session.Session.{the_row};
 ghost use Rattle.vt_session.specs.Calls.{Acts, Claims, Draws, Hears, Nexts, TellsCount, TellsData, TellsDeadline, TellsId, TellsLost, TellsRedraws, TellsShown, SendsStatus, TellsWord, Texts, Ticks};
 ghost use Rattle.vt_session.specs.Preloads.{Preloads};
-ghost use Rattle.vt_session.specs.Readings.{Lists, ListsElements, Pictures, TellsActive, TellsTouched, WritesObject};
+ghost use Rattle.vt_session.specs.Readings.{Lists, ListsElements, Pictures, TellsActive, TellsPool, TellsTouched, WritesObject};
 ghost use Rattle.vt_session.specs.Sessions.{Begins};
 
 use std::alloc::Global;
@@ -184,7 +184,7 @@ pub unsafe extern "C" fn vt_screen(at: *mut VtTerminal) -> u64
     screen::screen(unsafe { &mut *(at as *mut Session) })
 }
 
-/// Eight bytes of the text drawn last, from an index on, the first lowest.
+/// Eight bytes of the text written last, from an index on, the first lowest.
 #[unsafe(no_mangle)]
 pub unsafe extern "C" fn vt_screen_word(at: *mut VtTerminal, index: u64) -> u64
     ghost before: { Session }
@@ -242,6 +242,16 @@ pub unsafe extern "C" fn vt_ids_of_active(at: *mut VtTerminal, address: u32) -> 
     ensures* { ∃ₛ (λ (after : Session). sem 𝓛 (lies_at the_row full_share at after) ∗ ⌜ TellsActive before address after result ⌝) }
 {
     reading::active(unsafe { &mut *(at as *mut Session) }, address)
+}
+
+/// Whether there is a set with a pool at an address: 1 or 0.
+#[unsafe(no_mangle)]
+pub unsafe extern "C" fn vt_has_pool(at: *mut VtTerminal, address: u32) -> u64
+    ghost before: { Session }
+    requires* { sem 𝓛 (lies_at the_row full_share at before) }
+    ensures* { ∃ₛ (λ (after : Session). sem 𝓛 (lies_at the_row full_share at after) ∗ ⌜ TellsPool before address after result ⌝) }
+{
+    reading::has_pool(unsafe { &mut *(at as *mut Session) }, address)
 }
 
 /// Writes the record of an object of the set at an address as the terminal's text, and returns the number of its bytes, or 2^64 - 1 if
