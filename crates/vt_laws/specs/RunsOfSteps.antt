@@ -1,7 +1,9 @@
 -- The listed runs of an input are the runs of its step (docs/PROFILE.md, "The step", "Runs").
-use Rattle.std.specs.Prelude.{◌≡◌, ℕ, Bool, ◌==◌, List, [], ◌∷◌, Some, Ok, IfSome, IsSomeAnd}
+use Rattle.std.specs.Prelude.{◌≡◌, ◌≢◌, ℕ, Bool, ◌==◌, List, [], ◌∷◌, Some, Ok, IfSome, IsSomeAnd}
 use Rattle.std.specs.List.{AllByRecursion, filter}
 use Rattle.std.specs.Option.{option_map}
+use Rattle.vt_can.specs.declared.frames.frame.Frame.{Frame}
+use Rattle.vt_can.specs.frames.Frame.{source_of}
 use Rattle.vt_can.specs.lines.Actions.{ActionValue}
 use Rattle.vt_commands.specs.declared.command.Command.{Command}
 use Rattle.vt_commands.specs.declared.event.Event as objects
@@ -12,8 +14,9 @@ use Rattle.vt_macros.specs.Machines.{events_of, run_of, store_of}
 use Rattle.vt_machine.specs.SetStates.{SetState, working_set_in}
 use Rattle.vt_machine.specs.OperatorActions.{Acts}
 use Rattle.vt_server.specs.operator.ActionEffects.{action_on}
-use Rattle.vt_server.specs.Steps.{JudgedInput, step}
+use Rattle.vt_server.specs.Steps.{JudgedInput, FrameAt, step}
 use Rattle.vt_server.specs.Terminals.{State, pool_of}
+use Rattle.vt_server.specs.message.Verdicts.{Verdict}
 use Rattle.vt_laws.specs.Headline.{Pools, Run, accepted_after, runs}
 
 -- the objects after a run
@@ -45,3 +48,10 @@ pub record RunsAreOfSteps : Type 0 where
   pub begun : (s : State) (e : JudgedInput) → AllByRecursion IsBegun (runs s e)
   pub lead : (s : State) (e : JudgedInput) (address : ℕ) → IfSome (pool_of (step s e).after address)
       (λ new. IsSomeAnd (accepted_after s e (objects_in s) address) (λ old. Lead old (runs_there address (runs s e)) new.objects))
+
+-- A frame changes no object of a set at another address than its own, while the shown set stays: after it the set has the same
+-- objects, or no pool.
+abbrev pub OthersKeepObjects : Type 0
+OthersKeepObjects = (s : State) (time : ℕ) (frame : Frame) (verdict : Verdict) (address : ℕ) → address ≢ source_of frame
+    → (step s (FrameAt time frame verdict)).after.shown ≡ s.shown
+    → IfSome (pool_of (step s (FrameAt time frame verdict)).after address) (λ new. IsSomeAnd (objects_in s address) (λ old. new.objects ≡ old))

@@ -12,7 +12,7 @@ ghost use Rattle.vt_laws.specs.Destinations.{SentAreAddressed};
 ghost use Rattle.vt_laws.specs.Happenings.{EachTakesItsOwn, OwnHappeningsDecide, SetsHoldTheirAddress};
 ghost use Rattle.vt_server.specs.state.StateInvariants.{IsOrderly};
 ghost use Rattle.vt_laws.specs.Headline.{NeverSticks};
-ghost use Rattle.vt_laws.specs.RunsOfSteps.{RunsAreOfSteps};
+ghost use Rattle.vt_laws.specs.RunsOfSteps.{OthersKeepObjects, RunsAreOfSteps};
 ghost use Rattle.vt_laws.specs.SetLists.{SetsAfterSteps};
 ghost use Rattle.vt_laws.specs.ShownSets.{ShownAreChosen};
 ghost use Rattle.vt_laws.specs.Ticks.{EchoesAreTicks, OthersAreIdle, ProfilesAreKept};
@@ -42,6 +42,13 @@ pub fn the_machine_never_sticks()
 pub fn runs_are_of_steps()
     ensures { RunsAreOfSteps }
 {}
+
+/// A frame changes no object of a set at another address than its own, while the shown set stays the same.
+pub fn others_keep_objects()
+    ensures { OthersKeepObjects }
+{
+    runs_are_of_steps();
+}
 
 /// No run of macros during an input takes more steps than the budgets of its events, by the report of the pool accepted last at
 /// its address. All runs together take no more than the sum of these budgets.

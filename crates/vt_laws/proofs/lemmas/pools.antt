@@ -1,4 +1,5 @@
 -- The pool of each address after an act, a step and a run.
+pub mod FramesOfOthers
 pub mod MessagesWithoutCommands
 pub mod PoolAfterAct
 pub mod PoolAfterStep

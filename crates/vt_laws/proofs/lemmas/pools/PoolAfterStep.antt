@@ -44,7 +44,7 @@ use Rattle.vt_laws.proofs.lemmas.pools.PoolAfterAct.{Follows, follows-same, foll
 -- ---- the addresses of runs
 
 -- Each run is at the address.
-abbrev AreAt : ℕ → List Run → Type 0
+abbrev pub AreAt : ℕ → List Run → Type 0
 AreAt a rs = AllByRecursion (λ run. run.address ≡ a) rs
 
 -- The run of a command is at the address of its set.
@@ -81,7 +81,7 @@ event-at a None event = tt
 event-at a (Some state) event = (refl, tt)
 
 -- The runs of an act are at its address.
-runs-at : (now a : ℕ) (p : AddressView) (h : Act) → AreAt a (runs_at now a p h)
+pub runs-at : (now a : ℕ) (p : AddressView) (h : Act) → AreAt a (runs_at now a p h)
 runs-at now a p (Hears n f verdict) = message-at a p.set p.place.content.pool (came now p.terminal a p.place n f).message
 runs-at now a p Rebinds = tt
 runs-at now a p (Preloads contents) = tt
@@ -98,7 +98,7 @@ all-there a [] at = refl
 all-there a (run ∷ rs) at =
     ap (λ (b : Bool). cond b (run ∷ runs_there a rs) (runs_there a rs)) (eq-eqb run.address a at.0) ∙ ap (λ (l : List Run). run ∷ l) (all-there a rs at.1)
 
-none-there : (a q : ℕ) (rs : List Run) → q ≢ a → AreAt a rs → runs_there q rs ≡ []
+pub none-there : (a q : ℕ) (rs : List Run) → q ≢ a → AreAt a rs → runs_there q rs ≡ []
 none-there a q [] other at = refl
 none-there a q (run ∷ rs) other at =
     ap (λ (b : Bool). cond b (run ∷ runs_there q rs) (runs_there q rs)) (ne_eqb run.address q (λ (is : run.address ≡ q). other (sym is ∙ at.0))) ∙ none-there a q rs other at.1
