@@ -2,6 +2,7 @@
 //!
 //! - `draw_shapes` appends the shapes of an object, in the coordinates of its own area. Those of a Picture, and patterns, are references to
 //!   pictures that are written elsewhere.
+//! - `text_shown` is the text that a field shows.
 //! - `used_picture` returns the Picture to which the shapes of an object may refer.
 //!
 //! docs/PROFILE.md, "Pictures", says how each kind looks.
@@ -12,5 +13,5 @@ mod pen;
 mod shapes;
 mod used_pictures;
 
-pub use shapes::draw_shapes;
+pub use shapes::{draw_shapes, text_shown};
 pub use used_pictures::used_picture;

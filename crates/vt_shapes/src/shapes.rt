@@ -24,6 +24,8 @@ use vt_needs::Sizes;
 use vt_objects::{Button, Key, Object, ObjectId, Store};
 use vt_svg::{Attribute, Element, Paint, empty};
 
+pub use texts::text_shown;
+
 /// Appends the shapes of an object, by its ID, without those of other elements in it. Those of lines, areas, meters and bars are in tenths
 /// of a pixel, others in pixels.
 ///

@@ -1,0 +1,4 @@
+-- Definitions cited by the contracts of vt_dialogs.
+pub mod Limits
+pub mod Texts
+pub mod TypedNumbers
