@@ -14,9 +14,9 @@ ROOT = pathlib.Path(__file__).resolve().parent.parent / "crates" / "vt_terminal"
 
 # Exports that lend the session: the export, the function, its relation, the types of its arguments, and that of its result.
 LENDING = [
-    ("vt_hear", "session::hear", "Hears", ["u64", "u32", "u32", "u64"], "u32"),
+    ("vt_hear_bits", "session::hear", "Hears", ["u64", "u32", "u32", "u64"], "u32"),
     ("vt_tick", "session::tick", "Ticks", ["u64"], "u32"),
-    ("vt_act", "session::act", "Acts", ["u32", "u32", "u32"], "u32"),
+    ("vt_act", "session::act", "Acts", ["u64", "u32", "u32", "u32"], "u32"),
     ("vt_claim", "outputs::claim", "Claims", [], "u32"),
     ("vt_status", "outputs::status", "SendsStatus", [], "u32"),
     ("vt_next", "outputs::next", "Nexts", [], "u32"),
@@ -24,8 +24,9 @@ LENDING = [
     ("vt_output_count", "outputs::output_count", "TellsCount", [], "u32"),
     ("vt_output_data", "outputs::output_data", "TellsData", [], "u64"),
     ("vt_redraws", "screen::redraws", "TellsRedraws", [], "u32"),
-    ("vt_screen", "screen::screen", "Draws", [], "u64"),
+    ("vt_text_of_screen", "screen::screen", "Draws", [], "u64"),
     ("vt_screen_word", "screen::screen_word", "TellsWord", ["u64"], "u64"),
+    ("vt_look", "screen::looks", "TellsLooks", [], "u64"),
     ("vt_shown", "screen::shown", "TellsShown", [], "u32"),
     ("vt_lost", "screen::lost", "TellsLost", [], "u32"),
     ("vt_deadline", "screen::deadline", "TellsDeadline", [], "u64"),
@@ -36,15 +37,20 @@ LENDING = [
     ("vt_text_of_picture", "reading::picture", "Pictures", ["u32", "u32"], "u64"),
     ("vt_text_of_elements", "reading::shown_elements", "ListsElements", [], "u64"),
     ("vt_id_at", "reading::touch", "TellsTouched", ["u32", "u32"], "u64"),
+    ("vt_text_of_limits", "dialog::limits", "WritesLimits", ["u32", "u32"], "u64"),
+    ("vt_text_of_value", "dialog::value_text", "WritesValue", ["u32", "u32"], "u64"),
+    ("vt_raw_of", "dialog::raw", "TellsRaw", ["u32", "u32", "u32", "u64", "u32"], "u64"),
 ]
 
 # The relations of a module other than Calls.
 READINGS = ["Lists", "TellsActive", "TellsPool", "WritesObject", "Pictures", "ListsElements", "TellsTouched"]
+DIALOGS = ["WritesLimits", "WritesValue", "TellsRaw"]
 
-# Exports with a number and a slice of bytes: the export, the function, its relation, the module of the relation, and the slice in it.
+# Exports with one or two numbers and a slice of bytes: the export, the function, its relation, the module of the relation, the slice in it,
+# and the types of the numbers.
 SLICES = [
-    ("vt_text", "session::text", "Texts", "Calls", "x"),
-    ("vt_preload", "preload::preload", "Preloads", "Preloads", "x.now"),
+    ("vt_text_bytes", "session::text", "Texts", "Calls", "x", ["u64", "u32"]),
+    ("vt_preload_bytes", "preload::preload", "Preloads", "Preloads", "x.now", ["u32"]),
 ]
 
 # The numbers from which `vt_init` makes a session.
@@ -61,6 +67,11 @@ def nest(items):
 def part(name, index):
     """The item of an index in such pairs."""
     return name + ".1" * index + ".0"
+
+
+def module_of(relation):
+    """The module of definitions that has a relation."""
+    return "Readings" if relation in READINGS else "Dialogs" if relation in DIALOGS else "Calls"
 
 
 def lending(export, callee, relation, args, result):
@@ -120,7 +131,7 @@ use denote.Triple.Entry.{{on_entry}}
 use denote.Triple.Spec.{{triple_of}}
 use denote.Triple.Walked.{{Stays, walk_of, says, stay_dropped, Goes-dropped, ends_at}}
 use denote.Triple.Table.{{framed}}
-use Rattle.vt_session.specs.{"Readings" if relation in READINGS else "Calls"}.{{{relation}}}
+use Rattle.vt_session.specs.{module_of(relation)}.{{{relation}}}
 use Rattle.vt_session.specs.declared.session.Session.{{Session}}
 use Rattle.vt_session.specs.contracts.session.Session.{{the_row as R}}
 use Rattle.vt_session.specs.contracts.{dots} as g
@@ -172,11 +183,33 @@ pub {export}_spec : {{M : Type 1}} → statement M
     show ! (λ (after : R.Denot). sep 𝓤 (sem 𝓛 (lies_at R full_share (block_ptr b o) after)) (fact 𝓤 ({said('after', 'n')}))) ws.0 $ says ! done' $ done !))))))))))"""
 
 
-def sliced(export, callee, relation, module, slice):
-    """The proof of an export that takes a number and a slice of bytes, and returns a status."""
+def sliced(export, callee, relation, module, slice, args):
+    """The proof of an export that takes one or two numbers and a slice of bytes, and returns a status."""
     dots = callee.replace("::", ".")
+    n = len(args)
+    ks = [f"k{i}" for i in range(1, n + 1)]
+    both = list(zip(args, ks))
+    types = sorted({*args, "u32"})
+    stay = nest([f"stay_dropped ({it}) yes" for it in ["plain (λ _. RawPtr)", *[f"plain (λ _. {t})" for t in args]]] + ["stay_dropped slot yes"])
+    goes = nest([f"Goes-dropped 𝓛 1 {it} yes (λ κs x w. refl)" for it in ["(plain (λ _. RawPtr))", *[f"(plain (λ _. {t}))" for t in args], "slot"]])
+    vals = nest(["rawptr_vals", *[f"uint_vals {WIDTHS[t]}" for t in args], "shr_slice_vals"])
+    tells = nest(["rawptr_Tells", *[f"uint_Tells {WIDTHS[t]}" for t in args], "shr_slice_Tells (named 0) κs.0 u8"])
+    lets = " ".join(f"let {k} = {part('a', i)} in let fits{i} = are{'.1' * i}.0.1 in" for i, k in enumerate(ks, 1))
+    yargs = nest(["p", *ks, "x"])
+    yvals = nest(["rawptr_vals p", *[f"uint_vals {WIDTHS[t]} {k}" for t, k in both], "shr_slice_vals x"])
+    mach = " ∷ ".join([f"vint {WIDTHS[t]} {k}" for t, k in both] + ["shr_slice_vals x"])
+    passed = nest(["(tt, tt)", *[f"(tt, record {{ fits = fits{i} }})" for i in range(1, n + 1)], "good"])
+    copies = " ".join(f"sets ! (of_opd ! (get ! refl)) refl (tt, record {{ fits = fits{i} }}) $" for i in range(1, n + 1))
+    zargs = nest(["r", *ks, "x"])
+    zvals = nest(["vptr b o ∷ []", *[f"vint {WIDTHS[t]} {k} ∷ []" for t, k in both], "shr_slice_vals x"])
+    owns = " ".join(f"owned ! {t} (Is {t}) (uint_Makes 𝓛 {WIDTHS[t]}) {k} _ (refl, fits{i}) $ fjoin ! $" for i, (t, k) in reversed(list(enumerate(both, 1))))
+    opds = "(and_then ! (get ! refl) " * (n + 2) + "(no_more !)" + ")" * (n + 2)
+    tts = nest(["tt"] * (n + 2))
+    # (what the parameters own is one part after the other: that of the slice is kept, with its token)
+    parts = "fsplit ! $ keep ! (6 ∷ 0 ∷ 4 ∷ []) $" if n == 1 else "fsplit3 ! $ keep ! (7 ∷ 1 ∷ 5 ∷ []) $"
+    numbers = " ".join(ks)
     return f"""-- A walk: the state behind the pointer is lent to `{callee.split('::')[-1]}`, which is passed the slice, and comes back once the loan is over.
-use Rattle.std.proofs.Common.{{◌≡◌, ℕ, List, [], ◌∷◌, ◌++◌, refl, sym, ap, w8, w32, MutBor, Bor}}
+use Rattle.std.proofs.Common.{{◌≡◌, ℕ, List, [], ◌∷◌, ◌++◌, refl, sym, ap, w8, w32, w64, MutBor, Bor}}
 use Rattle.std.proofs.raw_atomic.Walks.{{proved, leaves}}
 use base.Fraction.{{full_share}}
 use base.Logic.{{SProp, sep, ent, id⊢}}
@@ -192,7 +225,7 @@ use types.Tokens.{{lft_new, lft_end}}
 use types.SemTy.{{Body}}
 use types.Run.{{enter, of_opd, addr, stop, no_more, and_then, first, blocks, exec, returns}}
 use types.ByLocal.{{alloc_all, pass_all, free_all, look_at, get, through, sets, sets_last, lands_as, env}}
-use denote.Builtin.{{u8, u32, SliceRefOf}}
+use denote.Builtin.{{u8, {', '.join(types)}, SliceRefOf}}
 use denote.Slice.{{ShrSlice, shr_slice_vals, shr_slice_Tells, shr_slice_Lawful}}
 use denote.Exit.{{yes}}
 use denote.Laws.{{Is, shows}}
@@ -222,47 +255,47 @@ abbrev slot : Slot 1
 slot = SliceRefOf (0 ∷ []) tt (plain (λ _. u8)) (λ _. tt)
 
 abbrev stayed : Stays f.ended.signature.params f.ended.kept
-stayed = (stay_dropped (plain (λ _. RawPtr)) yes, (stay_dropped (plain (λ _. u32)) yes, (stay_dropped slot yes, tt)))
+stayed = {stay}
 
 pub {export}_spec : {{M : Type 1}} → statement M
 {export}_spec 𝓤 𝓛 𝓜 𝓡 wired =
     let c = f.clauses 𝓛 𝓜.mem 𝓡.returns in let W = walk_of 𝓛 f.ended stayed c in let 𝓣 = tables 𝓤 𝓛.H 𝓜 𝓡 𝓡.env in
-    proved 𝓛 f.ended stayed c 𝓜 𝓡 (Goes-dropped 𝓛 1 (plain (λ _. RawPtr)) yes (λ κs x w. refl), (Goes-dropped 𝓛 1 (plain (λ _. u32)) yes (λ κs x w. refl), (Goes-dropped 𝓛 1 slot yes (λ κs x w. refl), tt)))
+    proved 𝓛 f.ended stayed c 𝓜 𝓡 {goes}
     f.Key.name code.function (code.unfolded 𝓤 𝓛.H 𝓜 𝓡 wired)
-    (λ κs. (rawptr_vals, (uint_vals w32, (shr_slice_vals, tt)))) (λ κs. (rawptr_Tells, (uint_Tells w32, (shr_slice_Tells (named 0) κs.0 u8, tt)))) (λ κs qs bounds a s are.
-    let k = a.1.0 in let fits = are.1.0.1 in let x : Bor (List ℕ) = a.1.1.0 in let Sl = ShrSlice (named 0) κs.0 u8 in
-    let good = ((shr_slice_Lawful 𝓛 (named 0) κs.0 u8).typed x (shr_slice_vals x) are.1.1.0).0 in
-    let y : Ptr → W.Ghost = λ p. ((κs, qs, bounds, (p, (k, (x, tt))), (rawptr_vals p, (uint_vals w32 k, (shr_slice_vals x, tt)))), s) in
+    (λ κs. {vals}) (λ κs. {tells}) (λ κs qs bounds a s are.
+    {lets} let x : Bor (List ℕ) = {part('a', n + 1)} in let Sl = ShrSlice (named 0) κs.0 u8 in
+    let good = ((shr_slice_Lawful 𝓛 (named 0) κs.0 u8).typed x (shr_slice_vals x) {part('are', n + 1)}).0 in
+    let y : Ptr → W.Ghost = λ p. ((κs, qs, bounds, {yargs}, {yvals}), s) in
     qed 𝓛 (((‵ (flft κs.0 qs.0) ⊛ ‵ ftrue) ⊛ ‵ (owns (types_at f.signature.params κs) a (y a.0).0.4)) ∷ ‵ (lies_at R full_share a.0 s) ∷ []) ∵
-    split ! $ split ! $ move ! (2 ∷ []) $ fsplit3 ! $ move ! (2 ∷ []) $ fsplit ! $ keep ! (6 ∷ 0 ∷ 4 ∷ []) $
+    split ! $ split ! $ move ! (2 ∷ []) $ fsplit3 ! $ move ! (2 ∷ []) $ {parts}
     in_a_block ! a.0 (λ p. lies_at R full_share p s) (id⊢ 𝓤 _) (λ b o e.
-    regoal ! (λ p. prop (WpFn 𝓤 𝓛.H 𝓣.C 𝓣.Λ code.function (rawptr_vals p ++ (vint w32 k ∷ shr_slice_vals x)) (W.post (y p)))) e refl $
-    enter ! _ _ _ _ _ $ alloc_all ! (λ l. pass_all ! refl ((tt, tt), ((tt, record {{ fits = fits }}), (good, tt))) $
+    regoal ! (λ p. prop (WpFn 𝓤 𝓛.H 𝓣.C 𝓣.Λ code.function (rawptr_vals p ++ ({mach})) (W.post (y p)))) e refl $
+    enter ! _ _ _ _ _ $ alloc_all ! (λ l. pass_all ! refl {passed} $
     -- [the state; what the slice owns; its token; the locals]
     first ! $ blocks ! $ sets ! (of_opd ! (get ! refl)) refl (tt, tt) $ sets ! (of_opd ! (get ! refl)) refl (tt, tt) $
     sets_last ! (addr ! (through ! refl (stop !))) refl (tt, tt) $
     exec ! 𝓣.C 𝓣.Λ (env code.Mir.locals l) code.Mir.t-2 (at_ret _ (W.post (y (block_ptr b o)))) $
-    sets ! (of_opd ! (get ! refl)) refl (tt, tt) $ sets ! (of_opd ! (get ! refl)) refl (tt, record {{ fits = fits }}) $ sets ! (of_opd ! (get ! refl)) refl good $
+    sets ! (of_opd ! (get ! refl)) refl (tt, tt) $ {copies} sets ! (of_opd ! (get ! refl)) refl good $
     lft_new ! tt (λ α. let κ : List ℕ = α ∷ [] in move ! (1 ∷ []) $
     use1 𝓛 (later (some (λ (γ : ℕ). ‵ ((MutRef (named 0) κ R).own_val (record {{ ref_ptr = (b, o); ghost_name = γ; now = s }}) (vptr b o ∷ [])) ⊛ ‵ (flent κ (Body (mem R) b o γ)))))
     (lends_ref 𝓛 R (named 0) κ s b o) $ await ! tt $ pick ! (λ γ. split ! $
     -- [the loan; what is lent; its token; the slice; its token; the locals]
     let G = triple_of 𝓛 g.signature (g.spec 𝓛 𝓜.mem 𝓡.returns) in let r : MutBor R.Denot = record {{ ref_ptr = (b, o); ghost_name = γ; now = s }} in
-    let z : G.Ghost = (((κ, (κs.0, tt)), (full_share, (qs.0, tt)), tt, (r, (k, (x, tt))), (vptr b o ∷ [], (vint w32 k ∷ [], (shr_slice_vals x, tt)))), tt) in
-    move ! (3 ∷ []) $ nothing ! $ move ! (1 ∷ 0 ∷ []) $ fjoin ! $ owned ! u32 (Is u32) (uint_Makes 𝓛 w32) k _ (refl, fits) $ fjoin ! $ move ! (1 ∷ 0 ∷ []) $ fjoin ! $
+    let z : G.Ghost = (((κ, (κs.0, tt)), (full_share, (qs.0, tt)), tt, {zargs}, {zvals}), tt) in
+    move ! (3 ∷ []) $ nothing ! $ move ! (1 ∷ 0 ∷ []) $ fjoin ! $ {owns} move ! (1 ∷ 0 ∷ []) $ fjoin ! $
     nothing ! $ move ! (4 ∷ 0 ∷ []) $ join ! $ move ! (3 ∷ 0 ∷ []) $ join ! $ join ! $ nothing ! $ move ! (1 ∷ 0 ∷ []) $ join ! $ use1 𝓛 (raw (G.pre z)) (id⊢ 𝓤 (G.pre z)) $
-    calls_at ! (framed 𝓤 𝓛.H 𝓜 𝓣) G (met 𝓤 𝓛 𝓜 𝓡 (code.calls-vt_session::{callee} 𝓡.env wired)) z (and_then ! (get ! refl) (and_then ! (get ! refl) (and_then ! (get ! refl) (no_more !)))) (λ v.
+    calls_at ! (framed 𝓤 𝓛.H 𝓜 𝓣) G (met 𝓤 𝓛 𝓜 𝓡 (code.calls-vt_session::{callee} 𝓡.env wired)) z {opds} (λ v.
     use1 𝓛 (later (some (λ (n : ℕ). ((‵ (flft κ full_share) ⊛ ‵ (flft κs.0 qs.0) ⊛ ‵ ftrue) ⊛ ‵ (u32.own_val n (v ∷ []))) ⊛
-    some (λ (ws : Lasts g.ended z.0.0 z.0.3). ‵ (lasts g.ended z.0.0 z.0.3 ws) ⊛ raw (fact 𝓤 ({relation} s k {slice} ws.0 n)))))) (id⊢ 𝓤 _) $
+    some (λ (ws : Lasts g.ended z.0.0 z.0.3). ‵ (lasts g.ended z.0.0 z.0.3 ws) ⊛ raw (fact 𝓤 ({relation} s {numbers} {slice} ws.0 n)))))) (id⊢ 𝓤 _) $
     await ! tt $ pick ! (λ n. split ! $ split ! $ split3 ! $ lft_end ! tt $ move ! (3 ∷ []) $ peeks ! u32 (Is u32) (shows 𝓛 u32) n (v ∷ []) (λ is.
     lands_as ! refl refl ((uint_Lawful 𝓛 w32).typed n _ is).0 $
     -- [the status; the loan is over; the slice's token; nothing; what is said of the state; what is lent]
     move ! (4 ∷ []) $ pick ! (λ ws. split ! $ move ! (1 ∷ []) $ heard ! _ (λ appends. fsplit ! $ fsplit ! $
     move ! (4 ∷ 7 ∷ 0 ∷ []) $ use3 𝓛 (later (‵ (lies_at R full_share (block_ptr b o) ws.0))) (ref_back 𝓛 R κ γ ws.0 b o) $ await ! tt $
     returns ! (look_at ! 0 refl) $ free_all ! refl $ keep ! (3 ∷ 0 ∷ 4 ∷ []) $
-    suffices ! _ (ends_at 𝓛 f.ended stayed c (y (block_ptr b o)) v n (tt, (tt, (tt, tt))) (tt, (tt, (tt, tt)))) $
-    nothing ! $ nothing ! $ join ! $ nothing ! $ join ! $ nothing ! $ join ! $ nothing ! $ move ! (4 ∷ 0 ∷ []) $ join ! $ group ! 3 $ frame ! $
-    show ! (λ (after : R.Denot). sep 𝓤 (sem 𝓛 (lies_at R full_share (block_ptr b o) after)) (fact 𝓤 ({relation} s k {slice} after n))) ws.0 $ says ! appends $ done !))))))))))"""
+    suffices ! _ (ends_at 𝓛 f.ended stayed c (y (block_ptr b o)) v n {tts} {tts}) $
+    nothing ! $ {'nothing ! $ join ! $ ' * (n + 2)}nothing ! $ move ! (4 ∷ 0 ∷ []) $ join ! $ group ! 3 $ frame ! $
+    show ! (λ (after : R.Denot). sep 𝓤 (sem 𝓛 (lies_at R full_share (block_ptr b o) after)) (fact 𝓤 ({relation} s {numbers} {slice} after n))) ws.0 $ says ! appends $ done !))))))))))"""
 
 
 def beginning(args):

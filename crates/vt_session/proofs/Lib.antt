@@ -1,3 +1,4 @@
+pub mod Looks
 pub mod Queue
 pub mod Takings
 pub mod Written

@@ -1,6 +1,6 @@
 -- The outputs of one input, or of none.
 use Rattle.std.specs.List.{slice_get}
-use Rattle.std.proofs.Common.{◌≡◌, ◌<◌, ℕ, zero, suc, ◌+◌, ◌-◌, eqb, ne_eqb, false, get_or, Some, List, [], ◌∷◌, ◌++◌, drop, take, length, refl, sym, ap, subst, ◌∙◌, append-nil, arith}
+use Rattle.std.proofs.Common.{◌≡◌, ◌<◌, ◌⊎◌, inl, inr, ℕ, zero, suc, ◌+◌, ◌-◌, eqb, ne_eqb, false, get_or, Some, List, [], ◌∷◌, ◌++◌, drop, take, length, refl, sym, ap, subst, ◌∙◌, append-nil, arith}
 use Rattle.vt_server.specs.declared.input.Input.{Input}
 use Rattle.vt_server.specs.declared.output.Output.{Output}
 use Rattle.vt_server.specs.Judgements.{AreEventsOf}
@@ -19,12 +19,23 @@ none_by old new before after [] are state sent = (state, sent ∙ append-nil bef
 none_by old new before after (e ∷ events) are state sent = absurd are
 
 -- No input is taken before the first.
+pub none_before : (old new : State) (inputs : List Input) (at : ℕ) (before after : List Output) → at ≡ 0
+    → TakesInputs old (take at inputs) new before after → (new ≡ old) × (after ≡ before)
+none_before old new inputs at before after first taken =
+    let none = subst (λ (n : ℕ). TakesInputs old (take n inputs) new before after) first taken in
+    none_by old new before after none.events none.are_inputs none.state none.sent
+
+-- an index among two
+pub among_two : (n : ℕ) → n < 2 → (n ≡ 0) ⊎ (n ≡ 1)
+among_two zero less = inl refl
+among_two (suc zero) less = inr refl
+among_two (suc (suc n)) less = absurd (omega (arith, less))
+
+-- No input is taken of one before the first.
 pub none_taken : (old new : State) (inputs : List Input) (at : ℕ) (before after : List Output) → at < length inputs → length inputs ≡ 1
     → TakesInputs old (take at inputs) new before after → (new ≡ old) × (after ≡ before)
 none_taken old new inputs at before after less one taken =
-    let first : at ≡ 0 = omega (arith, less, one) in
-    let none = subst (λ (n : ℕ). TakesInputs old (take n inputs) new before after) first taken in
-    none_by old new before after none.events none.are_inputs none.state none.sent
+    none_before old new inputs at before after (omega (arith, less, one)) taken
 
 split_at : (outputs : List Output) (n : ℕ) (d : Output) → n < length outputs
     → (drop n outputs ≡ get_or outputs n d ∷ drop (suc n) outputs) × (slice_get outputs n ≡ Some (get_or outputs n d))

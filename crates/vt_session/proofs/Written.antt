@@ -1,7 +1,7 @@
 -- Lists that are written one entry after the other.
-use Rattle.std.proofs.Common.{◌≡◌, ℕ, ◌+◌, ◌<◌, ◌≤◌, List, [], ◌∷◌, ◌++◌, drop, length, get_or, Option, Some, sym, ap, ◌∙◌}
+use Rattle.std.proofs.Common.{◌≡◌, ℕ, ◌+◌, ◌<◌, ◌≤◌, List, ◌∷◌, ◌++◌, drop, length, get_or, Some, sym, ap, ◌∙◌}
 use Rattle.std.specs.List.{flat_map}
-use Rattle.std.specs.Prelude.{slice_get}
+use Rattle.std.specs.Prelude.{slice_get, OnOk, Result, Ok, Err}
 use Rattle.std.proofs.lemmas.List.{append_assoc, append-nil, drop_more, at_drop_all}
 use Rattle.std.proofs.lemmas.Option.{slice_get-get_or, slice_get_within, get_or_from_slice_get}
 
@@ -25,3 +25,9 @@ module _ {A : Type 0} (f : A → List ℕ) where
 
   pub all_written : (all : List A) (i : ℕ) (text old : List ℕ) → length all ≤ i → IsWriting all i text old → text ≡ old ++ flat_map f all
   all_written all i text old past left = sym (append-nil text) ∙ ap (λ (l : List A). text ++ flat_map f l) (sym (at_drop_all (λ (l : List A). l) all i past)) ∙ left
+
+-- ---- results
+
+pub on_ok : {T E P Q : Type 0} (r : Result T E) → OnOk r P → (P → Q) → OnOk r Q
+on_ok (Ok x) is step = step is
+on_ok (Err e) is step = tt

@@ -11,7 +11,7 @@ use Rattle.vt_server.specs.shown.ShownSet.{display, status_frame}
 use Rattle.vt_session.specs.declared.session.Session.{Session}
 use Rattle.vt_session.specs.Inputs.{action_input, frame_input, text_input, tick_input}
 use Rattle.vt_session.specs.Outputs.{kind_of, id_of, count_of, data_of, word_at}
-use Rattle.vt_session.specs.Sessions.{Answers, SendsBy, Stays, closed, latest, state, waiting}
+use Rattle.vt_session.specs.Sessions.{Answers, AnswersWhen, SendsBy, Stays, closed, latest, state, waiting}
 
 -- ---- inputs
 
@@ -21,11 +21,11 @@ Hears before time id count bits after status = Answers before (frame_input time 
 abbrev pub Ticks : Session → ℕ → Session → ℕ → Type 0
 Ticks before time after status = Answers before (tick_input before time) after status
 
-abbrev pub Acts : Session → ℕ → ℕ → ℕ → Session → ℕ → Type 0
-Acts before kind id number after status = Answers before (action_input kind id number) after status
+abbrev pub Acts : Session → ℕ → ℕ → ℕ → ℕ → Session → ℕ → Type 0
+Acts before time kind id number after status = AnswersWhen before time (action_input kind id number) after status
 
-abbrev pub Texts : Session → ℕ → Bor (List ℕ) → Session → ℕ → Type 0
-Texts before id text after status = Answers before (text_input id text) after status
+abbrev pub Texts : Session → ℕ → ℕ → Bor (List ℕ) → Session → ℕ → Type 0
+Texts before time id text after status = AnswersWhen before time (text_input id text) after status
 
 -- ---- frames that a host sends
 
@@ -64,6 +64,7 @@ pub record Draws (before after : Session) (count : ℕ) : Type 0 where
   pub redraws : redraws after.terminal ≡ redraws before.terminal
   pub waiting : waiting after ≡ waiting before
   pub latest : latest after ≡ latest before
+  pub looks : after.looks ≡ before.looks
   pub begun : after.begun ≡ before.begun
 
 abbrev pub TellsWord : Session → ℕ → Session → ℕ → Type 0
@@ -76,6 +77,9 @@ number_of b = if b then 1 else 0
 
 abbrev pub TellsRedraws : Session → Session → ℕ → Type 0
 TellsRedraws before after result = (after ≡ before) × (result ≡ number_of (redraws before.terminal))
+
+abbrev pub TellsLooks : Session → Session → ℕ → Type 0
+TellsLooks before after number = (after ≡ before) × (number ≡ before.looks)
 
 abbrev pub TellsLost : Session → Session → ℕ → Type 0
 TellsLost before after result = (after ≡ before) × (result ≡ number_of (state before).lost)

@@ -1,6 +1,8 @@
 -- Definitions cited by the contracts of vt_session.
 pub mod Calls
+pub mod Dialogs
 pub mod Inputs
+pub mod Looks
 pub mod Outputs
 pub mod Preloads
 pub mod Readings

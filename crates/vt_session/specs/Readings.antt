@@ -20,7 +20,7 @@ use Rattle.vt_server.specs.shown.Screens.{redraws}
 use Rattle.vt_server.specs.Terminals.{State, pool_at, pool_of}
 use Rattle.vt_session.specs.declared.session.Session.{Session}
 use Rattle.vt_session.specs.Calls.{number_of}
-use Rattle.vt_session.specs.Sessions.{Remains, latest, state, waiting}
+use Rattle.vt_session.specs.Sessions.{latest, state, waiting}
 
 -- A text of this form is written, or memory was refused, and there is no text. Nothing else changes.
 pub record Writes (IsText : List ℕ → Type 0) (before after : Session) (count : ℕ) : Type 0 where
@@ -29,6 +29,7 @@ pub record Writes (IsText : List ℕ → Type 0) (before after : Session) (count
   pub redraws : redraws after.terminal ≡ redraws before.terminal
   pub waiting : waiting after ≡ waiting before
   pub latest : latest after ≡ latest before
+  pub looks : after.looks ≡ before.looks
   pub begun : after.begun ≡ before.begun
 
 -- ---- the working sets

@@ -1,6 +1,6 @@
 -- A session: a terminal, the outputs that wait to be taken, and the text written last (docs/EMBEDDING.md, "Inputs").
 use Rattle.std.specs.List.{slice_get}
-use Rattle.std.specs.Prelude.{◌≡◌, ◌⊎◌, ℕ, ◌==◌, ◌-◌, ◌/◌, ◌%◌, ◌^◌, true, false, nat_le, nat_lt, if◌then◌else◌, List, [], ◌∷◌, length, drop, Option, Some, None}
+use Rattle.std.specs.Prelude.{◌≡◌, ◌⊎◌, ℕ, ◌==◌, ◌-◌, ◌/◌, ◌%◌, ◌^◌, Bool, true, false, nat_le, nat_lt, if◌then◌else◌, List, [], ◌∷◌, length, drop, take, Option, Some, None}
 use Rattle.vt_can.specs.declared.frames.frame.Frame.{Frame}
 use Rattle.vt_node.specs.declared.profile.Profile.{Profile}
 use Rattle.vt_server.specs.declared.input.Input.{Input}
@@ -12,6 +12,8 @@ use Rattle.vt_server.specs.States.{state_of, TakesInputs}
 use Rattle.vt_server.specs.Terminals.{State}
 use Rattle.vt_laws.specs.Headline.{Pools, ArePoolsInForce, KeepsPromise}
 use Rattle.vt_session.specs.declared.session.Session.{Session}
+use Rattle.vt_session.specs.Inputs.{tick_at}
+use Rattle.vt_session.specs.Looks.{KeepsPicture}
 use Rattle.vt_session.specs.Statuses.{DONE, NO_MEMORY, NO_SUCH, WAITING, NOT_BEGUN}
 
 -- the state of its terminal
@@ -70,6 +72,7 @@ pub record Begins (own name memory keys fonts hardware size : ℕ) (after : Sess
   pub redraws : redraws after.terminal ≡ true
   pub waiting : waiting after ≡ []
   pub latest : latest after ≡ None
+  pub looks : after.looks ≡ 0
   pub text : after.text.items ≡ []
 
 -- ---- calls without an input
@@ -78,6 +81,7 @@ pub record Begins (own name memory keys fonts hardware size : ℕ) (after : Sess
 pub record Stays (before after : Session) : Type 0 where
   pub state : state after ≡ state before
   pub redraws : redraws after.terminal ≡ redraws before.terminal
+  pub looks : after.looks ≡ before.looks
   pub begun : after.begun ≡ before.begun
   pub text : after.text.items ≡ before.text.items
 
@@ -105,6 +109,7 @@ pub record HasTaken (before : Session) (inputs : List Input) (after : Session) :
   pub steps : TakesInputs (state before) inputs (state after) [] (waiting after)
   pub promise : (pools : Pools) → ArePoolsInForce pools (state before) → KeepsPromise pools (state before) inputs (state after) [] (waiting after)
   pub screen : redraws after.terminal ≡ false → KeepsScreen (state before) (state after)
+  pub look : after.looks ≡ before.looks → KeepsPicture (state before) (state after)
   pub begun : after.begun ≡ before.begun
   pub text : after.text.items ≡ before.text.items
 
@@ -133,3 +138,38 @@ AnswersBy (Some refusal) before input after status = (status ≡ refusal) × (af
 -- the answer to an input, or to numbers that are none
 abbrev pub Answers : Session → Option Input → Session → ℕ → Type 0
 Answers before input after status = AnswersBy (closed before) before input after status
+
+-- Two inputs are taken, or memory was refused: then nothing is changed, or the first one alone is taken.
+abbrev pub TakesBoth : Session → List Input → Session → ℕ → Type 0
+TakesBoth before inputs after status =
+    ((status ≡ DONE) × HasTaken before inputs after)
+    ⊎ ((status ≡ NO_MEMORY) × (LacksMemory before after ⊎ HasTaken before (take 1 inputs) after))
+
+-- the time, and then an input
+abbrev pub input_at : Session → ℕ → Input → List Input
+input_at before time input = tick_at before time ∷ input ∷ []
+
+-- the answer of a session that takes inputs to a time with an input
+abbrev pub AnswersAtOpen : Session → ℕ → Option Input → Session → ℕ → Type 0
+AnswersAtOpen before time None after status = (status ≡ NO_SUCH) × (after ≡ before)
+AnswersAtOpen before time (Some input) after status = TakesBoth before (input_at before time input) after status
+
+abbrev pub AnswersAtBy : Option ℕ → Session → ℕ → Option Input → Session → ℕ → Type 0
+AnswersAtBy None before time input after status = AnswersAtOpen before time input after status
+AnswersAtBy (Some refusal) before time input after status = (status ≡ refusal) × (after ≡ before)
+
+-- the answer to a time with an input, or with numbers that are none
+abbrev pub AnswersAt : Session → ℕ → Option Input → Session → ℕ → Type 0
+AnswersAt before time input after status = AnswersAtBy (closed before) before time input after status
+
+-- the time of an action that happens at the latest time so far, without a tick
+abbrev pub latest_time : ℕ
+latest_time = 2 ^ 64 - 1
+
+abbrev pub AnswersIf : Bool → Session → ℕ → Option Input → Session → ℕ → Type 0
+AnswersIf true before time input after status = Answers before input after status
+AnswersIf false before time input after status = AnswersAt before time input after status
+
+-- the answer to an action at a time, or at the latest time so far
+abbrev pub AnswersWhen : Session → ℕ → Option Input → Session → ℕ → Type 0
+AnswersWhen before time input after status = AnswersIf (time == latest_time) before time input after status

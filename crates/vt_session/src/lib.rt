@@ -6,11 +6,13 @@
 //! - `outputs`: the outputs are taken one by one; the address claim and the status that a host sends.
 //! - `screen`: the screen's text, and what a host asks of the terminal.
 //! - `reading`: what a display reads: the working sets, their objects and their pictures.
+//! - `dialog`: what a dialog for an input reads: its limits, its text, and the raw value of a typed number.
 //! - `status`: what the calls return.
 //!
 //! After a call that returns another status than `DONE` the terminal is unchanged.
 #![tactic(auto)]
 
+pub mod dialog;
 pub mod outputs;
 pub mod preload;
 pub mod reading;

@@ -3,7 +3,7 @@
 ghost use Rattle.std.specs.Prelude.{◌≡◌};
 ghost use Rattle.vt_session.specs.Preloads.{Preloads, free_address};
 
-use crate::session::{Session, closed};
+use crate::session::{Session, closed, note_change};
 use crate::status::{DONE, NO_MEMORY, NO_POOL, NO_SUCH};
 use vt_judge::judge;
 
@@ -24,7 +24,10 @@ pub fn preload(session: &mut Session, address: u32, pool: &[u8]) -> u32
         Err(_) => return NO_POOL,
     };
     match session.terminal.preload(address, &accepted) {
-        Ok(()) => DONE,
+        Ok(()) => {
+            note_change(session);
+            DONE
+        }
         Err(_) => NO_MEMORY,
     }
 }

@@ -276,7 +276,7 @@ fn numbers_of(element: &Element) -> [u32; 8]
 }
 
 /// Appends numbers of four bytes.
-fn write_numbers(text: &mut Vec<u8>, numbers: &[u32]) -> Result<(), AllocError>
+pub(crate) fn write_numbers(text: &mut Vec<u8>, numbers: &[u32]) -> Result<(), AllocError>
     ensures { OnOk result (text.new.items ≡ text.old.items ++ flat_map (little_bytes 4) numbers.now) }
 {
     for number in numbers {
@@ -326,7 +326,7 @@ fn shown_pool(terminal: &Terminal) -> Option<&Live<SortedStore>>
 }
 
 /// The pool of the set at an address, if it has one.
-fn pool_at(terminal: &Terminal, address: u32) -> Option<&Live<SortedStore>>
+pub(crate) fn pool_at(terminal: &Terminal, address: u32) -> Option<&Live<SortedStore>>
     ensures { option_map (λ live. live.now) result ≡ pool_by (state_of terminal.now) address }
 {
     let address = u8::try_from(address).ok()?;
@@ -334,7 +334,7 @@ fn pool_at(terminal: &Terminal, address: u32) -> Option<&Live<SortedStore>>
 }
 
 /// The ID of an object with this number, if it is one.
-fn object_id(number: u32) -> Option<ObjectId>
+pub(crate) fn object_id(number: u32) -> Option<ObjectId>
     ensures { result ≡ (if nat_lt number null_id then Some number else None) }
 {
     let id = ObjectId::from_raw(u16::try_from(number).ok()?);

@@ -1,6 +1,6 @@
 //! The screen, and what a host asks of a terminal.
 
-ghost use Rattle.vt_session.specs.Calls.{Draws, TellsDeadline, TellsLost, TellsRedraws, TellsShown, TellsWord};
+ghost use Rattle.vt_session.specs.Calls.{Draws, TellsDeadline, TellsLooks, TellsLost, TellsRedraws, TellsShown, TellsWord};
 
 use crate::outputs::word_at;
 use crate::session::Session;
@@ -28,6 +28,13 @@ pub fn redraws(session: &mut Session) -> u32
     ensures { TellsRedraws session.old session.new result }
 {
     u32::from(session.terminal.redraws())
+}
+
+/// A number that is another one after each call that may have changed the picture of the shown set.
+pub fn looks(session: &mut Session) -> u64
+    ensures { TellsLooks session.old session.new result }
+{
+    session.looks
 }
 
 /// The address of the shown set, or 254 if none is shown.

@@ -1,9 +1,11 @@
 //! A terminal with the outputs that wait to be taken and the text written last, and the inputs that it takes.
 
-ghost use Rattle.std.specs.Prelude.{◌≡◌, [], length};
+ghost use Rattle.std.specs.Prelude.{◌≡◌, ◌≢◌, [], length, true, IfSome, IsSomeAnd};
 ghost use Rattle.vt_session.specs.Calls.{Acts, Hears, Texts, Ticks};
 ghost use Rattle.vt_session.specs.Inputs.{action_input, frame_input, text_input, ticks};
-ghost use Rattle.vt_session.specs.Sessions.{Answers, Begins, Takes, closed, profile_of};
+ghost use Rattle.vt_server.specs.States.{state_of};
+ghost use Rattle.vt_session.specs.Looks.{IsFrameFrom, IsUntouched};
+ghost use Rattle.vt_session.specs.Sessions.{Answers, AnswersAt, AnswersWhen, Begins, Takes, TakesBoth, closed, profile_of};
 
 use crate::status::{DONE, NO_MEMORY, NO_SUCH, NOT_BEGUN, WAITING};
 use arrayvec::ArrayVec;
@@ -11,7 +13,11 @@ use byteorder::{ByteOrder, LittleEndian};
 use std::alloc::Global;
 use vt_can::{Action, CanId, Frame};
 use vt_names::Name;
+use vt_node::echo;
 use vt_server::{Input, Output, Profile, Terminal};
+
+/// As the time of an action: the latest time so far. Nothing times out for it.
+pub const LATEST: u64 = u64::MAX;
 
 /// A terminal, the outputs of its last input, and the text written last.
 #[derive(Drop)]
@@ -22,6 +28,8 @@ pub struct Session {
     pub(crate) next: usize,
     // The text written last: of the screen, or of what a display read.
     pub(crate) text: Vec<u8>,
+    // Another number than before, wherever the picture of the shown set may have changed.
+    pub(crate) looks: u64,
     // Whether the own address is one that a node may have. A session without such an address takes no input.
     pub(crate) begun: bool,
 }
@@ -47,6 +55,7 @@ pub fn begin(
         outputs: Vec::new(alloc),
         next: 0,
         text: Vec::new(alloc),
+        looks: 0,
         begun,
     }
 }
@@ -99,18 +108,18 @@ pub fn tick(session: &mut Session, time: u64) -> u32
     take_tick(session, time)
 }
 
-/// Does an action of the operator.
-pub fn act(session: &mut Session, kind: u32, id: u32, number: u32) -> u32
-    ensures { Acts session.old kind id number session.new result }
+/// Does an action of the operator at a time, or at the latest time so far where it is `LATEST`.
+pub fn act(session: &mut Session, time: u64, kind: u32, id: u32, number: u32) -> u32
+    ensures { Acts session.old time kind id number session.new result }
 {
-    take(session, action_input(kind, id, number))
+    take_when(session, time, action_input(kind, id, number))
 }
 
-/// Enters a text of the operator.
-pub fn text(session: &mut Session, id: u32, text: &[u8]) -> u32
-    ensures { Texts session.old id text.entry session.new result }
+/// Enters a text of the operator at a time, or at the latest time so far where it is `LATEST`.
+pub fn text(session: &mut Session, time: u64, id: u32, text: &[u8]) -> u32
+    ensures { Texts session.old time id text.entry session.new result }
 {
-    take(session, text_input(id, text))
+    take_when(session, time, text_input(id, text))
 }
 
 /// Takes an input, if it is one.
@@ -128,6 +137,33 @@ fn take(session: &mut Session, input: Option<Input<'_>>) -> u32
     take_one(session, &[input])
 }
 
+/// Takes an input at a time, or at the latest time so far, if it is one.
+fn take_when(session: &mut Session, time: u64, input: Option<Input<'_>>) -> u32
+    ensures { AnswersWhen session.old time input.entry session.new result }
+{
+    if time == LATEST {
+        take(session, input)
+    } else {
+        take_at(session, time, input)
+    }
+}
+
+/// Moves the time on, and then takes an input, if it is one.
+fn take_at(session: &mut Session, time: u64, input: Option<Input<'_>>) -> u32
+    ensures { AnswersAt session.old time input.entry session.new result }
+{
+    if let Some(refusal) = closed(session) {
+        return refusal;
+    }
+    let Some(input) = input else {
+        return NO_SUCH;
+    };
+    session.outputs.clear();
+    session.next = 0;
+    let frame = echo(session.terminal.own());
+    take_both(session, &[Input::Frame { time, frame }, input])
+}
+
 /// Takes one input. No output waits. The machine does not stick at it.
 fn take_one(session: &mut Session, inputs: &[Input<'_>]) -> u32
     requires none { session.old.outputs.items ≡ [] }
@@ -136,7 +172,30 @@ fn take_one(session: &mut Session, inputs: &[Input<'_>]) -> u32
     ensures { Takes session.old inputs.now session.new result }
 {
     vt_laws::the_machine_never_sticks();
+    vt_laws::others_keep_objects();
+    vt_laws::profiles_are_kept();
+    let was = session.terminal.shown();
+    let source = source_in(inputs);
     match session.terminal.run(inputs, &mut session.outputs) {
+        Ok(()) => {
+            note_look(session, was, source);
+            DONE
+        }
+        Err(_) => NO_MEMORY,
+    }
+}
+
+/// Takes two inputs, one after the other. No output waits. The machine does not stick at them.
+fn take_both(session: &mut Session, inputs: &[Input<'_>]) -> u32
+    requires none { session.old.outputs.items ≡ [] }
+    requires first { session.old.next ≡ 0 }
+    requires two { length inputs.now ≡ 2 }
+    ensures { TakesBoth session.old inputs.now session.new result }
+{
+    vt_laws::the_machine_never_sticks();
+    let taken = session.terminal.run(inputs, &mut session.outputs);
+    note_change(session);
+    match taken {
         Ok(()) => DONE,
         Err(_) => NO_MEMORY,
     }
@@ -149,9 +208,60 @@ fn take_tick(session: &mut Session, time: u64) -> u32
     ensures { Takes session.old (ticks session.old time) session.new result }
 {
     vt_laws::the_machine_never_sticks();
+    vt_laws::others_keep_objects();
+    vt_laws::profiles_are_kept();
+    let was = session.terminal.shown();
+    let own = session.terminal.own();
     match session.terminal.tick(time, &mut session.outputs) {
-        Ok(()) => DONE,
+        Ok(()) => {
+            note_look(session, was, Some(own));
+            DONE
+        }
         Err(_) => NO_MEMORY,
+    }
+}
+
+/// The source of the first input, if that is a frame.
+fn source_in(inputs: &[Input<'_>]) -> Option<u8>
+    ensures { IfSome result (λ source. IsFrameFrom source inputs.now) }
+{
+    match inputs.first() {
+        Some(Input::Frame { frame, .. }) => Some(frame.id.source()),
+        _ => None,
+    }
+}
+
+/// Notes that the picture may have changed, unless what was done is a frame of a source that cannot have changed it.
+fn note_look(session: &mut Session, was: Option<u8>, source: Option<u8>)
+    ensures look { session.new.looks ≡ session.old.looks → IsSomeAnd source (λ s. IsUntouched was (state_of session.new.terminal) s) }
+    ensures rest { session.new ≡ record session.old { looks = session.new.looks } }
+{
+    if !is_untouched(&session.terminal, was, source) {
+        note_change(session);
+    }
+}
+
+/// Notes that the picture may have changed.
+pub(crate) fn note_change(session: &mut Session)
+    ensures other { session.new.looks ≢ session.old.looks }
+    ensures rest { session.new ≡ record session.old { looks = session.new.looks } }
+{
+    session.looks = session.looks.wrapping_add(1);
+}
+
+/// Whether the shown set is the same as before, still has a pool, and is not at the address of a source.
+fn is_untouched(terminal: &Terminal, was: Option<u8>, source: Option<u8>) -> bool
+    ensures { result ≡ true → IsSomeAnd source (λ s. IsUntouched was (state_of terminal.now) s) }
+{
+    let Some(source) = source else {
+        return false;
+    };
+    match (was, terminal.shown()) {
+        (None, None) => true,
+        (Some(was), Some(shown)) => {
+            was == shown && shown != source && terminal.set(shown).is_some()
+        }
+        _ => false,
     }
 }
 

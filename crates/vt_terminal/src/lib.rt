@@ -9,19 +9,31 @@ ghost use Rattle.std.specs.Borrow.{full_share, sem};
 ghost use Rattle.std.specs.Mem.{type_size};
 ghost use Rattle.std.specs.Ptr.{lies_at, room_at};
 ghost use Rattle.vt_session.specs.contracts.session.Session.{the_row};
-ghost use Rattle.vt_session.specs.Calls.{Acts, Claims, Draws, Hears, Nexts, TellsCount, TellsData, TellsDeadline, TellsId, TellsLost, TellsRedraws, TellsShown, SendsStatus, TellsWord, Texts, Ticks};
+ghost use Rattle.vt_session.specs.Calls.{Acts, Claims, Draws, Hears, Nexts, TellsCount, TellsData, TellsDeadline, TellsId, TellsLooks, TellsLost, TellsRedraws, TellsShown, SendsStatus, TellsWord, Texts, Ticks};
+ghost use Rattle.vt_session.specs.Dialogs.{TellsRaw, WritesLimits, WritesValue};
 ghost use Rattle.vt_session.specs.Preloads.{Preloads};
 ghost use Rattle.vt_session.specs.Readings.{Lists, ListsElements, Pictures, TellsActive, TellsPool, TellsTouched, WritesObject};
 ghost use Rattle.vt_session.specs.Sessions.{Begins};
 
 use std::alloc::Global;
 use vt_session::session::Session;
-use vt_session::{outputs, preload, reading, screen, session};
+use vt_session::{dialog, outputs, preload, reading, screen, session};
 
 /// A terminal behind a pointer.
 #[repr(C)]
 pub struct VtTerminal {
     opaque: u8,
+}
+
+/// The version of the interface: 65536 times the first number, 256 times the second, and the third.
+const VERSION: u32 = 0x0000_0200;
+
+/// The version of the interface, which include/vt_terminal.h names VT_VERSION.
+#[unsafe(no_mangle)]
+pub extern "C" fn vt_version() -> u32
+    ensures { result ≡ VERSION }
+{
+    VERSION
 }
 
 /// The number of bytes of a terminal. It lies at a multiple of 16.
@@ -70,7 +82,7 @@ pub unsafe extern "C" fn vt_done(at: *mut VtTerminal)
 
 /// Hears a frame of the bus at a time in microseconds, and returns a status. `bits` has the data bytes, the first lowest.
 #[unsafe(no_mangle)]
-pub unsafe extern "C" fn vt_hear(
+pub unsafe extern "C" fn vt_hear_bits(
     at: *mut VtTerminal,
     time: u64,
     id: u32,
@@ -94,14 +106,27 @@ pub unsafe extern "C" fn vt_tick(at: *mut VtTerminal, time: u64) -> u32
     session::tick(unsafe { &mut *(at as *mut Session) }, time)
 }
 
-/// Does an action of the operator: 0 press, 1 release, 2 select, 3 number, 4 the set at an address. Returns a status.
+/// Does an action of the operator at a time in microseconds: 0 press, 1 release, 2 select, 3 number, 4 the set at an address. Returns a
+/// status.
 #[unsafe(no_mangle)]
-pub unsafe extern "C" fn vt_act(at: *mut VtTerminal, kind: u32, id: u32, number: u32) -> u32
+pub unsafe extern "C" fn vt_act(
+    at: *mut VtTerminal,
+    time: u64,
+    kind: u32,
+    id: u32,
+    number: u32,
+) -> u32
     ghost before: { Session }
     requires* { sem 𝓛 (lies_at the_row full_share at before) }
-    ensures* { ∃ₛ (λ (after : Session). sem 𝓛 (lies_at the_row full_share at after) ∗ ⌜ Acts before kind id number after result ⌝) }
+    ensures* { ∃ₛ (λ (after : Session). sem 𝓛 (lies_at the_row full_share at after) ∗ ⌜ Acts before time kind id number after result ⌝) }
 {
-    session::act(unsafe { &mut *(at as *mut Session) }, kind, id, number)
+    session::act(
+        unsafe { &mut *(at as *mut Session) },
+        time,
+        kind,
+        id,
+        number,
+    )
 }
 
 /// Makes the address claim the one output that waits, as a host sends it at its start. Returns a status of calls.
@@ -176,7 +201,7 @@ pub unsafe extern "C" fn vt_redraws(at: *mut VtTerminal) -> u32
 
 /// Draws the screen and returns the number of bytes of its text, or 2^64 - 1 if memory was refused.
 #[unsafe(no_mangle)]
-pub unsafe extern "C" fn vt_screen(at: *mut VtTerminal) -> u64
+pub unsafe extern "C" fn vt_text_of_screen(at: *mut VtTerminal) -> u64
     ghost before: { Session }
     requires* { sem 𝓛 (lies_at the_row full_share at before) }
     ensures* { ∃ₛ (λ (after : Session). sem 𝓛 (lies_at the_row full_share at after) ∗ ⌜ Draws before after result ⌝) }
@@ -192,6 +217,16 @@ pub unsafe extern "C" fn vt_screen_word(at: *mut VtTerminal, index: u64) -> u64
     ensures* { ∃ₛ (λ (after : Session). sem 𝓛 (lies_at the_row full_share at after) ∗ ⌜ TellsWord before index after result ⌝) }
 {
     screen::screen_word(unsafe { &mut *(at as *mut Session) }, index)
+}
+
+/// A number that is another one after each call that may have changed the picture of the shown set.
+#[unsafe(no_mangle)]
+pub unsafe extern "C" fn vt_look(at: *mut VtTerminal) -> u64
+    ghost before: { Session }
+    requires* { sem 𝓛 (lies_at the_row full_share at before) }
+    ensures* { ∃ₛ (λ (after : Session). sem 𝓛 (lies_at the_row full_share at after) ∗ ⌜ TellsLooks before after result ⌝) }
+{
+    screen::looks(unsafe { &mut *(at as *mut Session) })
 }
 
 /// The address of the shown set, or 254 if none is shown.
@@ -297,19 +332,66 @@ pub unsafe extern "C" fn vt_id_at(at: *mut VtTerminal, x: u32, y: u32) -> u64
     reading::touch(unsafe { &mut *(at as *mut Session) }, x, y)
 }
 
-/// Enters a text of the operator into an object, and returns a status.
+/// Writes the limits of an input of the set at an address as the terminal's text, 24 bytes, and returns the number of its bytes, or 2^64 - 1
+/// if memory was refused.
 #[unsafe(no_mangle)]
-pub unsafe extern "C" fn vt_text(at: *mut VtTerminal, id: u32, text: &[u8]) -> u32
+pub unsafe extern "C" fn vt_text_of_limits(at: *mut VtTerminal, address: u32, id: u32) -> u64
     ghost before: { Session }
     requires* { sem 𝓛 (lies_at the_row full_share at before) }
-    ensures* { ∃ₛ (λ (after : Session). sem 𝓛 (lies_at the_row full_share at after) ∗ ⌜ Texts before id text.entry after result ⌝) }
+    ensures* { ∃ₛ (λ (after : Session). sem 𝓛 (lies_at the_row full_share at after) ∗ ⌜ WritesLimits before address id after result ⌝) }
 {
-    session::text(unsafe { &mut *(at as *mut Session) }, id, text)
+    dialog::limits(unsafe { &mut *(at as *mut Session) }, address, id)
+}
+
+/// Writes the text of an input or output field of the set at an address, as the terminal shows it, as the terminal's text, and returns the
+/// number of its bytes, or 2^64 - 1 if memory was refused.
+#[unsafe(no_mangle)]
+pub unsafe extern "C" fn vt_text_of_value(at: *mut VtTerminal, address: u32, id: u32) -> u64
+    ghost before: { Session }
+    requires* { sem 𝓛 (lies_at the_row full_share at before) }
+    ensures* { ∃ₛ (λ (after : Session). sem 𝓛 (lies_at the_row full_share at after) ∗ ⌜ WritesValue before address id after result ⌝) }
+{
+    dialog::value_text(unsafe { &mut *(at as *mut Session) }, address, id)
+}
+
+/// The raw value of a typed number for an Input Number of the set at an address, or 2^64 - 1: negative if `sign` is not 0, its digits
+/// without the point, and how many of them are behind it.
+#[unsafe(no_mangle)]
+pub unsafe extern "C" fn vt_raw_of(
+    at: *mut VtTerminal,
+    address: u32,
+    id: u32,
+    sign: u32,
+    digits: u64,
+    decimals: u32,
+) -> u64
+    ghost before: { Session }
+    requires* { sem 𝓛 (lies_at the_row full_share at before) }
+    ensures* { ∃ₛ (λ (after : Session). sem 𝓛 (lies_at the_row full_share at after) ∗ ⌜ TellsRaw before address id sign digits decimals after result ⌝) }
+{
+    dialog::raw(
+        unsafe { &mut *(at as *mut Session) },
+        address,
+        id,
+        sign,
+        digits,
+        decimals,
+    )
+}
+
+/// Enters a text of the operator into an object at a time in microseconds, and returns a status.
+#[unsafe(no_mangle)]
+pub unsafe extern "C" fn vt_text_bytes(at: *mut VtTerminal, time: u64, id: u32, text: &[u8]) -> u32
+    ghost before: { Session }
+    requires* { sem 𝓛 (lies_at the_row full_share at before) }
+    ensures* { ∃ₛ (λ (after : Session). sem 𝓛 (lies_at the_row full_share at after) ∗ ⌜ Texts before time id text.entry after result ⌝) }
+{
+    session::text(unsafe { &mut *(at as *mut Session) }, time, id, text)
 }
 
 /// Adds a working set with the pool of these bytes, and returns a status.
 #[unsafe(no_mangle)]
-pub unsafe extern "C" fn vt_preload(at: *mut VtTerminal, address: u32, pool: &[u8]) -> u32
+pub unsafe extern "C" fn vt_preload_bytes(at: *mut VtTerminal, address: u32, pool: &[u8]) -> u32
     ghost before: { Session }
     requires* { sem 𝓛 (lies_at the_row full_share at before) }
     ensures* { ∃ₛ (λ (after : Session). sem 𝓛 (lies_at the_row full_share at after) ∗ ⌜ Preloads before address pool.now after result ⌝) }

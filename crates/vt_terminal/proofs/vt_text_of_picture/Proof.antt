@@ -1,11 +1,11 @@
 -- A walk: the state behind the pointer is lent to `picture`, and comes back once the loan is over.
-use Rattle.std.proofs.Common.{◌≡◌, ℕ, List, [], ◌∷◌, ◌++◌, refl, w32, w64, MutBor}
-use mir.Syntax.{named, w16}
+use Rattle.std.proofs.Common.{ℕ, List, [], ◌∷◌, ◌++◌, refl, w32, w64, MutBor}
+use mir.Syntax.{named}
 use Rattle.std.proofs.raw_atomic.Walks.{proved}
 use base.Fraction.{full_share}
 use base.Logic.{sep, id⊢}
 use base.Fml.{ftrue, flft, flent}
-use mir.Val.{Val, vint, vptr}
+use mir.Val.{vint, vptr}
 use types.Logic.{sem}
 use prog.Wp.{WpFn}
 use contract.Monad.{fact}
@@ -32,7 +32,6 @@ use denote.Triple.Spec.{triple_of}
 use denote.Triple.Walked.{Stays, walk_of, says, stay_dropped, Goes-dropped, ends_at}
 use denote.Triple.Table.{framed}
 use Rattle.vt_session.specs.Readings.{Pictures}
-use Rattle.vt_session.specs.declared.session.Session.{Session}
 use Rattle.vt_session.specs.contracts.session.Session.{the_row as R}
 use Rattle.vt_session.specs.contracts.reading.picture as g
 use Rattle.vt_session.proofs.reading.picture.Met.{met}

@@ -1,11 +1,11 @@
 -- A walk: the state behind the pointer is lent to `sets`, and comes back once the loan is over.
-use Rattle.std.proofs.Common.{◌≡◌, ℕ, List, [], ◌∷◌, ◌++◌, refl, w64, MutBor}
-use mir.Syntax.{named, w16}
+use Rattle.std.proofs.Common.{ℕ, List, [], ◌∷◌, ◌++◌, refl, w64, MutBor}
+use mir.Syntax.{named}
 use Rattle.std.proofs.raw_atomic.Walks.{proved}
 use base.Fraction.{full_share}
 use base.Logic.{sep, id⊢}
 use base.Fml.{ftrue, flft, flent}
-use mir.Val.{Val, vint, vptr}
+use mir.Val.{vptr}
 use types.Logic.{sem}
 use prog.Wp.{WpFn}
 use contract.Monad.{fact}
@@ -20,11 +20,11 @@ use denote.Exit.{yes}
 use denote.Laws.{Is, shows}
 use denote.Memory.{mem}
 use denote.Lend.{lends_ref, ref_back}
-use denote.Plain.{uint_vals, uint_Tells, uint_Makes, uint_Lawful}
+use denote.Plain.{uint_Lawful}
 use denote.RawPtr.{Ptr, RawPtr, block_ptr, lies_at, in_a_block, rawptr_vals, rawptr_Tells}
 use denote.Ref.{MutRef}
 use denote.Signature.{plain}
-use denote.Steps.{nothing, owned, peeks, heard}
+use denote.Steps.{nothing, peeks, heard}
 use denote.Triple.Call.{calls_at}
 use denote.Triple.Clauses.{Lasts, lasts}
 use denote.Triple.Entry.{on_entry}
@@ -32,7 +32,6 @@ use denote.Triple.Spec.{triple_of}
 use denote.Triple.Walked.{Stays, walk_of, says, stay_dropped, Goes-dropped, ends_at}
 use denote.Triple.Table.{framed}
 use Rattle.vt_session.specs.Readings.{Lists}
-use Rattle.vt_session.specs.declared.session.Session.{Session}
 use Rattle.vt_session.specs.contracts.session.Session.{the_row as R}
 use Rattle.vt_session.specs.contracts.reading.sets as g
 use Rattle.vt_session.proofs.reading.sets.Met.{met}

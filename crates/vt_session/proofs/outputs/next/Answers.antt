@@ -19,5 +19,5 @@ returns c =
         c.kind_of-kind.ensures ∙ ap kind_of c.index.ensures,
         (refl, ap (λ (b : Bool). cond b None (slice_get outputs (before.next + 1 - 1))) (not_first before.next) ∙ taken.1),
       );
-      stays = record { state = refl; redraws = refl; begun = refl; text = refl };
+      stays = record { state = refl; redraws = refl; looks = refl; begun = refl; text = refl };
     }

@@ -1,4 +1,4 @@
-use Rattle.std.proofs.Common.{◌≡◌, ℕ, ◌≤◌, ◌++◌, length, List, sym, ap, ◌∙◌, arith}
+use Rattle.std.proofs.Common.{ℕ, ◌≤◌, ◌++◌, length, List, sym, ap, ◌∙◌, arith}
 use Rattle.vt_names.specs.Registry.{Set}
 use Rattle.vt_node.proofs.RestOfList.{beyond}
 use Rattle.vt_server.specs.States.{state_of}

@@ -1,7 +1,13 @@
-use Rattle.std.proofs.Common.{◌≡◌, ℕ, List, [], inl, inr, drop, refl, ap, subst, ◌∙◌, arith}
+use Rattle.std.proofs.Common.{◌≡◌, ℕ, List, [], inl, inr, drop, refl, sym, ap, subst, ◌∙◌, arith}
+use Rattle.std.specs.Prelude.{IsSomeAnd}
 use Rattle.std.proofs.lemmas.Bool.{false≢true}
 use Rattle.vt_server.specs.declared.output.Output.{Output}
 use Rattle.vt_server.specs.States.{state_of, TakesInputs}
+use Rattle.vt_server.specs.declared.terminal.Terminal.{Terminal}
+use Rattle.vt_session.specs.declared.session.Session.{Session}
+use Rattle.vt_session.specs.Looks.{IsUntouched}
+use Rattle.vt_session.specs.Sessions.{HasTaken}
+use Rattle.vt_session.proofs.Looks.{by_note}
 use Rattle.vt_session.proofs.Queue.{from_first, none_taken}
 use Rattle.vt_session.proofs.session.take_one.Goals as goal
 
@@ -14,16 +20,19 @@ returns-in-Ok c =
     let steps : TakesInputs old inputs new [] (drop c.args.session.now.next c.run.new.outputs.items) =
     subst (λ (sent : List Output). TakesInputs old inputs new [] sent) all
     (subst (λ (before : List Output). TakesInputs old inputs new before c.run.new.outputs.items) c.requires.none c.in-Ok.ensures.ok) in
-    inl (
-      refl,
-      record {
-        steps = steps;
-        promise = λ pools force. c.the_machine_never_sticks.ensures.inputs pools old inputs new [] _ force steps;
-        screen = c.run.ensures.same;
-        begun = refl;
-        text = refl;
-      },
-    )
+    let after : Session = record c.args.session.now { terminal = c.run.new.self; outputs = c.run.new.outputs; looks = c.note_look.new.session.looks } in
+    let here : c.note_look.new.session.terminal ≡ c.run.new.self = ap (λ (s : Session). s.terminal) c.note_look.ensures.rest in
+    let taken : HasTaken c.args.session.now inputs after = record {
+      steps = steps;
+      promise = λ pools force. c.the_machine_never_sticks.ensures.inputs pools old inputs new [] _ force steps;
+      screen = c.run.ensures.same;
+      look = λ same. by_note c.others_keep_objects.ensures c.profiles_are_kept.ensures old new inputs c.shown-was.result c.source_in-source.result [] _
+          c.shown-was.ensures c.source_in-source.ensures c.requires.one steps
+          (subst (λ (t : Terminal). IsSomeAnd c.source_in-source.result (λ s. IsUntouched c.shown-was.result (state_of t) s)) here (c.note_look.ensures.look same));
+      begun = refl;
+      text = refl;
+    } in
+    inl (refl, subst (λ (s : Session). HasTaken c.args.session.now inputs s) (sym c.note_look.ensures.rest) taken)
 
 pub returns-in-Err : goal.returns-in-Err
 returns-in-Err c =

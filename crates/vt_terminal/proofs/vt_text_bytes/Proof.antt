@@ -1,5 +1,5 @@
 -- A walk: the state behind the pointer is lent to `text`, which is passed the slice, and comes back once the loan is over.
-use Rattle.std.proofs.Common.{ℕ, List, [], ◌∷◌, ◌++◌, refl, w32, MutBor, Bor}
+use Rattle.std.proofs.Common.{ℕ, List, [], ◌∷◌, ◌++◌, refl, w32, w64, MutBor, Bor}
 use Rattle.std.proofs.raw_atomic.Walks.{proved}
 use base.Fraction.{full_share}
 use base.Logic.{sep, id⊢}
@@ -15,7 +15,7 @@ use types.Tokens.{lft_new, lft_end}
 use types.SemTy.{Body}
 use types.Run.{enter, of_opd, addr, stop, no_more, and_then, first, blocks, exec, returns}
 use types.ByLocal.{alloc_all, pass_all, free_all, look_at, get, through, sets, sets_last, lands_as, env}
-use denote.Builtin.{u8, u32, SliceRefOf}
+use denote.Builtin.{u8, u32, u64, SliceRefOf}
 use denote.Slice.{ShrSlice, shr_slice_vals, shr_slice_Tells, shr_slice_Lawful}
 use denote.Exit.{yes}
 use denote.Laws.{Is, shows}
@@ -36,52 +36,52 @@ use Rattle.vt_session.specs.Calls.{Texts}
 use Rattle.vt_session.specs.contracts.session.Session.{the_row as R}
 use Rattle.vt_session.specs.contracts.session.text as g
 use Rattle.vt_session.proofs.session.text.Met.{met}
-use Rattle.vt_terminal.specs.contracts.vt_text as f
-use Rattle.vt_terminal.proofs.vt_text.Statement.{statement}
-use Rattle.vt_terminal.proofs.vt_text.Code as code
+use Rattle.vt_terminal.specs.contracts.vt_text_bytes as f
+use Rattle.vt_terminal.proofs.vt_text_bytes.Statement.{statement}
+use Rattle.vt_terminal.proofs.vt_text_bytes.Code as code
 
 abbrev slot : Slot 1
 slot = SliceRefOf (0 ∷ []) tt (plain (λ _. u8)) (λ _. tt)
 
 abbrev stayed : Stays f.ended.signature.params f.ended.kept
-stayed = (stay_dropped (plain (λ _. RawPtr)) yes, (stay_dropped (plain (λ _. u32)) yes, (stay_dropped slot yes, tt)))
+stayed = (stay_dropped (plain (λ _. RawPtr)) yes, (stay_dropped (plain (λ _. u64)) yes, (stay_dropped (plain (λ _. u32)) yes, (stay_dropped slot yes, tt))))
 
-pub vt_text_spec : {M : Type 1} → statement M
-vt_text_spec 𝓤 𝓛 𝓜 𝓡 wired =
+pub vt_text_bytes_spec : {M : Type 1} → statement M
+vt_text_bytes_spec 𝓤 𝓛 𝓜 𝓡 wired =
     let c = f.clauses 𝓛 𝓜.mem 𝓡.returns in let W = walk_of 𝓛 f.ended stayed c in let 𝓣 = tables 𝓤 𝓛.H 𝓜 𝓡 𝓡.env in
-    proved 𝓛 f.ended stayed c 𝓜 𝓡 (Goes-dropped 𝓛 1 (plain (λ _. RawPtr)) yes (λ κs x w. refl), (Goes-dropped 𝓛 1 (plain (λ _. u32)) yes (λ κs x w. refl), (Goes-dropped 𝓛 1 slot yes (λ κs x w. refl), tt)))
+    proved 𝓛 f.ended stayed c 𝓜 𝓡 (Goes-dropped 𝓛 1 (plain (λ _. RawPtr)) yes (λ κs x w. refl), (Goes-dropped 𝓛 1 (plain (λ _. u64)) yes (λ κs x w. refl), (Goes-dropped 𝓛 1 (plain (λ _. u32)) yes (λ κs x w. refl), (Goes-dropped 𝓛 1 slot yes (λ κs x w. refl), tt))))
     f.Key.name code.function (code.unfolded 𝓤 𝓛.H 𝓜 𝓡 wired)
-    (λ κs. (rawptr_vals, (uint_vals w32, (shr_slice_vals, tt)))) (λ κs. (rawptr_Tells, (uint_Tells w32, (shr_slice_Tells (named 0) κs.0 u8, tt)))) (λ κs qs bounds a s are.
-    let k = a.1.0 in let fits = are.1.0.1 in let x : Bor (List ℕ) = a.1.1.0 in let Sl = ShrSlice (named 0) κs.0 u8 in
-    let good = ((shr_slice_Lawful 𝓛 (named 0) κs.0 u8).typed x (shr_slice_vals x) are.1.1.0).0 in
-    let y : Ptr → W.Ghost = λ p. ((κs, qs, bounds, (p, (k, (x, tt))), (rawptr_vals p, (uint_vals w32 k, (shr_slice_vals x, tt)))), s) in
+    (λ κs. (rawptr_vals, (uint_vals w64, (uint_vals w32, (shr_slice_vals, tt))))) (λ κs. (rawptr_Tells, (uint_Tells w64, (uint_Tells w32, (shr_slice_Tells (named 0) κs.0 u8, tt))))) (λ κs qs bounds a s are.
+    let k1 = a.1.0 in let fits1 = are.1.0.1 in let k2 = a.1.1.0 in let fits2 = are.1.1.0.1 in let x : Bor (List ℕ) = a.1.1.1.0 in let Sl = ShrSlice (named 0) κs.0 u8 in
+    let good = ((shr_slice_Lawful 𝓛 (named 0) κs.0 u8).typed x (shr_slice_vals x) are.1.1.1.0).0 in
+    let y : Ptr → W.Ghost = λ p. ((κs, qs, bounds, (p, (k1, (k2, (x, tt)))), (rawptr_vals p, (uint_vals w64 k1, (uint_vals w32 k2, (shr_slice_vals x, tt))))), s) in
     qed 𝓛 (((‵ (flft κs.0 qs.0) ⊛ ‵ ftrue) ⊛ ‵ (owns (types_at f.signature.params κs) a (y a.0).0.4)) ∷ ‵ (lies_at R full_share a.0 s) ∷ []) ∵
-    split ! $ split ! $ move ! (2 ∷ []) $ fsplit3 ! $ move ! (2 ∷ []) $ fsplit ! $ keep ! (6 ∷ 0 ∷ 4 ∷ []) $
+    split ! $ split ! $ move ! (2 ∷ []) $ fsplit3 ! $ move ! (2 ∷ []) $ fsplit3 ! $ keep ! (7 ∷ 1 ∷ 5 ∷ []) $
     in_a_block ! a.0 (λ p. lies_at R full_share p s) (id⊢ 𝓤 _) (λ b o e.
-    regoal ! (λ p. prop (WpFn 𝓤 𝓛.H 𝓣.C 𝓣.Λ code.function (rawptr_vals p ++ (vint w32 k ∷ shr_slice_vals x)) (W.post (y p)))) e refl $
-    enter ! _ _ _ _ _ $ alloc_all ! (λ l. pass_all ! refl ((tt, tt), ((tt, record { fits = fits }), (good, tt))) $
+    regoal ! (λ p. prop (WpFn 𝓤 𝓛.H 𝓣.C 𝓣.Λ code.function (rawptr_vals p ++ (vint w64 k1 ∷ vint w32 k2 ∷ shr_slice_vals x)) (W.post (y p)))) e refl $
+    enter ! _ _ _ _ _ $ alloc_all ! (λ l. pass_all ! refl ((tt, tt), ((tt, record { fits = fits1 }), ((tt, record { fits = fits2 }), (good, tt)))) $
     -- [the state; what the slice owns; its token; the locals]
     first ! $ blocks ! $ sets ! (of_opd ! (get ! refl)) refl (tt, tt) $ sets ! (of_opd ! (get ! refl)) refl (tt, tt) $
     sets_last ! (addr ! (through ! refl (stop !))) refl (tt, tt) $
     exec ! 𝓣.C 𝓣.Λ (env code.Mir.locals l) code.Mir.t-2 (at_ret _ (W.post (y (block_ptr b o)))) $
-    sets ! (of_opd ! (get ! refl)) refl (tt, tt) $ sets ! (of_opd ! (get ! refl)) refl (tt, record { fits = fits }) $ sets ! (of_opd ! (get ! refl)) refl good $
+    sets ! (of_opd ! (get ! refl)) refl (tt, tt) $ sets ! (of_opd ! (get ! refl)) refl (tt, record { fits = fits1 }) $ sets ! (of_opd ! (get ! refl)) refl (tt, record { fits = fits2 }) $ sets ! (of_opd ! (get ! refl)) refl good $
     lft_new ! tt (λ α. let κ : List ℕ = α ∷ [] in move ! (1 ∷ []) $
     use1 𝓛 (later (some (λ (γ : ℕ). ‵ ((MutRef (named 0) κ R).own_val (record { ref_ptr = (b, o); ghost_name = γ; now = s }) (vptr b o ∷ [])) ⊛ ‵ (flent κ (Body (mem R) b o γ)))))
     (lends_ref 𝓛 R (named 0) κ s b o) $ await ! tt $ pick ! (λ γ. split ! $
     -- [the loan; what is lent; its token; the slice; its token; the locals]
     let G = triple_of 𝓛 g.signature (g.spec 𝓛 𝓜.mem 𝓡.returns) in let r : MutBor R.Denot = record { ref_ptr = (b, o); ghost_name = γ; now = s } in
-    let z : G.Ghost = (((κ, (κs.0, tt)), (full_share, (qs.0, tt)), tt, (r, (k, (x, tt))), (vptr b o ∷ [], (vint w32 k ∷ [], (shr_slice_vals x, tt)))), tt) in
-    move ! (3 ∷ []) $ nothing ! $ move ! (1 ∷ 0 ∷ []) $ fjoin ! $ owned ! u32 (Is u32) (uint_Makes 𝓛 w32) k _ (refl, fits) $ fjoin ! $ move ! (1 ∷ 0 ∷ []) $ fjoin ! $
+    let z : G.Ghost = (((κ, (κs.0, tt)), (full_share, (qs.0, tt)), tt, (r, (k1, (k2, (x, tt)))), (vptr b o ∷ [], (vint w64 k1 ∷ [], (vint w32 k2 ∷ [], (shr_slice_vals x, tt))))), tt) in
+    move ! (3 ∷ []) $ nothing ! $ move ! (1 ∷ 0 ∷ []) $ fjoin ! $ owned ! u32 (Is u32) (uint_Makes 𝓛 w32) k2 _ (refl, fits2) $ fjoin ! $ owned ! u64 (Is u64) (uint_Makes 𝓛 w64) k1 _ (refl, fits1) $ fjoin ! $ move ! (1 ∷ 0 ∷ []) $ fjoin ! $
     nothing ! $ move ! (4 ∷ 0 ∷ []) $ join ! $ move ! (3 ∷ 0 ∷ []) $ join ! $ join ! $ nothing ! $ move ! (1 ∷ 0 ∷ []) $ join ! $ use1 𝓛 (raw (G.pre z)) (id⊢ 𝓤 (G.pre z)) $
-    calls_at ! (framed 𝓤 𝓛.H 𝓜 𝓣) G (met 𝓤 𝓛 𝓜 𝓡 (code.calls-vt_session::session::text 𝓡.env wired)) z (and_then ! (get ! refl) (and_then ! (get ! refl) (and_then ! (get ! refl) (no_more !)))) (λ v.
+    calls_at ! (framed 𝓤 𝓛.H 𝓜 𝓣) G (met 𝓤 𝓛 𝓜 𝓡 (code.calls-vt_session::session::text 𝓡.env wired)) z (and_then ! (get ! refl) (and_then ! (get ! refl) (and_then ! (get ! refl) (and_then ! (get ! refl) (no_more !))))) (λ v.
     use1 𝓛 (later (some (λ (n : ℕ). ((‵ (flft κ full_share) ⊛ ‵ (flft κs.0 qs.0) ⊛ ‵ ftrue) ⊛ ‵ (u32.own_val n (v ∷ []))) ⊛
-    some (λ (ws : Lasts g.ended z.0.0 z.0.3). ‵ (lasts g.ended z.0.0 z.0.3 ws) ⊛ raw (fact 𝓤 (Texts s k x ws.0 n)))))) (id⊢ 𝓤 _) $
+    some (λ (ws : Lasts g.ended z.0.0 z.0.3). ‵ (lasts g.ended z.0.0 z.0.3 ws) ⊛ raw (fact 𝓤 (Texts s k1 k2 x ws.0 n)))))) (id⊢ 𝓤 _) $
     await ! tt $ pick ! (λ n. split ! $ split ! $ split3 ! $ lft_end ! tt $ move ! (3 ∷ []) $ peeks ! u32 (Is u32) (shows 𝓛 u32) n (v ∷ []) (λ is.
     lands_as ! refl refl ((uint_Lawful 𝓛 w32).typed n _ is).0 $
     -- [the status; the loan is over; the slice's token; nothing; what is said of the state; what is lent]
     move ! (4 ∷ []) $ pick ! (λ ws. split ! $ move ! (1 ∷ []) $ heard ! _ (λ appends. fsplit ! $ fsplit ! $
     move ! (4 ∷ 7 ∷ 0 ∷ []) $ use3 𝓛 (later (‵ (lies_at R full_share (block_ptr b o) ws.0))) (ref_back 𝓛 R κ γ ws.0 b o) $ await ! tt $
     returns ! (look_at ! 0 refl) $ free_all ! refl $ keep ! (3 ∷ 0 ∷ 4 ∷ []) $
-    suffices ! _ (ends_at 𝓛 f.ended stayed c (y (block_ptr b o)) v n (tt, (tt, (tt, tt))) (tt, (tt, (tt, tt)))) $
-    nothing ! $ nothing ! $ join ! $ nothing ! $ join ! $ nothing ! $ join ! $ nothing ! $ move ! (4 ∷ 0 ∷ []) $ join ! $ group ! 3 $ frame ! $
-    show ! (λ (after : R.Denot). sep 𝓤 (sem 𝓛 (lies_at R full_share (block_ptr b o) after)) (fact 𝓤 (Texts s k x after n))) ws.0 $ says ! appends $ done !))))))))))
+    suffices ! _ (ends_at 𝓛 f.ended stayed c (y (block_ptr b o)) v n (tt, (tt, (tt, (tt, tt)))) (tt, (tt, (tt, (tt, tt))))) $
+    nothing ! $ nothing ! $ join ! $ nothing ! $ join ! $ nothing ! $ join ! $ nothing ! $ join ! $ nothing ! $ move ! (4 ∷ 0 ∷ []) $ join ! $ group ! 3 $ frame ! $
+    show ! (λ (after : R.Denot). sep 𝓤 (sem 𝓛 (lies_at R full_share (block_ptr b o) after)) (fact 𝓤 (Texts s k1 k2 x after n))) ws.0 $ says ! appends $ done !))))))))))

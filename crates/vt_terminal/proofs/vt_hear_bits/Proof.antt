@@ -35,15 +35,15 @@ use Rattle.vt_session.specs.Calls.{Hears}
 use Rattle.vt_session.specs.contracts.session.Session.{the_row as R}
 use Rattle.vt_session.specs.contracts.session.hear as g
 use Rattle.vt_session.proofs.session.hear.Met.{met}
-use Rattle.vt_terminal.specs.contracts.vt_hear as f
-use Rattle.vt_terminal.proofs.vt_hear.Statement.{statement}
-use Rattle.vt_terminal.proofs.vt_hear.Code as code
+use Rattle.vt_terminal.specs.contracts.vt_hear_bits as f
+use Rattle.vt_terminal.proofs.vt_hear_bits.Statement.{statement}
+use Rattle.vt_terminal.proofs.vt_hear_bits.Code as code
 
 abbrev stayed : Stays f.ended.signature.params f.ended.kept
 stayed = (stay_dropped (plain (λ _. RawPtr)) yes, (stay_dropped (plain (λ _. u64)) yes, (stay_dropped (plain (λ _. u32)) yes, (stay_dropped (plain (λ _. u32)) yes, (stay_dropped (plain (λ _. u64)) yes, tt)))))
 
-pub vt_hear_spec : {M : Type 1} → statement M
-vt_hear_spec 𝓤 𝓛 𝓜 𝓡 wired =
+pub vt_hear_bits_spec : {M : Type 1} → statement M
+vt_hear_bits_spec 𝓤 𝓛 𝓜 𝓡 wired =
     let c = f.clauses 𝓛 𝓜.mem 𝓡.returns in let W = walk_of 𝓛 f.ended stayed c in let 𝓣 = tables 𝓤 𝓛.H 𝓜 𝓡 𝓡.env in
     proved 𝓛 f.ended stayed c 𝓜 𝓡 (Goes-dropped 𝓛 0 (plain (λ _. RawPtr)) yes (λ κs x w. refl), (Goes-dropped 𝓛 0 (plain (λ _. u64)) yes (λ κs x w. refl), (Goes-dropped 𝓛 0 (plain (λ _. u32)) yes (λ κs x w. refl), (Goes-dropped 𝓛 0 (plain (λ _. u32)) yes (λ κs x w. refl), (Goes-dropped 𝓛 0 (plain (λ _. u64)) yes (λ κs x w. refl), tt)))))
     f.Key.name code.function (code.unfolded 𝓤 𝓛.H 𝓜 𝓡 wired)
