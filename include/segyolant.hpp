@@ -34,7 +34,11 @@
 
 namespace segyolant {
 
-// The result of a call. After all but `done` the terminal is unchanged.
+// As the time of an action: the latest time so far, as an operator's line in a log has it. Nothing times out for it.
+constexpr std::uint64_t latest = VT_LATEST;
+
+// The result of a call. After all but `done` the terminal is unchanged, with one exception: after `no_memory` of an action of the operator the
+// time may have moved on.
 enum class [[nodiscard]] Result : std::uint32_t {
     done = VT_DONE,           // The call is done.
     no_memory = VT_NO_MEMORY, // Memory was refused. The same call may be made again.
@@ -42,6 +46,7 @@ enum class [[nodiscard]] Result : std::uint32_t {
     waiting = VT_WAITING,     // The call came from within a function that takes outputs.
     not_begun = VT_NOT_BEGUN, // The terminal was moved away.
     no_pool = VT_NO_POOL,     // The bytes are no accepted object pool; `segyolant check` says why.
+    other_version = VT_OTHER_VERSION, // The library is of another version than this header.
 };
 
 // A result in words, with the cure.
@@ -61,6 +66,8 @@ inline const char *text_of(Result result) noexcept
         return "the terminal was moved away: use the one that it was moved to";
     case Result::no_pool:
         return "the bytes are no accepted object pool: `segyolant check FILE` names each fault, and docs/POOLS.md has its cure";
+    case Result::other_version:
+        return "the library is of another version than this header: link the one of the same commit";
     }
     return "the library returned a result of another version: link the library of the same commit as the header";
 }
@@ -136,7 +143,7 @@ using Output = std::variant<Frame, Refusal>;
 // The result of an input with its outputs, in the order in which they are to be sent.
 struct [[nodiscard]] Reply {
     Result result = Result::done;
-    std::vector<Output> outputs; // at most 1,024; none unless the result is `done`
+    std::vector<Output> outputs; // at most 1,024, or 2,048 for an action; after `no_memory` of an action those that its time brought
 
     explicit operator bool() const noexcept { return result == Result::done; }
 };
@@ -174,6 +181,9 @@ struct Active {
     std::optional<std::uint16_t> input;         // the input that the operator selected
     std::optional<std::uint16_t> key;           // the key or button that the operator holds
 };
+
+// What an input accepts from the operator, and how its number is shown (vt_terminal.h).
+using Limits = ::vt_limits;
 
 // An element of the shown mask or of its soft keys, in pixels from the upper left corner of the mask (vt_terminal.h).
 using Element = vt_element;
@@ -241,8 +251,7 @@ public:
     // `no_such` for another address, `no_pool` if the pool has a fault or breaks a rule. The bytes are not kept.
     Result preload(std::uint8_t address, const std::uint8_t *pool, std::size_t count)
     {
-        static const std::uint8_t nothing = 0;
-        return Result(called([&](vt_terminal *at) { return vt_preload(at, address, pool ? pool : &nothing, pool ? count : 0); }));
+        return Result(called([&](vt_terminal *at) { return vt_preload(at, address, pool, pool ? count : 0); }));
     }
 
     // The same for a vector, an array or a string of bytes.
@@ -254,7 +263,8 @@ public:
 
     // ---- inputs
     //
-    // Actions of the operator happen at the latest time so far: call `tick` before them.
+    // Each has its time, in microseconds of a monotonic clock. An action of the operator moves the time on first, as `tick` does, unless its
+    // time is `latest`.
 
     // A frame of the bus, with the time of its reception in microseconds of a monotonic clock.
     // A time before the latest one counts as the latest one. `no_such` for an identifier above 1FFFFFFF or more than 8 bytes.
@@ -270,31 +280,46 @@ public:
     template <class Each> Result tick(std::uint64_t time, Each &&each) { return give(ticked(time), each); }
 
     // The operator presses a soft key or a button (ISO 11783-6, Soft Key Activation, Button Activation).
-    Reply press(std::uint16_t id) { return collect(acted(VT_PRESS, id, 0)); }
-    template <class Each> Result press(std::uint16_t id, Each &&each) { return give(acted(VT_PRESS, id, 0), each); }
+    Reply press(std::uint64_t time, std::uint16_t id) { return collect(acted(time, VT_PRESS, id, 0)); }
+    template <class Each> Result press(std::uint64_t time, std::uint16_t id, Each &&each)
+    {
+        return give(acted(time, VT_PRESS, id, 0), each);
+    }
 
     // The operator releases the key or button held.
-    Reply release(std::uint16_t id) { return collect(acted(VT_RELEASE, id, 0)); }
-    template <class Each> Result release(std::uint16_t id, Each &&each) { return give(acted(VT_RELEASE, id, 0), each); }
+    Reply release(std::uint64_t time, std::uint16_t id) { return collect(acted(time, VT_RELEASE, id, 0)); }
+    template <class Each> Result release(std::uint64_t time, std::uint16_t id, Each &&each)
+    {
+        return give(acted(time, VT_RELEASE, id, 0), each);
+    }
 
     // The operator selects an input. No message is sent.
-    Reply select(std::uint16_t id) { return collect(acted(VT_SELECT, id, 0)); }
-    template <class Each> Result select(std::uint16_t id, Each &&each) { return give(acted(VT_SELECT, id, 0), each); }
+    Reply select(std::uint64_t time, std::uint16_t id) { return collect(acted(time, VT_SELECT, id, 0)); }
+    template <class Each> Result select(std::uint64_t time, std::uint16_t id, Each &&each)
+    {
+        return give(acted(time, VT_SELECT, id, 0), each);
+    }
 
     // The operator enters a number: the raw value, without offset and scale (ISO 11783-6, VT Change Numeric Value).
-    Reply number(std::uint16_t id, std::uint32_t value) { return collect(acted(VT_NUMBER, id, value)); }
-    template <class Each> Result number(std::uint16_t id, std::uint32_t value, Each &&each)
+    Reply number(std::uint64_t time, std::uint16_t id, std::uint32_t value) { return collect(acted(time, VT_NUMBER, id, value)); }
+    template <class Each> Result number(std::uint64_t time, std::uint16_t id, std::uint32_t value, Each &&each)
     {
-        return give(acted(VT_NUMBER, id, value), each);
+        return give(acted(time, VT_NUMBER, id, value), each);
     }
 
     // The operator enters a text (ISO 11783-6, VT Change String Value). The bytes are not kept.
-    Reply text(std::uint16_t id, std::string_view text) { return collect(entered(id, text)); }
-    template <class Each> Result text(std::uint16_t id, std::string_view text, Each &&each) { return give(entered(id, text), each); }
+    Reply text(std::uint64_t time, std::uint16_t id, std::string_view text) { return collect(entered(time, id, text)); }
+    template <class Each> Result text(std::uint64_t time, std::uint16_t id, std::string_view text, Each &&each)
+    {
+        return give(entered(time, id, text), each);
+    }
 
     // The operator chooses the working set at an address. While an alarm of another set is shown, that stays shown.
-    Reply set(std::uint8_t address) { return collect(acted(VT_SET, 0, address)); }
-    template <class Each> Result set(std::uint8_t address, Each &&each) { return give(acted(VT_SET, 0, address), each); }
+    Reply set(std::uint64_t time, std::uint8_t address) { return collect(acted(time, VT_SET, 0, address)); }
+    template <class Each> Result set(std::uint64_t time, std::uint8_t address, Each &&each)
+    {
+        return give(acted(time, VT_SET, 0, address), each);
+    }
 
     // ---- what a host sends by itself
 
@@ -309,7 +334,8 @@ public:
 
     // ---- the screen
 
-    // Whether the screen may differ from the one before the last input. Ask after each input.
+    // Whether the text of the screen may differ from the one before the last input. Ask after each input. A host that paints masks asks
+    // `look`.
     [[nodiscard]] bool redraws() const noexcept { return at_ && vt_redraws(at_) != 0; }
 
     // The screen of the shown set as text in ASCII (docs/PROFILE.md, "Form of the text"). None if the library was refused memory; the
@@ -319,12 +345,16 @@ public:
         if (!at_) {
             return std::string("screen none\n");
         }
-        const std::uint64_t count = vt_screen(at_);
+        const std::uint64_t count = vt_text_of_screen(at_);
         if (count == UINT64_MAX) {
             return std::nullopt;
         }
         return written<std::string>(count);
     }
+
+    // A number that is another one after each call that may have changed the picture of the shown set, its colours and fonts among it.
+    // While it stays, `picture` and `elements` give the same of the shown set.
+    [[nodiscard]] std::uint64_t look() const noexcept { return at_ ? vt_look(at_) : 0; }
 
     // ---- reading the state
     //
@@ -348,7 +378,7 @@ public:
     }
 
     // What is active in the set at an address; none if there is no set with a pool.
-    [[nodiscard]] std::optional<Active> active(std::uint8_t address) noexcept
+    [[nodiscard]] std::optional<Active> active(std::uint8_t address) const noexcept
     {
         vt_active_ids all{};
         if (!at_ || vt_active(at_, address, &all) != VT_DONE) {
@@ -389,10 +419,37 @@ public:
 
     // The key, button or input that is shown at a place, in pixels from the upper left corner of the mask: of several the one drawn last.
     // None if there is none, or if the library was refused memory.
-    [[nodiscard]] std::optional<std::uint16_t> touch(std::int32_t x, std::int32_t y) noexcept
+    [[nodiscard]] std::optional<std::uint16_t> touch(std::int32_t x, std::int32_t y) const noexcept
     {
         const std::uint64_t id = at_ ? vt_touch(at_, x, y) : VT_NO_ID;
         return id < VT_NO_ID ? std::optional<std::uint16_t>(static_cast<std::uint16_t>(id)) : std::nullopt;
+    }
+
+    // ---- dialogs
+
+    // What an input of the set at an address accepts, and how its number is shown. None if there is no such input, or if the library was
+    // refused memory.
+    [[nodiscard]] std::optional<Limits> limits(std::uint8_t address, std::uint16_t id) noexcept
+    {
+        Limits all{};
+        return at_ && vt_limits_of(at_, address, id, &all) == VT_DONE ? std::optional<Limits>(all) : std::nullopt;
+    }
+
+    // The text of an input or output field of the set at an address, as the terminal shows it, in the bytes of its font; empty for another
+    // object. None if the library was refused memory.
+    [[nodiscard]] std::optional<std::string> value_text(std::uint8_t address, std::uint16_t id)
+    {
+        const std::uint64_t count = at_ ? vt_text_of_value(at_, address, id) : 0;
+        return count == UINT64_MAX ? std::nullopt : std::optional(written<std::string>(count));
+    }
+
+    // The raw value, for `number`, of what the operator typed for an Input Number of the set at an address, exactly: an optional minus,
+    // digits, and perhaps a point and more digits, 15 digits at most. None if there is no such value of 32 bits.
+    [[nodiscard]] std::optional<std::uint32_t> raw(std::uint8_t address, std::uint16_t id, std::string_view typed) const noexcept
+    {
+        std::uint32_t raw = 0;
+        const bool is = at_ && vt_raw(at_, address, id, typed.data(), typed.size(), &raw) == VT_DONE;
+        return is ? std::optional<std::uint32_t>(raw) : std::nullopt;
     }
 
     // ---- what a host asks
@@ -418,7 +475,7 @@ public:
 
 private:
     static constexpr std::align_val_t alignment{16};
-    static constexpr std::uint32_t moved = VT_NOT_BEGUN;
+    static constexpr vt_result moved = VT_NOT_BEGUN;
 
     // Takes the outputs that wait when a call ends, also by an exception, so that the next input is heard.
     struct Rest {
@@ -470,34 +527,29 @@ private:
         }
     }
 
-    std::uint32_t heard(std::uint64_t time, const Frame &frame)
+    vt_result heard(std::uint64_t time, const Frame &frame)
     {
-        std::uint64_t bits = 0;
-        for (std::size_t k = 0; k < frame.bytes.size() && k < frame.count; k++) {
-            bits |= std::uint64_t{frame.bytes[k]} << 8 * k;
-        }
-        return called([&](vt_terminal *at) { return vt_hear(at, time, frame.id, frame.count, bits); });
+        return called([&](vt_terminal *at) { return vt_hear(at, time, frame.id, frame.bytes.data(), frame.count); });
     }
 
-    std::uint32_t ticked(std::uint64_t time)
+    vt_result ticked(std::uint64_t time)
     {
         return called([=](vt_terminal *at) { return vt_tick(at, time); });
     }
 
-    std::uint32_t acted(vt_action kind, std::uint32_t id, std::uint32_t number)
+    vt_result acted(std::uint64_t time, vt_action kind, std::uint32_t id, std::uint32_t number)
     {
-        return called([=](vt_terminal *at) { return vt_act(at, kind, id, number); });
+        return called([=](vt_terminal *at) { return vt_act(at, time, kind, id, number); });
     }
 
-    std::uint32_t entered(std::uint16_t id, std::string_view text)
+    vt_result entered(std::uint64_t time, std::uint16_t id, std::string_view text)
     {
-        static const char nothing = 0;
-        const char *bytes = text.data() ? text.data() : &nothing;
-        return called([&](vt_terminal *at) { return vt_text(at, id, reinterpret_cast<const std::uint8_t *>(bytes), text.size()); });
+        const auto *bytes = reinterpret_cast<const std::uint8_t *>(text.data());
+        return called([&](vt_terminal *at) { return vt_text(at, time, id, bytes, text.size()); });
     }
 
     // The first bytes of the text written last.
-    template <class Bytes> Bytes written(std::uint64_t count)
+    template <class Bytes> Bytes written(std::uint64_t count) const
     {
         Bytes bytes(static_cast<std::size_t>(count), 0);
         if (at_) {
@@ -511,41 +563,40 @@ private:
         return id != VT_NO_ID ? std::optional<std::uint16_t>(id) : std::nullopt;
     }
 
-    // The output taken last.
-    Output latest(std::uint32_t kind) const
+    static Output output_of(const vt_out &out)
     {
-        if (kind == VT_REFUSED) {
-            return static_cast<Refusal>(vt_output_id(at_));
+        if (out.kind == VT_REFUSED) {
+            return static_cast<Refusal>(out.id);
         }
         Frame frame;
-        frame.id = vt_output_id(at_);
-        frame.count = static_cast<std::uint8_t>(vt_output_count(at_));
-        const std::uint64_t bits = vt_output_data(at_);
+        frame.id = out.id;
+        frame.count = static_cast<std::uint8_t>(out.count);
         for (std::size_t k = 0; k < frame.bytes.size(); k++) {
-            frame.bytes[k] = static_cast<std::uint8_t>(bits >> 8 * k);
+            frame.bytes[k] = out.data[k];
         }
         return frame;
     }
 
     // Makes a call, unless the terminal was moved away, or the call comes from within a function that takes outputs.
-    template <class Call> std::uint32_t called(Call call)
+    template <class Call> vt_result called(Call call)
     {
-        return !at_ ? moved : is_giving_ ? std::uint32_t{VT_WAITING} : call(at_);
+        return !at_ ? moved : is_giving_ ? VT_WAITING : call(at_);
     }
 
-    template <class Each> Result give(std::uint32_t status, Each &each)
+    template <class Each> Result give(vt_result status, Each &each)
     {
-        if (status == VT_DONE) {
+        if (status == VT_DONE || status == VT_NO_MEMORY) {
             const Rest rest{at_, is_giving_};
-            for (std::uint32_t kind = vt_next(at_); kind != VT_NONE; kind = vt_next(at_)) {
-                const Output output = latest(kind);
+            vt_out out;
+            while (vt_take(at_, &out) != VT_NONE) {
+                const Output output = output_of(out);
                 each(output);
             }
         }
         return static_cast<Result>(status);
     }
 
-    Reply collect(std::uint32_t status)
+    Reply collect(vt_result status)
     {
         Reply reply;
         auto keep = [&reply](const Output &output) { reply.outputs.push_back(output); };

@@ -1,15 +1,19 @@
 /* Segyolant's terminal for C: an ISOBUS virtual terminal (ISO 11783-6) that lies in the caller's memory.
  *
  * It takes frames of the bus, the time and actions of the operator, and gives the frames to send, the refusals to the operator, the
- * screen as text, each object as it is now, and pictures of masks. It has no global state, no thread, no file and no clock. docs/EMBEDDING.md explains it; C++ has
- * segyolant.hpp and Rust has bindings/rust, which are safe to use.
+ * screen as text, each object as it is now, and pictures of masks. It has no global state, no thread, no file and no clock.
+ * docs/EMBEDDING.md explains it; C++ has segyolant.hpp and Rust has bindings/rust, which are safe to use.
  *
  * Link with crates/vt_terminal/out/libvt_terminal.a, and define rattle_alloc, rattle_realloc and rattle_dealloc (vt_heap.h).
  *
- * Preconditions of every call but vt_size and vt_init; nothing checks them:
- *  - `at` is a terminal made by vt_init and not yet ended by vt_done;
+ * Preconditions of every call but vt_version, vt_size and vt_begin; nothing checks them:
+ *  - `at` is a terminal made by vt_begin and not yet ended by vt_done;
  *  - no other call for the same terminal runs at the same time.
- * For vt_init `at` is writable memory of vt_size() bytes at a multiple of 16, and no terminal that is not yet ended.
+ * For vt_begin `at` is writable memory of vt_size() bytes at a multiple of 16, and no terminal that is not yet ended.
+ *
+ * Bytes are given as a pointer and a count; the pointer may be null if the count is 0. A call with a buffer `buf` of `room` bytes returns
+ * how many bytes there are, also where that is more than the room, and writes as many as there is room for; `buf` may be null if `room` is
+ * 0. Where memory was refused it returns UINT64_MAX.
  */
 #ifndef VT_TERMINAL_H
 #define VT_TERMINAL_H
@@ -21,6 +25,10 @@
 extern "C" {
 #endif
 
+/* The version of this interface: 65536 times the first number, 256 times the second, and the third. vt_begin refuses a library whose
+ * first two numbers are others. */
+#define VT_VERSION 0x000200u
+
 /* The functions that stand whole in this header. The shared library has them too, for languages that read no header. */
 #ifndef VT_INLINE
 #define VT_INLINE static inline
@@ -29,19 +37,23 @@ extern "C" {
 /* A terminal. Its memory is the caller's: vt_size() bytes at a multiple of 16. */
 struct vt_terminal;
 
-/* The results of calls that can be refused. After all but VT_DONE the terminal is unchanged. */
+/* The results of calls that can be refused. After all but VT_DONE the terminal is unchanged, with one exception: after VT_NO_MEMORY of
+ * vt_act or vt_text the time may have moved on, and outputs of that may wait. */
 enum vt_result {
-    VT_DONE = 0,      /* the call is done */
-    VT_NO_MEMORY = 1, /* memory was refused; no output waits, and the same call may be made again */
-    VT_NO_SUCH = 2,   /* there is no such frame, action or address */
-    VT_WAITING = 3,   /* outputs wait: take them by vt_next first */
-    VT_NOT_BEGUN = 4, /* the own address given to vt_init is above 253 */
-    VT_NO_POOL = 5    /* the bytes are no accepted object pool */
+    VT_DONE = 0,          /* the call is done */
+    VT_NO_MEMORY = 1,     /* memory was refused; take the outputs, if there are any, and make the same call again */
+    VT_NO_SUCH = 2,       /* an argument is out of range: there is no such frame, action, address or input */
+    VT_WAITING = 3,       /* outputs wait: take them by vt_take first */
+    VT_NOT_BEGUN = 4,     /* the own address given to vt_begin is above 253 */
+    VT_NO_POOL = 5,       /* the bytes are no accepted object pool */
+    VT_OTHER_VERSION = 6, /* the library, or a struct, is of another version than this header */
+    VT_RESULT_BITS = 0x7FFFFFFF /* none of the results: it makes the type 32 bits wide */
 };
 
 /* What the terminal answers to requests for its technical data (ISO 11783-6, Get Memory, Get Number of Soft Keys, Get Text Font
  * Data, Get Hardware). It changes nothing else. The version is always 3. */
 struct vt_profile {
+    uint32_t size;              /* sizeof(struct vt_profile) */
     uint32_t memory;            /* for pools, in bytes */
     uint8_t soft_key_width;     /* in pixels */
     uint8_t soft_key_height;    /* in pixels */
@@ -58,102 +70,168 @@ struct vt_profile {
 };
 
 /* The profile of docs/PROFILE.md, as an initializer: 1 MB, 480 by 480 pixels, six soft keys of 64 by 64 pixels. */
-#define VT_STANDARD_PROFILE { 1048576, 64, 64, 64, 6, 0x7F, 0x7F, 0, 0, 2, 0, 480, 480 }
+#define VT_STANDARD_PROFILE { sizeof(struct vt_profile), 1048576, 64, 64, 64, 6, 0x7F, 0x7F, 0, 0, 2, 0, 480, 480 }
 
 /* ---- making and ending */
+
+/* The version of the library, as VT_VERSION is that of this header. */
+uint32_t vt_version(void);
 
 /* The number of bytes of a terminal. */
 size_t vt_size(void);
 
-/* Makes a terminal at `at`, with its address and NAME (ISO 11783-5) and its profile in five numbers: vt_begin makes these of a
- * struct vt_profile. With an address above 253 each input is refused with VT_NOT_BEGUN. Allocates nothing. */
+/* The call behind vt_begin, which packs the profile into five numbers. */
 void vt_init(struct vt_terminal *at, uint32_t own, uint64_t name, uint32_t memory, uint32_t keys, uint32_t fonts,
              uint32_t hardware, uint32_t size);
 
-/* Ends a terminal and gives back the memory that it took. The memory at `at` stays the caller's. */
-void vt_done(struct vt_terminal *at);
-
-/* Makes a terminal by vt_init. Returns VT_NOT_BEGUN for an address above 253, or else VT_DONE. */
+/* Makes a terminal at `at`, with its address and NAME (ISO 11783-5) and its profile. Allocates nothing. VT_OTHER_VERSION if the library or
+ * the profile is of another version: then no terminal is made. VT_NOT_BEGUN for an address above 253: then one is made that refuses each
+ * input. */
 VT_INLINE enum vt_result vt_begin(struct vt_terminal *at, uint32_t own, uint64_t name, const struct vt_profile *profile)
 {
     uint32_t keys = (uint32_t)profile->soft_key_width | (uint32_t)profile->soft_key_height << 8 |
                     (uint32_t)profile->virtual_soft_keys << 16 | (uint32_t)profile->physical_soft_keys << 24;
     uint32_t fonts = (uint32_t)profile->small_fonts | (uint32_t)profile->large_fonts << 8 | (uint32_t)profile->font_styles << 16;
     uint32_t hardware = (uint32_t)profile->boot_time | (uint32_t)profile->graphic_type << 8 | (uint32_t)profile->hardware << 16;
+    if (vt_version() >> 8 != VT_VERSION >> 8 || profile->size != sizeof *profile) {
+        return VT_OTHER_VERSION;
+    }
     vt_init(at, own, name, profile->memory, keys, fonts, hardware, (uint32_t)profile->width | (uint32_t)profile->height << 16);
     return own > 253 ? VT_NOT_BEGUN : VT_DONE;
 }
 
+/* Ends a terminal and gives back the memory that it took. The memory at `at` stays the caller's. */
+void vt_done(struct vt_terminal *at);
+
+/* The call behind vt_preload. `pool` is not null. */
+enum vt_result vt_preload_bytes(struct vt_terminal *at, uint32_t address, const uint8_t *pool, size_t count);
+
 /* Adds a working set with an object pool that is there from the start, at an address without a set (at most 253, not the own one).
- * VT_NO_SUCH if the address is none of these, VT_NO_POOL if the pool has a fault or breaks a rule. `pool` is not null, even
- * without bytes; it is not kept. */
-uint32_t vt_preload(struct vt_terminal *at, uint32_t address, const uint8_t *pool, size_t count);
+ * VT_NO_SUCH if the address is none of these, VT_NO_POOL if the pool has a fault or breaks a rule. The bytes are not kept. The set is
+ * closed three seconds after the first vt_hear or vt_tick that follows, unless a frame comes from its address. */
+VT_INLINE enum vt_result vt_preload(struct vt_terminal *at, uint32_t address, const uint8_t *pool, size_t count)
+{
+    return vt_preload_bytes(at, address, pool == NULL ? (const uint8_t *)"" : pool, count);
+}
 
-/* ---- inputs: each returns an enum vt_result */
+/* ---- inputs
+ *
+ * Each has its time, in microseconds of any monotonic clock. An earlier time than the latest one counts as the latest; a time that is too
+ * late cannot be taken back. */
 
-/* A frame of the bus, with the time of its reception in microseconds of any monotonic clock, its identifier of 29 bits, and 0 to 8
- * data bytes, the first in the lowest byte of `bits`. VT_NO_SUCH for an identifier above 1FFFFFFF or more bytes. */
-uint32_t vt_hear(struct vt_terminal *at, uint64_t time, uint32_t id, uint32_t count, uint64_t bits);
+/* The call behind vt_hear: the data bytes are in `bits`, the first lowest. */
+enum vt_result vt_hear_bits(struct vt_terminal *at, uint64_t time, uint32_t id, uint32_t count, uint64_t bits);
+
+/* A frame of the bus, with the time of its reception, its identifier of 29 bits, and 0 to 8 data bytes. VT_NO_SUCH for an identifier above
+ * 1FFFFFFF or more bytes. */
+VT_INLINE enum vt_result vt_hear(struct vt_terminal *at, uint64_t time, uint32_t id, const uint8_t *data, size_t count)
+{
+    uint64_t bits = 0;
+    for (size_t i = 0; i < count && i < 8; i++) {
+        bits |= (uint64_t)data[i] << 8 * i;
+    }
+    return vt_hear_bits(at, time, id, count > 8 ? 9 : (uint32_t)count, bits);
+}
 
 /* The time alone: sessions time out, and silent sets are closed. Call it at vt_deadline, or some times a second. */
-uint32_t vt_tick(struct vt_terminal *at, uint64_t time);
+enum vt_result vt_tick(struct vt_terminal *at, uint64_t time);
+
+/* As the time of an action: the latest time so far, as an operator's line in a log has it. Nothing times out for it. */
+#define VT_LATEST UINT64_MAX
 
 /* Actions of the operator for vt_act. */
 enum vt_action {
     VT_PRESS = 0,   /* presses the key or button `id` */
     VT_RELEASE = 1, /* releases it */
     VT_SELECT = 2,  /* selects the input `id` */
-    VT_NUMBER = 3,  /* enters `number` into the input `id`: the raw value, without offset and scale */
-    VT_SET = 4      /* selects the working set at the address `number`; `id` has no meaning, 0 will do */
+    VT_NUMBER = 3,  /* enters `number` into the input `id`: the raw value, without offset and scale (vt_raw) */
+    VT_SET = 4,     /* selects the working set at the address `number`; `id` has no meaning, 0 will do */
+    VT_ACTION_BITS = 0x7FFFFFFF /* none of the actions: it makes the type 32 bits wide */
 };
 
-/* An action of the operator. VT_NO_SUCH for another kind, an ID above 65535 (with VT_SET too) or an address above 255. */
-uint32_t vt_act(struct vt_terminal *at, uint32_t kind, uint32_t id, uint32_t number);
+/* An action of the operator at a time: first the time moves on as by vt_tick, unless it is VT_LATEST, and then the action is done. VT_NO_SUCH for another kind, an
+ * ID above 65535 (with VT_SET too) or an address above 255. */
+enum vt_result vt_act(struct vt_terminal *at, uint64_t time, enum vt_action kind, uint32_t id, uint32_t number);
 
-/* A text of the operator for the input `id`. VT_NO_SUCH for an ID above 65535. `text` is not null, even without bytes. */
-uint32_t vt_text(struct vt_terminal *at, uint32_t id, const uint8_t *text, size_t count);
+/* The call behind vt_text. `text` is not null. */
+enum vt_result vt_text_bytes(struct vt_terminal *at, uint64_t time, uint32_t id, const uint8_t *text, size_t count);
 
-/* ---- what a host sends by itself: each returns an enum vt_result; a lost terminal has no output
+/* A text of the operator for the input `id`, at a time as with vt_act. VT_NO_SUCH for an ID above 65535. The bytes are not kept. */
+VT_INLINE enum vt_result vt_text(struct vt_terminal *at, uint64_t time, uint32_t id, const uint8_t *text, size_t count)
+{
+    return vt_text_bytes(at, time, id, text == NULL ? (const uint8_t *)"" : text, count);
+}
+
+/* ---- what a host sends by itself; a lost terminal has no output
  *
  * They are no inputs: they change nothing, and leave the answer of vt_redraws. */
 
 /* Puts the address claim among the outputs, which a host sends at its start. */
-uint32_t vt_claim(struct vt_terminal *at);
+enum vt_result vt_claim(struct vt_terminal *at);
 
 /* Puts the status message among the outputs, which a host sends each second. */
-uint32_t vt_status(struct vt_terminal *at);
+enum vt_result vt_status(struct vt_terminal *at);
 
 /* ---- outputs */
 
-enum vt_output { VT_NONE = 0, VT_FRAME = 1, VT_REFUSED = 2 };
+enum vt_output {
+    VT_NONE = 0,
+    VT_FRAME = 1,
+    VT_REFUSED = 2,
+    VT_OUTPUT_BITS = 0x7FFFFFFF /* none of the kinds: it makes the type 32 bits wide */
+};
 
-/* Takes the next output and returns its kind, an enum vt_output. Inputs, claims, statuses and preloads are refused with VT_WAITING
- * until all outputs are taken. */
-uint32_t vt_next(struct vt_terminal *at);
+/* Why an action of the operator was refused (docs/PROFILE.md, "Refusals"). */
+enum vt_refusal {
+    VT_NOT_SHOWN = 1,
+    VT_DISABLED = 2,
+    VT_OUT_OF_RANGE = 3,
+    VT_TOO_LONG = 4,
+    VT_WRONG_KIND = 5,
+    VT_NOT_PRESSED = 6,
+    VT_HELD = 7, /* a key of the set is held */
+    VT_BUSY = 8,
+    VT_NO_SET = 9
+};
 
-/* Of the output taken last: the identifier of the frame, or the number of the refusal (1 not shown, 2 disabled, 3 out of range,
- * 4 too long, 5 wrong kind, 6 not pressed, 7 a key is held, 8 busy, 9 no set); the number of data bytes; the data bytes, the first
- * in the lowest byte. */
-uint32_t vt_output_id(struct vt_terminal *at);
-uint32_t vt_output_count(struct vt_terminal *at);
-uint64_t vt_output_data(struct vt_terminal *at);
+/* The calls behind vt_take. vt_next takes the next output and returns its kind. The others tell of the output taken last: the identifier of
+ * the frame, or the number of the refusal; the number of data bytes; the data bytes, the first lowest. All are 0 after VT_NONE. */
+enum vt_output vt_next(struct vt_terminal *at);
+uint32_t vt_output_id(const struct vt_terminal *at);
+uint32_t vt_output_count(const struct vt_terminal *at);
+uint64_t vt_output_data(const struct vt_terminal *at);
 
-/* ---- the screen */
+/* An output: a frame to send, or a refusal to show to the operator. */
+struct vt_out {
+    enum vt_output kind;
+    uint32_t id;     /* the identifier of a frame; an enum vt_refusal */
+    uint32_t count;  /* the number of data bytes of a frame */
+    uint8_t data[8]; /* the data bytes, and 0 for each past the count */
+};
 
-/* 1 if the screen may differ from the one before the last input, or else 0. */
-uint32_t vt_redraws(struct vt_terminal *at);
+/* Takes the next output, and returns its kind. Inputs, claims, statuses and preloads are refused with VT_WAITING until it has returned
+ * VT_NONE or all outputs are taken. */
+VT_INLINE enum vt_output vt_take(struct vt_terminal *at, struct vt_out *out)
+{
+    uint64_t bits;
+    out->kind = vt_next(at);
+    out->id = vt_output_id(at);
+    out->count = vt_output_count(at);
+    bits = vt_output_data(at);
+    for (unsigned i = 0; i < 8; i++) {
+        out->data[i] = (uint8_t)(bits >> 8 * i);
+    }
+    return out->kind;
+}
 
-/* Draws the screen of the shown working set as text (docs/PROFILE.md, "Form of the text") and returns its number of bytes, or
- * UINT64_MAX if memory was refused. */
-uint64_t vt_screen(struct vt_terminal *at);
+/* ---- texts */
 
-/* Eight bytes of the text written last, from an index on, the first in the lowest byte, and 0 for each byte past the end. The text is
- * that of vt_screen or of a call of "reading the state". vt_copy takes it whole. */
-uint64_t vt_screen_word(struct vt_terminal *at, uint64_t index);
+/* Eight bytes of the text written last, from an index on, the first lowest, and 0 for each byte past the end. Each call with a buffer
+ * writes a text and copies it so. */
+uint64_t vt_screen_word(const struct vt_terminal *at, uint64_t index);
 
-/* Copies the text written last to `buf`, as much as there is room for, and fills the rest of the room with 0. `buf` may be null if
- * `room` is 0. */
-VT_INLINE void vt_copy(struct vt_terminal *at, uint8_t *buf, size_t room)
+/* Copies the text written last to `buf`, as much as there is room for, and fills the rest of the room with 0. */
+VT_INLINE void vt_copy(const struct vt_terminal *at, uint8_t *buf, size_t room)
 {
     for (size_t k = 0; k < room; k += 8) {
         uint64_t word = vt_screen_word(at, k);
@@ -163,11 +241,38 @@ VT_INLINE void vt_copy(struct vt_terminal *at, uint8_t *buf, size_t room)
     }
 }
 
+/* Copies a text that was just written, of `count` bytes, and returns the count. */
+VT_INLINE uint64_t vt_written(const struct vt_terminal *at, uint64_t count, uint8_t *buf, size_t room)
+{
+    if (count != UINT64_MAX) {
+        vt_copy(at, buf, room < count ? room : (size_t)count);
+    }
+    return count;
+}
+
+/* ---- the screen */
+
+/* 1 if the text of vt_screen may differ from that before the last input, or else 0. Changes of a colour, a font, a line or a filling are
+ * in no text: a host that paints masks asks vt_look. */
+uint32_t vt_redraws(const struct vt_terminal *at);
+
+/* The call behind vt_screen. */
+uint64_t vt_text_of_screen(struct vt_terminal *at);
+
+/* The screen of the shown working set as text (docs/PROFILE.md, "Form of the text"). */
+VT_INLINE uint64_t vt_screen(struct vt_terminal *at, uint8_t *buf, size_t room)
+{
+    return vt_written(at, vt_text_of_screen(at), buf, room);
+}
+
 /* ---- reading the state
  *
- * What a display draws and its dialogs ask. The calls change nothing but the text written last, and vt_active, vt_touch and vt_has_pool
- * not even that. The calls with a `room` return how much there is, also where it is more than the room, and UINT64_MAX if memory was
- * refused. The caller's memory may be null if `room` is 0. */
+ * What a display draws and its dialogs ask. The calls change nothing but the text written last, and those with a terminal that is const
+ * not even that. Outputs may wait. */
+
+/* A number that is another one after each call that may have changed the picture of the shown set, its colours and fonts among it. While it
+ * stays, the shown set stays, and vt_picture and vt_elements give the same of it: so a host paints anew only when it has changed. */
+uint64_t vt_look(const struct vt_terminal *at);
 
 /* The calls behind those below. A vt_text_of_ call writes a text, which vt_copy copies, and returns its number of bytes. Where memory was
  * refused the text is empty. vt_ids_of_active gives four IDs of 16 bits, the active mask lowest. */
@@ -175,11 +280,11 @@ uint64_t vt_text_of_sets(struct vt_terminal *at);
 uint64_t vt_text_of_object(struct vt_terminal *at, uint32_t address, uint32_t id);
 uint64_t vt_text_of_picture(struct vt_terminal *at, uint32_t address, uint32_t mask);
 uint64_t vt_text_of_elements(struct vt_terminal *at);
-uint64_t vt_ids_of_active(struct vt_terminal *at, uint32_t address);
-uint64_t vt_id_at(struct vt_terminal *at, uint32_t x, uint32_t y);
+uint64_t vt_ids_of_active(const struct vt_terminal *at, uint32_t address);
+uint64_t vt_id_at(const struct vt_terminal *at, uint32_t x, uint32_t y);
 
 /* 1 if there is a working set with a pool at an address, or else 0. */
-uint64_t vt_has_pool(struct vt_terminal *at, uint32_t address);
+uint64_t vt_has_pool(const struct vt_terminal *at, uint32_t address);
 
 /* The number of no object. */
 #define VT_NO_ID 65535
@@ -223,7 +328,7 @@ struct vt_active_ids {
 
 /* Tells what is active in the set at an address. Returns VT_DONE, or VT_NO_SUCH if there is no set with a pool, and then each is
  * VT_NO_ID. */
-VT_INLINE enum vt_result vt_active(struct vt_terminal *at, uint32_t address, struct vt_active_ids *active)
+VT_INLINE enum vt_result vt_active(const struct vt_terminal *at, uint32_t address, struct vt_active_ids *active)
 {
     uint64_t ids = vt_ids_of_active(at, address);
     active->mask = (uint16_t)ids;
@@ -237,11 +342,7 @@ VT_INLINE enum vt_result vt_active(struct vt_terminal *at, uint32_t address, str
  * (ISO 11783-6; docs/PROFILE.md, "Records"; vt_records.h). Returns the number of its bytes, 0 if there is no such object. */
 VT_INLINE uint64_t vt_object(struct vt_terminal *at, uint32_t address, uint32_t id, uint8_t *buf, size_t room)
 {
-    uint64_t count = vt_text_of_object(at, address, id);
-    if (count != UINT64_MAX) {
-        vt_copy(at, buf, room < count ? room : (size_t)count);
-    }
-    return count;
+    return vt_written(at, vt_text_of_object(at, address, id), buf, room);
 }
 
 /* Draws a mask of the set at an address as SVG, with its soft keys in columns to its right, at the sizes of the terminal's profile
@@ -249,11 +350,7 @@ VT_INLINE uint64_t vt_object(struct vt_terminal *at, uint32_t address, uint32_t 
  * elements. Returns the number of bytes, 0 if there is no set with a pool. */
 VT_INLINE uint64_t vt_picture(struct vt_terminal *at, uint32_t address, uint32_t mask, uint8_t *buf, size_t room)
 {
-    uint64_t count = vt_text_of_picture(at, address, mask);
-    if (count != UINT64_MAX) {
-        vt_copy(at, buf, room < count ? room : (size_t)count);
-    }
-    return count;
+    return vt_written(at, vt_text_of_picture(at, address, mask), buf, room);
 }
 
 /* An element of the shown mask or of its soft keys, in pixels from the upper left corner of the mask. */
@@ -308,22 +405,98 @@ VT_INLINE uint64_t vt_elements(struct vt_terminal *at, struct vt_element *elemen
 
 /* The ID of the key, button or input that is shown at a place, in pixels from the upper left corner of the mask: of several the one drawn
  * last. VT_NO_ID if there is none, as where a number is negative; UINT64_MAX if memory was refused. */
-VT_INLINE uint64_t vt_touch(struct vt_terminal *at, int32_t x, int32_t y)
+VT_INLINE uint64_t vt_touch(const struct vt_terminal *at, int32_t x, int32_t y)
 {
     return vt_id_at(at, (uint32_t)x, (uint32_t)y);
+}
+
+/* ---- dialogs
+ *
+ * What a dialog for an input shows and accepts, and the number to enter for what the operator typed. */
+
+/* The calls behind those below. `sign` is not 0 for a negative number; `digits` are those of the typed number without its point, and
+ * `decimals` says how many of them are behind the point. */
+uint64_t vt_text_of_limits(struct vt_terminal *at, uint32_t address, uint32_t id);
+uint64_t vt_text_of_value(struct vt_terminal *at, uint32_t address, uint32_t id);
+uint64_t vt_raw_of(const struct vt_terminal *at, uint32_t address, uint32_t id, uint32_t sign, uint64_t digits, uint32_t decimals);
+
+/* What an input accepts from the operator, and how its number is shown: (raw value + offset) / 10^places, rounded to the decimals. */
+struct vt_limits {
+    uint8_t kind;      /* 7 Input Boolean, 8 Input String, 9 Input Number, 10 Input List */
+    uint8_t enabled;   /* 0 if it accepts nothing now, or else 1 */
+    uint8_t places;    /* the decimal places by which the scale moves a number, 0 to 3 */
+    uint8_t decimals;  /* the number of decimals shown, 0 to 7 */
+    uint8_t items;     /* the number of items of an Input List, or 0 */
+    uint8_t length;    /* the most bytes of a text, or 0 */
+    uint32_t value;    /* the raw value that it shows: its own, or that of its variable; of an Input String 0 */
+    uint32_t minimum;  /* the least raw value that VT_NUMBER accepts */
+    uint32_t maximum;  /* the greatest one; below the least where no number is accepted */
+    int32_t offset;
+};
+
+/* Tells the limits of an input of the set at an address. Returns VT_DONE, VT_NO_SUCH if there is no such input, or VT_NO_MEMORY. */
+VT_INLINE enum vt_result vt_limits_of(struct vt_terminal *at, uint32_t address, uint32_t id, struct vt_limits *limits)
+{
+    uint64_t count = vt_text_of_limits(at, address, id);
+    uint64_t head = vt_screen_word(at, 0), first = vt_screen_word(at, 8), last = vt_screen_word(at, 16);
+    limits->kind = (uint8_t)head;
+    limits->enabled = (uint8_t)(head >> 8);
+    limits->places = (uint8_t)(head >> 16);
+    limits->decimals = (uint8_t)(head >> 24);
+    limits->items = (uint8_t)(head >> 32);
+    limits->length = (uint8_t)(head >> 40);
+    limits->value = (uint32_t)first;
+    limits->minimum = (uint32_t)(first >> 32);
+    limits->maximum = (uint32_t)last;
+    limits->offset = (int32_t)(uint32_t)(last >> 32);
+    return count == UINT64_MAX ? VT_NO_MEMORY : count == 0 ? VT_NO_SUCH : VT_DONE;
+}
+
+/* The text of an input or output field of the set at an address, as the terminal shows it: a number with its offset, scale and decimals, or
+ * the whole text of a string in the bytes of its font. Returns the number of bytes, 0 for another object. */
+VT_INLINE uint64_t vt_value_text(struct vt_terminal *at, uint32_t address, uint32_t id, uint8_t *buf, size_t room)
+{
+    return vt_written(at, vt_text_of_value(at, address, id), buf, room);
+}
+
+/* Finds the raw value of what the operator typed for an Input Number of the set at an address, exactly, for VT_NUMBER: an optional minus,
+ * digits, and perhaps a point and more digits, 15 digits at most. VT_NO_SUCH if it is no such text, or no raw value of 32 bits is shown as
+ * just that number; the raw value may still be outside the limits. */
+VT_INLINE enum vt_result vt_raw(const struct vt_terminal *at, uint32_t address, uint32_t id, const char *text, size_t count, uint32_t *raw)
+{
+    size_t k = count > 0 && text[0] == '-' ? 1 : 0, begin = k;
+    uint64_t digits = 0, found;
+    uint32_t all = 0, decimals = 0, behind = 0;
+    for (; k < count; k++) {
+        if (text[k] == '.' && behind == 0 && all > 0) {
+            behind = 1;
+        } else if (text[k] >= '0' && text[k] <= '9' && all < 15) {
+            digits = 10 * digits + (uint64_t)(text[k] - '0');
+            decimals += behind;
+            all++;
+        } else {
+            return VT_NO_SUCH;
+        }
+    }
+    found = all == 0 ? UINT64_MAX : vt_raw_of(at, address, id, begin == 0 ? 0 : 1, digits, decimals);
+    if (found == UINT64_MAX) {
+        return VT_NO_SUCH;
+    }
+    *raw = (uint32_t)found;
+    return VT_DONE;
 }
 
 /* ---- what a host asks */
 
 /* The address of the shown working set, or 254 if none is shown. */
-uint32_t vt_shown(struct vt_terminal *at);
+uint32_t vt_shown(const struct vt_terminal *at);
 
 /* 1 if another node took the terminal's address, or else 0. A lost terminal sends nothing any more. */
-uint32_t vt_lost(struct vt_terminal *at);
+uint32_t vt_lost(const struct vt_terminal *at);
 
 /* The first time at which a tick is due, or UINT64_MAX if there is none. Before it vt_tick does nothing but move the time on. A time
  * that is not after the last one means: at once. */
-uint64_t vt_deadline(struct vt_terminal *at);
+uint64_t vt_deadline(const struct vt_terminal *at);
 
 #ifdef __cplusplus
 }

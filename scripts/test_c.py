@@ -18,6 +18,7 @@ import tempfile
 
 sys.dont_write_bytecode = True
 
+from c.dialogs import test_dialogs
 from c.languages import test_other_languages
 from c.live import test_live
 from c.memory import test_memory
@@ -42,6 +43,7 @@ def test_all(tests, folder, cases):
     test_live(tests, programs)
     test_other_languages(tests, folder)
     test_shared(tests, folder)
+    test_dialogs(tests)
 
 
 def main():

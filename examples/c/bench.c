@@ -72,9 +72,10 @@ static size_t hear_all(struct host *host, const struct frames *frames, uint64_t 
     size_t outputs = 0;
     for (size_t i = 0; i < frames->count; i++) {
         const struct frame *frame = &frames->at[i];
-        vt_hear(host->vt, frame->time, frame->id, frame->count, frame->bits);
-        while (vt_next(host->vt) != VT_NONE) {
-            *sum += vt_output_id(host->vt) + vt_output_count(host->vt) + vt_output_data(host->vt);
+        struct vt_out out;
+        vt_hear(host->vt, frame->time, frame->id, frame->data, frame->count);
+        while (vt_take(host->vt, &out) != VT_NONE) {
+            *sum += out.id + out.count + out.data[0];
             outputs++;
         }
     }

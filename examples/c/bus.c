@@ -35,15 +35,13 @@ int open_bus(const char *interface)
     return bind(bus, (struct sockaddr *)&address, sizeof address) < 0 ? -1 : bus;
 }
 
-bool send_on_bus(int bus, const struct frame *frame)
+bool send_on_bus(int bus, const struct vt_out *out)
 {
     struct can_frame raw;
     memset(&raw, 0, sizeof raw);
-    raw.can_id = frame->id | CAN_EFF_FLAG;
-    raw.can_dlc = (uint8_t)frame->count;
-    for (uint32_t i = 0; i < frame->count; i++) {
-        raw.data[i] = (uint8_t)(frame->bits >> 8 * i);
-    }
+    raw.can_id = out->id | CAN_EFF_FLAG;
+    raw.can_dlc = (uint8_t)out->count;
+    memcpy(raw.data, out->data, out->count);
     for (int sends = 0; sends < SENDS; sends++) {
         if (write(bus, &raw, sizeof raw) == (ssize_t)sizeof raw) {
             return true;
@@ -100,10 +98,8 @@ enum bus_read read_from_bus(int bus, struct frame *frame)
     if (recvmsg(bus, &message, 0) != (ssize_t)sizeof raw) {
         return errno == EAGAIN || errno == EINTR ? BUS_EMPTY : BUS_FAULT;
     }
-    struct frame heard = {time_of(&message), raw.can_id & CAN_EFF_MASK, raw.can_dlc, 0};
-    for (uint32_t i = 0; i < heard.count; i++) {
-        heard.bits |= (uint64_t)raw.data[i] << 8 * i;
-    }
+    struct frame heard = {time_of(&message), raw.can_id & CAN_EFF_MASK, raw.can_dlc, {0}};
+    memcpy(heard.data, raw.data, heard.count <= sizeof heard.data ? heard.count : sizeof heard.data);
     *frame = heard;
     return BUS_FRAME;
 }

@@ -41,23 +41,23 @@ struct call {
     size_t count;
 };
 
-static uint32_t make_action(struct vt_terminal *vt, const struct action *action)
+static enum vt_result make_action(struct vt_terminal *vt, uint64_t time, const struct action *action)
 {
     if (action->kind == ACTION_TEXT) {
-        return vt_text(vt, action->id, (const uint8_t *)action->text.at, action->text.count);
+        return vt_text(vt, time, action->id, (const uint8_t *)action->text.at, action->text.count);
     }
-    return vt_act(vt, action->kind, action->id, action->number);
+    return vt_act(vt, time, (enum vt_action)action->kind, action->id, action->number);
 }
 
-static uint32_t make(struct vt_terminal *vt, const struct call *call)
+static enum vt_result make(struct vt_terminal *vt, const struct call *call)
 {
     switch (call->kind) {
     case HEAR:
-        return vt_hear(vt, call->frame->time, call->frame->id, call->frame->count, call->frame->bits);
+        return vt_hear(vt, call->frame->time, call->frame->id, call->frame->data, call->frame->count);
     case TICK:
         return vt_tick(vt, call->time);
     case ACT:
-        return make_action(vt, call->action);
+        return make_action(vt, call->time, call->action);
     case CLAIM:
         return vt_claim(vt);
     case STATUS:
@@ -76,48 +76,51 @@ static void rest(const struct host *host)
     }
 }
 
-/* Makes a call, and makes it again while its memory is refused. */
-static uint32_t try_call(struct host *host, const struct call *call)
+/* Makes a call, and makes it again while its memory is refused. The outputs that the time of an action brought are taken in between. */
+static enum vt_result try_call(struct host *host, const struct call *call)
 {
-    uint32_t result = make(host->vt, call);
+    enum vt_result result = make(host->vt, call);
     for (unsigned tries = 1; result == VT_NO_MEMORY && tries < host->tries; tries++) {
         rest(host);
+        if (call->kind == ACT && host->take != NULL) {
+            host->take(host);
+        }
         result = make(host->vt, call);
     }
     return result;
 }
 
-uint32_t host_preload(struct host *host, uint32_t address, const uint8_t *pool, size_t count)
+enum vt_result host_preload(struct host *host, uint32_t address, const uint8_t *pool, size_t count)
 {
     struct call call = {.kind = PRELOAD, .address = address, .pool = pool, .count = count};
     return try_call(host, &call);
 }
 
-uint32_t host_hear(struct host *host, const struct frame *frame)
+enum vt_result host_hear(struct host *host, const struct frame *frame)
 {
     struct call call = {.kind = HEAR, .frame = frame};
     return try_call(host, &call);
 }
 
-uint32_t host_tick(struct host *host, uint64_t time)
+enum vt_result host_tick(struct host *host, uint64_t time)
 {
     struct call call = {.kind = TICK, .time = time};
     return try_call(host, &call);
 }
 
-uint32_t host_act(struct host *host, const struct action *action)
+enum vt_result host_act(struct host *host, uint64_t time, const struct action *action)
 {
-    struct call call = {.kind = ACT, .action = action};
+    struct call call = {.kind = ACT, .time = time, .action = action};
     return try_call(host, &call);
 }
 
-uint32_t host_claim(struct host *host)
+enum vt_result host_claim(struct host *host)
 {
     struct call call = {.kind = CLAIM};
     return try_call(host, &call);
 }
 
-uint32_t host_status(struct host *host)
+enum vt_result host_status(struct host *host)
 {
     struct call call = {.kind = STATUS};
     return try_call(host, &call);
@@ -125,35 +128,29 @@ uint32_t host_status(struct host *host)
 
 /* ---- outputs */
 
-struct frame host_frame(struct host *host)
-{
-    struct frame frame = {0, vt_output_id(host->vt), vt_output_count(host->vt), vt_output_data(host->vt)};
-    return frame;
-}
-
-const char *host_refusal(struct host *host)
+const char *host_refusal(const struct vt_out *out)
 {
     static const char *const names[] = {"1 NotShown",   "2 Disabled", "3 Range", "4 TooLong", "5 WrongKind",
                                         "6 NotPressed", "7 Held",     "8 Busy",  "9 NoSet"};
-    return names[vt_output_id(host->vt) - 1];
+    return names[out->id - 1];
 }
 
-void print_frame(const struct frame *frame, FILE *out)
+void print_frame(const struct vt_out *out, FILE *file)
 {
-    fprintf(out, "%08X#", (unsigned)frame->id);
-    for (uint32_t i = 0; i < frame->count; i++) {
-        fprintf(out, "%02X", (unsigned)(frame->bits >> 8 * i & 0xFF));
+    fprintf(file, "%08X#", (unsigned)out->id);
+    for (uint32_t i = 0; i < out->count; i++) {
+        fprintf(file, "%02X", out->data[i]);
     }
-    fputc('\n', out);
+    fputc('\n', file);
 }
 
 /* ---- the screen */
 
-/* Makes room for a text, which is read in words of eight bytes. */
+/* Makes room for a text. */
 static bool make_room(struct host *host, size_t count)
 {
     size_t room = 2 * count + 8;
-    if (count + 8 <= host->room) {
+    if (count <= host->room) {
         return true;
     }
     char *screen = realloc(host->screen, room);
@@ -170,21 +167,25 @@ static bool make_room(struct host *host, size_t count)
 /* Draws the screen, and draws it again while its memory is refused. */
 static uint64_t try_screen(struct host *host)
 {
-    uint64_t count = vt_screen(host->vt);
+    uint64_t count = vt_screen(host->vt, (uint8_t *)host->drawn, host->room);
     for (unsigned tries = 1; count == UINT64_MAX && tries < host->tries; tries++) {
         rest(host);
-        count = vt_screen(host->vt);
+        count = vt_screen(host->vt, (uint8_t *)host->drawn, host->room);
     }
     return count;
 }
 
 enum draw host_draw(struct host *host)
 {
+    size_t room = host->room;
     uint64_t count = try_screen(host);
     if (count == UINT64_MAX || !make_room(host, (size_t)count)) {
         return DRAW_NO_MEMORY;
     }
-    vt_copy(host->vt, (uint8_t *)host->drawn, (size_t)count);
+    if (count > room) {
+        /* The room was too small: the text is still there, and is copied again. */
+        vt_copy(host->vt, (uint8_t *)host->drawn, (size_t)count);
+    }
     if (count == host->count && memcmp(host->drawn, host->screen, host->count) == 0) {
         return DRAW_SAME;
     }

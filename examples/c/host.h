@@ -15,6 +15,7 @@ struct host {
     char *drawn;    /* room for the next one */
     size_t count;   /* the bytes of `screen` */
     size_t room;    /* the bytes that `screen` and `drawn` have room for */
+    void (*take)(struct host *host); /* takes the outputs that wait before an action is tried again, or null */
 };
 
 /* What a draw gave. */
@@ -26,24 +27,21 @@ bool host_begin(struct host *host, uint32_t own, uint64_t name);
 /* Ends the terminal. */
 void host_end(struct host *host);
 
-/* Calls that are made again while their memory is refused. They return an enum vt_result. */
-uint32_t host_preload(struct host *host, uint32_t address, const uint8_t *pool, size_t count);
-uint32_t host_hear(struct host *host, const struct frame *frame);
-uint32_t host_tick(struct host *host, uint64_t time);
-uint32_t host_act(struct host *host, const struct action *action);
-uint32_t host_claim(struct host *host);
-uint32_t host_status(struct host *host);
+/* Calls that are made again while their memory is refused. */
+enum vt_result host_preload(struct host *host, uint32_t address, const uint8_t *pool, size_t count);
+enum vt_result host_hear(struct host *host, const struct frame *frame);
+enum vt_result host_tick(struct host *host, uint64_t time);
+enum vt_result host_act(struct host *host, uint64_t time, const struct action *action);
+enum vt_result host_claim(struct host *host);
+enum vt_result host_status(struct host *host);
 
-/* Takes the frame that was put out last. */
-struct frame host_frame(struct host *host);
-
-/* The number and the name of the refusal that was put out last. */
-const char *host_refusal(struct host *host);
+/* The number and the name of a refusal. */
+const char *host_refusal(const struct vt_out *out);
 
 /* Draws the screen, and tells whether its text is another than the one drawn before. */
 enum draw host_draw(struct host *host);
 
-/* Prints a frame as `ID#HEX` and a newline. */
-void print_frame(const struct frame *frame, FILE *out);
+/* Prints a frame that was put out as `ID#HEX` and a newline. */
+void print_frame(const struct vt_out *out, FILE *file);
 
 #endif

@@ -240,7 +240,7 @@ static struct line read_data(uint32_t id, struct span data)
     line.frame.count = (uint32_t)(data.count / 2);
     for (uint32_t i = 0; i < line.frame.count; i++) {
         struct span pair = {data.at + 2 * i, 2};
-        line.frame.bits |= hex_number(pair) << 8 * i;
+        line.frame.data[i] = (uint8_t)hex_number(pair);
     }
     return line;
 }

@@ -16,7 +16,7 @@ struct frame {
     uint64_t time; /* in microseconds */
     uint32_t id;
     uint32_t count;
-    uint64_t bits; /* the data bytes, the first in the lowest byte */
+    uint8_t data[8];
 };
 
 /* The kind of an action is one of enum vt_action, or ACTION_TEXT. */

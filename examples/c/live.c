@@ -3,8 +3,8 @@
  *     live INTERFACE [--own AA] [--name N]     on an interface of SocketCAN, such as can0
  *     live --pipe [--own AA] [--name N]        over the standard input and output
  *
- * It claims its address, hears each frame with the time at which it was received, tells the terminal the time before each action of the
- * operator and when that has something to do, repeats the status each second, and prints each new screen. It ends with status 1 when
+ * It claims its address, hears each frame with the time at which it was received, does each action of the operator at its time, tells the
+ * terminal the time when that has something to do, repeats the status each second, and prints each new screen. It ends with status 1 when
  * another node takes its address.
  *
  * All frames that wait are heard before the time is told: a program that stood still for some seconds would otherwise close sets that
@@ -60,11 +60,11 @@ struct live {
 
 /* ---- what comes of an input */
 
-static void send_frame(struct live *live, const struct frame *frame)
+static void send_frame(struct live *live, const struct vt_out *out)
 {
     if (live->is_piped) {
-        print_frame(frame, stdout);
-    } else if (!send_on_bus(live->bus, frame)) {
+        print_frame(out, stdout);
+    } else if (!send_on_bus(live->bus, out)) {
         live->fault = "a frame could not be sent";
     }
 }
@@ -72,14 +72,13 @@ static void send_frame(struct live *live, const struct frame *frame)
 /* Sends the frames that the last input put out, and prints its refusals. */
 static void take_outputs(struct live *live)
 {
-    uint32_t kind;
-    while ((kind = vt_next(live->host.vt)) != VT_NONE) {
-        if (kind == VT_REFUSED) {
-            fprintf(live->people, "operator %s\n", host_refusal(&live->host));
-            continue;
+    struct vt_out out;
+    while (vt_take(live->host.vt, &out) != VT_NONE) {
+        if (out.kind == VT_REFUSED) {
+            fprintf(live->people, "operator %s\n", host_refusal(&out));
+        } else {
+            send_frame(live, &out);
         }
-        struct frame frame = host_frame(&live->host);
-        send_frame(live, &frame);
     }
     if (live->is_piped && fflush(stdout) != 0) {
         live->fault = "a frame could not be written";
@@ -100,8 +99,14 @@ static void print_screen(struct live *live)
     }
 }
 
-/* Takes what came of an input. Its result is an enum vt_result. An input without memory is left out. */
-static void end_input(struct live *live, uint32_t result)
+/* The same for the host, which is the first member. */
+static void take_for_host(struct host *host)
+{
+    take_outputs((struct live *)host);
+}
+
+/* Takes what came of an input. An input without memory is left out. */
+static void end_input(struct live *live, enum vt_result result)
 {
     if (result == VT_NO_MEMORY) {
         fprintf(live->people, "the memory for an input was refused %d times\n", TRIES);
@@ -153,7 +158,7 @@ static void hear_bus(struct live *live)
 /* Tells the terminal the time. Where memory is refused for that, it is told again some time later. */
 static void tick(struct live *live, uint64_t time)
 {
-    uint32_t result = host_tick(&live->host, time);
+    enum vt_result result = host_tick(&live->host, time);
     live->next_tick = time + TICK_PAUSE;
     end_input(live, result);
 }
@@ -164,11 +169,11 @@ static void release_held(struct live *live)
     struct vt_active_ids active;
     if (vt_active(live->host.vt, vt_shown(live->host.vt), &active) == VT_DONE && active.key != VT_NO_ID) {
         struct action release = {.kind = VT_RELEASE, .id = active.key};
-        end_input(live, host_act(&live->host, &release));
+        end_input(live, host_act(&live->host, time_now(), &release));
     }
 }
 
-/* Takes a line of the operator. The action happens now: a session that it begins would time out at once at an earlier time. */
+/* Takes a line of the operator. The action happens now. */
 static void take_action(struct live *live, struct span text)
 {
     struct action action;
@@ -176,12 +181,11 @@ static void take_action(struct live *live, struct span text)
         fprintf(live->people, "this is no action: %.*s\n", (int)text.count, text.at);
         return;
     }
-    tick(live, time_now());
-    if (action.kind == VT_SET && live->fault == NULL) {
+    if (action.kind == VT_SET) {
         release_held(live);
     }
     if (live->fault == NULL) {
-        end_input(live, host_act(&live->host, &action));
+        end_input(live, host_act(&live->host, time_now(), &action));
     }
 }
 
@@ -385,6 +389,7 @@ int main(int count, char **all)
     if (!host_begin(&live.host, options.own, options.name)) {
         return fault("the terminal", "its memory was refused");
     }
+    live.host.take = take_for_host;
     live.host.tries = TRIES;
     live.host.pause = PAUSE;
     signal(SIGPIPE, SIG_IGN);

@@ -161,14 +161,13 @@ struct replay {
 /* Prints the outputs of the last input. */
 static void print_outputs(struct host *host)
 {
-    uint32_t kind;
-    while ((kind = vt_next(host->vt)) != VT_NONE) {
-        if (kind == VT_REFUSED) {
-            printf("operator %s\n", host_refusal(host));
-            continue;
+    struct vt_out out;
+    while (vt_take(host->vt, &out) != VT_NONE) {
+        if (out.kind == VT_REFUSED) {
+            printf("operator %s\n", host_refusal(&out));
+        } else {
+            print_frame(&out, stdout);
         }
-        struct frame frame = host_frame(host);
-        print_frame(&frame, stdout);
     }
 }
 
@@ -185,8 +184,8 @@ static bool print_screen(struct replay *replay)
     return true;
 }
 
-/* Prints what came of an input. Its result is an enum vt_result. */
-static bool end_input(struct replay *replay, uint32_t result)
+/* Prints what came of an input. */
+static bool end_input(struct replay *replay, enum vt_result result)
 {
     if (result != VT_DONE) {
         replay->fault = result == VT_NO_MEMORY ? "the memory for an input was refused" : "an input was refused";
@@ -207,7 +206,7 @@ static bool take_line(struct replay *replay, struct span text)
         return end_input(replay, host_hear(&replay->host, &line.frame));
     case LINE_OPERATOR:
         counts->operator++;
-        return end_input(replay, host_act(&replay->host, &line.action));
+        return end_input(replay, host_act(&replay->host, VT_LATEST, &line.action));
     case LINE_SKIPPED:
         counts->skipped++;
         return true;
@@ -298,7 +297,7 @@ static const char *preload(struct replay *replay, const struct options *options)
     if (pool == NULL) {
         return "the file could not be read";
     }
-    uint32_t result = host_preload(&replay->host, options->owner, pool, count);
+    enum vt_result result = host_preload(&replay->host, options->owner, pool, count);
     free(pool);
     switch (result) {
     case VT_DONE:

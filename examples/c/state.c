@@ -22,15 +22,15 @@ static int fault(const char *about, const char *what)
 
 /* ---- the log */
 
-static uint32_t take_line(struct host *host, struct span text)
+static enum vt_result take_line(struct host *host, struct span text)
 {
     struct line line = read_line(text);
-    uint32_t result = VT_DONE;
+    enum vt_result result = VT_DONE;
 
     if (line.kind == LINE_FRAME) {
         result = host_hear(host, &line.frame);
     } else if (line.kind == LINE_OPERATOR) {
-        result = host_act(host, &line.action);
+        result = host_act(host, VT_LATEST, &line.action);
     }
     while (vt_next(host->vt) != VT_NONE) {
     }

@@ -12,21 +12,21 @@ static uint64_t at = 1000000;
 
 static void print_outputs(void)
 {
-    while (vt_next(vt) != VT_NONE) {
-        uint64_t bits = vt_output_data(vt);
-        printf("  %08X#", (unsigned)vt_output_id(vt));
-        for (uint32_t i = 0; i < vt_output_count(vt); i++) {
-            printf("%02X", (unsigned)(bits >> 8 * i & 0xFF));
+    struct vt_out out;
+    while (vt_take(vt, &out) != VT_NONE) {
+        printf("  %08X#", (unsigned)out.id);
+        for (uint32_t i = 0; i < out.count; i++) {
+            printf("%02X", out.data[i]);
         }
         printf("\n");
     }
 }
 
 /* Hears a frame one millisecond after the last one. */
-static uint32_t hear(uint32_t id, uint32_t count, uint64_t bits)
+static enum vt_result hear(uint32_t id, uint32_t count, uint64_t bits)
 {
     at += 1000;
-    return vt_hear(vt, at, id, count, bits);
+    return vt_hear_bits(vt, at, id, count, bits);
 }
 
 /* Hears a frame of eight bytes, and prints what comes of it. */
@@ -78,9 +78,10 @@ static void push_on(void)
 
 static void print_screen(void)
 {
-    uint64_t count = vt_screen(vt);
-    for (uint64_t i = 0; i < count && count != UINT64_MAX; i++) {
-        printf("%c", (char)(vt_screen_word(vt, i) & 0xFF));
+    static uint8_t text[4096];
+    uint64_t count = vt_screen(vt, text, sizeof text);
+    if (count <= sizeof text) {
+        fwrite(text, 1, (size_t)count, stdout);
     }
 }
 

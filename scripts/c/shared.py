@@ -24,7 +24,7 @@ def check_shared():
     made(MAKER)
     exported = {line.split()[-1] for line in made(['nm', '-D', '--defined-only', SHARED]).splitlines()}
     texts = [re.sub(r'/\*.*?\*/', '', read(f'{HEADERS}/{name}').decode(), flags=re.S) for name in ('vt_terminal.h', 'vt_check.h')]
-    declared = set(re.findall(r'^(?:VT_INLINE )?(?:size_t|void|enum vt_result|uint32_t|uint64_t) (vt_\w+)\(', '\n'.join(texts), re.M))
+    declared = set(re.findall(r'^(?:VT_INLINE )?(?:size_t|void|enum vt_result|enum vt_output|uint32_t|uint64_t) (vt_\w+)\(', '\n'.join(texts), re.M))
     expect(exported == declared, f'only exported: {sorted(exported - declared)}, only declared: {sorted(declared - exported)}')
     dynamic = made(['readelf', '-d', SHARED])
     expect(re.findall(r'NEEDED.*\[(.*)\]', dynamic) == ['libc.so.6'] and 'TEXTREL' not in dynamic, dynamic)
@@ -32,7 +32,7 @@ def check_shared():
 
 
 class Profile(ctypes.Structure):
-    _fields_ = [('memory', ctypes.c_uint32), *((f'byte_{k}', ctypes.c_uint8) for k in range(10)), ('width', ctypes.c_uint16),
+    _fields_ = [('size', ctypes.c_uint32), ('memory', ctypes.c_uint32), *((f'byte_{k}', ctypes.c_uint8) for k in range(10)), ('width', ctypes.c_uint16),
                 ('height', ctypes.c_uint16)]
 
 
@@ -44,13 +44,12 @@ def check_ctypes():
         getattr(library, name).restype = ctypes.c_uint64
     memory = ctypes.create_string_buffer(library.vt_size() + 16)
     at = ctypes.c_void_p((ctypes.addressof(memory) + 15) // 16 * 16)
-    profile = Profile(1048576, 64, 64, 64, 6, 0x7F, 0x7F, 0, 0, 2, 0, 480, 480)
+    profile = Profile(ctypes.sizeof(Profile), 1048576, 64, 64, 64, 6, 0x7F, 0x7F, 0, 0, 2, 0, 480, 480)
     expect(library.vt_begin(at, 0x26, ctypes.c_uint64(0x20001D0000000001), ctypes.byref(profile)) == 0, 'vt_begin fails')
     pool = read(f'{EXAMPLES}/pool.iop')
     expect(library.vt_preload(at, 0x80, pool, ctypes.c_size_t(len(pool))) == 0, 'vt_preload fails')
     buffer = ctypes.create_string_buffer(65536)
-    count = library.vt_screen(at)
-    library.vt_copy(at, buffer, ctypes.c_size_t(count))
+    count = library.vt_screen(at, buffer, ctypes.c_size_t(len(buffer)))
     expect(buffer.raw[:count] == b'screen 80 mask 1000\ncontainer 100 10 5 50x20\n', f'the screen is {buffer.raw[:count]}')
     count = library.vt_picture(at, 0x80, 65535, buffer, ctypes.c_size_t(len(buffer)))
     expect(buffer.raw[:count].startswith(b'<svg ') and b'data-id="100"' in buffer.raw[:count], f'the picture is {buffer.raw[:80]}')

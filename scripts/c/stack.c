@@ -32,21 +32,21 @@ static void preload(void)
 
 static void hear(void)
 {
-    result = vt_hear(vt, line.frame.time, line.frame.id, line.frame.count, line.frame.bits);
+    result = vt_hear(vt, line.frame.time, line.frame.id, line.frame.data, line.frame.count);
 }
 
 static void act(void)
 {
     if (line.action.kind == ACTION_TEXT) {
-        result = vt_text(vt, line.action.id, (const uint8_t *)line.action.text.at, line.action.text.count);
+        result = vt_text(vt, VT_LATEST, line.action.id, (const uint8_t *)line.action.text.at, line.action.text.count);
     } else {
-        result = vt_act(vt, line.action.kind, line.action.id, line.action.number);
+        result = vt_act(vt, VT_LATEST, (enum vt_action)line.action.kind, line.action.id, line.action.number);
     }
 }
 
 static void screen(void)
 {
-    result = vt_screen(vt);
+    result = vt_screen(vt, NULL, 0);
 }
 
 /* Reads what a display reads of the shown set. */

@@ -22,7 +22,7 @@ def check_needed():
 
 def check_defined():
     header = re.sub(r'/\*.*?\*/', '', read(f'{HEADERS}/vt_terminal.h').decode(), flags=re.S)
-    declared = set(re.findall(r'^(?:size_t|void|uint32_t|uint64_t) (vt_\w+)\(', header, re.M))
+    declared = set(re.findall(r'^(?:size_t|void|enum vt_result|enum vt_output|uint32_t|uint64_t) (vt_\w+)\(', header, re.M))
     defined = {words[2] for words in nm('--defined-only', '--extern-only')}
     expect(defined == declared, f'only declared: {sorted(declared - defined)}, only defined: {sorted(defined - declared)}')
     return f'{len(defined)} functions'

@@ -1,8 +1,8 @@
 //! An ISOBUS virtual terminal (ISO 11783-6): the display in a tractor cab that runs the screens an implement uploads to it.
 //!
 //! A [`Terminal`] takes frames of the bus, the time and actions of the operator, and gives the frames to send, the refusals to the
-//! operator, the screen as text, each object as it is now, and pictures of masks. It has no thread, no file and no clock. It is the proved library `libvt_terminal.a` behind safe
-//! calls; `docs/EMBEDDING.md` of the repository explains it.
+//! operator, the screen as text, each object as it is now, pictures of masks, and what the dialogs of inputs need. It has no thread, no
+//! file and no clock. It is the proved library `libvt_terminal.a` behind safe calls; `docs/EMBEDDING.md` of the repository explains it.
 //!
 //! ```
 //! use segyolant::{Frame, Output, Terminal};
@@ -35,6 +35,7 @@
 mod element;
 mod error;
 mod frame;
+mod limits;
 mod output;
 mod profile;
 #[allow(unsafe_code)]
@@ -45,7 +46,8 @@ mod terminal;
 pub use element::{Bounds, Element};
 pub use error::Error;
 pub use frame::Frame;
+pub use limits::Limits;
 pub use output::{Output, Outputs, Refusal};
 pub use profile::Profile;
 pub use set::{Active, Set};
-pub use terminal::Terminal;
+pub use terminal::{Terminal, LATEST};

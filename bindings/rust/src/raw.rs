@@ -47,11 +47,17 @@ extern "C" {
         size: u32,
     );
     fn vt_done(at: *mut VtTerminal);
-    fn vt_preload(at: *mut VtTerminal, address: u32, pool: *const u8, count: usize) -> u32;
-    fn vt_hear(at: *mut VtTerminal, time: u64, id: u32, count: u32, bits: u64) -> u32;
+    fn vt_preload_bytes(at: *mut VtTerminal, address: u32, pool: *const u8, count: usize) -> u32;
+    fn vt_hear_bits(at: *mut VtTerminal, time: u64, id: u32, count: u32, bits: u64) -> u32;
     fn vt_tick(at: *mut VtTerminal, time: u64) -> u32;
-    fn vt_act(at: *mut VtTerminal, kind: u32, id: u32, number: u32) -> u32;
-    fn vt_text(at: *mut VtTerminal, id: u32, text: *const u8, count: usize) -> u32;
+    fn vt_act(at: *mut VtTerminal, time: u64, kind: u32, id: u32, number: u32) -> u32;
+    fn vt_text_bytes(
+        at: *mut VtTerminal,
+        time: u64,
+        id: u32,
+        text: *const u8,
+        count: usize,
+    ) -> u32;
     fn vt_claim(at: *mut VtTerminal) -> u32;
     fn vt_status(at: *mut VtTerminal) -> u32;
     fn vt_next(at: *mut VtTerminal) -> u32;
@@ -59,7 +65,7 @@ extern "C" {
     fn vt_output_count(at: *mut VtTerminal) -> u32;
     fn vt_output_data(at: *mut VtTerminal) -> u64;
     fn vt_redraws(at: *mut VtTerminal) -> u32;
-    fn vt_screen(at: *mut VtTerminal) -> u64;
+    fn vt_text_of_screen(at: *mut VtTerminal) -> u64;
     fn vt_screen_word(at: *mut VtTerminal, index: u64) -> u64;
     fn vt_text_of_sets(at: *mut VtTerminal) -> u64;
     fn vt_text_of_elements(at: *mut VtTerminal) -> u64;
@@ -68,6 +74,17 @@ extern "C" {
     fn vt_has_pool(at: *mut VtTerminal, address: u32) -> u64;
     fn vt_text_of_object(at: *mut VtTerminal, address: u32, id: u32) -> u64;
     fn vt_text_of_picture(at: *mut VtTerminal, address: u32, mask: u32) -> u64;
+    fn vt_look(at: *mut VtTerminal) -> u64;
+    fn vt_text_of_limits(at: *mut VtTerminal, address: u32, id: u32) -> u64;
+    fn vt_text_of_value(at: *mut VtTerminal, address: u32, id: u32) -> u64;
+    fn vt_raw_of(
+        at: *mut VtTerminal,
+        address: u32,
+        id: u32,
+        sign: u32,
+        digits: u64,
+        decimals: u32,
+    ) -> u64;
     fn vt_shown(at: *mut VtTerminal) -> u32;
     fn vt_lost(at: *mut VtTerminal) -> u32;
     fn vt_deadline(at: *mut VtTerminal) -> u64;
@@ -127,7 +144,7 @@ impl Handle {
     pub(crate) fn preload(&mut self, address: u8, pool: &[u8]) -> u32 {
         // SAFETY: `at` is a terminal, lent alone; the slice is readable for its length during the call, and its pointer is not null.
         unsafe {
-            vt_preload(
+            vt_preload_bytes(
                 self.at.as_ptr(),
                 u32::from(address),
                 pool.as_ptr(),
@@ -138,7 +155,7 @@ impl Handle {
 
     pub(crate) fn hear(&mut self, time: u64, id: u32, count: u32, bits: u64) -> u32 {
         // SAFETY: `at` is a terminal, lent alone.
-        unsafe { vt_hear(self.at.as_ptr(), time, id, count, bits) }
+        unsafe { vt_hear_bits(self.at.as_ptr(), time, id, count, bits) }
     }
 
     pub(crate) fn tick(&mut self, time: u64) -> u32 {
@@ -146,14 +163,30 @@ impl Handle {
         unsafe { vt_tick(self.at.as_ptr(), time) }
     }
 
-    pub(crate) fn act(&mut self, action: Action, id: u16, number: u32) -> u32 {
+    pub(crate) fn act(&mut self, time: u64, action: Action, id: u16, number: u32) -> u32 {
         // SAFETY: `at` is a terminal, lent alone.
-        unsafe { vt_act(self.at.as_ptr(), action as u32, u32::from(id), number) }
+        unsafe {
+            vt_act(
+                self.at.as_ptr(),
+                time,
+                action as u32,
+                u32::from(id),
+                number,
+            )
+        }
     }
 
-    pub(crate) fn text(&mut self, id: u16, text: &[u8]) -> u32 {
+    pub(crate) fn text(&mut self, time: u64, id: u16, text: &[u8]) -> u32 {
         // SAFETY: `at` is a terminal, lent alone; the slice is readable for its length during the call, and its pointer is not null.
-        unsafe { vt_text(self.at.as_ptr(), u32::from(id), text.as_ptr(), text.len()) }
+        unsafe {
+            vt_text_bytes(
+                self.at.as_ptr(),
+                time,
+                u32::from(id),
+                text.as_ptr(),
+                text.len(),
+            )
+        }
     }
 
     pub(crate) fn claim(&mut self) -> u32 {
@@ -194,10 +227,15 @@ impl Handle {
         unsafe { vt_redraws(self.at.as_ptr()) != 0 }
     }
 
+    pub(crate) fn look(&self) -> u64 {
+        // SAFETY: `at` is a terminal, which no other thread uses, since `Handle` is not `Sync`.
+        unsafe { vt_look(self.at.as_ptr()) }
+    }
+
     /// Draws the screen and returns the number of its bytes, or `u64::MAX`.
     pub(crate) fn screen(&mut self) -> u64 {
         // SAFETY: `at` is a terminal, lent alone.
-        unsafe { vt_screen(self.at.as_ptr()) }
+        unsafe { vt_text_of_screen(self.at.as_ptr()) }
     }
 
     /// Eight bytes of the text written last, from an index on.
@@ -246,6 +284,40 @@ impl Handle {
     pub(crate) fn picture(&mut self, address: u8, mask: u16) -> u64 {
         // SAFETY: `at` is a terminal, lent alone.
         unsafe { vt_text_of_picture(self.at.as_ptr(), u32::from(address), u32::from(mask)) }
+    }
+
+    /// Writes the limits of an input and returns the number of their bytes, 24 or 0, or `u64::MAX`.
+    pub(crate) fn limits(&mut self, address: u8, id: u16) -> u64 {
+        // SAFETY: `at` is a terminal, lent alone.
+        unsafe { vt_text_of_limits(self.at.as_ptr(), u32::from(address), u32::from(id)) }
+    }
+
+    /// Writes the text of a field and returns the number of its bytes, or `u64::MAX`.
+    pub(crate) fn value_text(&mut self, address: u8, id: u16) -> u64 {
+        // SAFETY: `at` is a terminal, lent alone.
+        unsafe { vt_text_of_value(self.at.as_ptr(), u32::from(address), u32::from(id)) }
+    }
+
+    /// The raw value of a typed number, or `u64::MAX`.
+    pub(crate) fn raw(
+        &self,
+        address: u8,
+        id: u16,
+        is_negative: bool,
+        digits: u64,
+        decimals: u32,
+    ) -> u64 {
+        // SAFETY: `at` is a terminal, which no other thread uses, since `Handle` is not `Sync`.
+        unsafe {
+            vt_raw_of(
+                self.at.as_ptr(),
+                u32::from(address),
+                u32::from(id),
+                u32::from(is_negative),
+                digits,
+                decimals,
+            )
+        }
     }
 
     pub(crate) fn shown(&self) -> u32 {

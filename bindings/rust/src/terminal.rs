@@ -1,12 +1,14 @@
 use crate::raw::{status, Action, Handle};
 use crate::set::NO_ID;
-use crate::{Active, Element, Error, Frame, Outputs, Profile, Set};
+use crate::{Active, Element, Error, Frame, Limits, Outputs, Profile, Set};
+
+/// As the time of an action: the latest time so far, as an operator's line in a log has it. Nothing times out for it.
+pub const LATEST: u64 = u64::MAX;
 
 /// An ISOBUS virtual terminal: its working sets, their object pools, and the screen of the shown set.
 ///
 /// Each input returns its [`Outputs`], to be sent and shown at once. Times are in microseconds of one monotonic clock. Time never
-/// goes back: an earlier time counts as the latest one. Actions of the operator happen at the latest time: a host calls
-/// [`tick`](Terminal::tick) before them.
+/// goes back: an earlier time counts as the latest one.
 ///
 /// A terminal may be moved to another thread, and is used by one at a time:
 ///
@@ -56,6 +58,9 @@ impl Terminal {
     }
 
     // ---- inputs
+    //
+    // Each has its time, in microseconds of a monotonic clock. An action of the operator moves the time on first, as `tick` does, unless its
+    // time is `LATEST`. After `Error::OutOfMemory` of an action the time may have moved on: `waiting` has what that brought.
 
     /// Hears a frame of the bus, with the time of its reception.
     pub fn hear(&mut self, time: u64, frame: &Frame) -> Result<Outputs<'_>, Error> {
@@ -72,34 +77,39 @@ impl Terminal {
     }
 
     /// The operator presses a soft key or a button (ISO 11783-6, Soft Key Activation, Button Activation).
-    pub fn press(&mut self, id: u16) -> Result<Outputs<'_>, Error> {
-        self.act(Action::Press, id, 0)
+    pub fn press(&mut self, time: u64, id: u16) -> Result<Outputs<'_>, Error> {
+        self.act(time, Action::Press, id, 0)
     }
 
     /// The operator releases the key or button held.
-    pub fn release(&mut self, id: u16) -> Result<Outputs<'_>, Error> {
-        self.act(Action::Release, id, 0)
+    pub fn release(&mut self, time: u64, id: u16) -> Result<Outputs<'_>, Error> {
+        self.act(time, Action::Release, id, 0)
     }
 
     /// The operator selects an input. No message is sent.
-    pub fn select(&mut self, id: u16) -> Result<Outputs<'_>, Error> {
-        self.act(Action::Select, id, 0)
+    pub fn select(&mut self, time: u64, id: u16) -> Result<Outputs<'_>, Error> {
+        self.act(time, Action::Select, id, 0)
     }
 
     /// The operator enters a number: the raw value, without offset and scale (ISO 11783-6, VT Change Numeric Value).
-    pub fn number(&mut self, id: u16, value: u32) -> Result<Outputs<'_>, Error> {
-        self.act(Action::Number, id, value)
+    pub fn number(&mut self, time: u64, id: u16, value: u32) -> Result<Outputs<'_>, Error> {
+        self.act(time, Action::Number, id, value)
     }
 
     /// The operator enters a text, one byte a character (ISO 11783-6, VT Change String Value). The bytes are not kept.
-    pub fn text(&mut self, id: u16, text: &[u8]) -> Result<Outputs<'_>, Error> {
-        let status = self.ready().text(id, text);
+    pub fn text(&mut self, time: u64, id: u16, text: &[u8]) -> Result<Outputs<'_>, Error> {
+        let status = self.ready().text(time, id, text);
         self.outputs(status)
     }
 
     /// The operator chooses the working set at an address. While an alarm of another set is shown, that stays shown.
-    pub fn set(&mut self, address: u8) -> Result<Outputs<'_>, Error> {
-        self.act(Action::Set, 0, u32::from(address))
+    pub fn set(&mut self, time: u64, address: u8) -> Result<Outputs<'_>, Error> {
+        self.act(time, Action::Set, 0, u32::from(address))
+    }
+
+    /// The outputs that wait after [`Error::OutOfMemory`] of an action: those that its time brought. The next input drops them.
+    pub fn waiting(&mut self) -> Outputs<'_> {
+        Outputs::new(&mut self.handle)
     }
 
     // ---- what a host sends by itself
@@ -119,7 +129,14 @@ impl Terminal {
 
     // ---- the screen
 
-    /// Whether the screen may differ from the one before the last input. A host asks after each input.
+    /// A number that is another one after each call that may have changed the picture of the shown set, its colours and fonts among it.
+    /// While it stays, [`picture`](Terminal::picture) and [`elements`](Terminal::elements) give the same of the shown set.
+    pub fn look(&self) -> u64 {
+        self.handle.look()
+    }
+
+    /// Whether the text of the screen may differ from the one before the last input. A host asks after each input. One that paints masks
+    /// asks [`look`](Terminal::look).
     pub fn redraws(&self) -> bool {
         self.handle.redraws()
     }
@@ -174,6 +191,44 @@ impl Terminal {
         Ok(Some(id).filter(|id| *id != NO_ID))
     }
 
+    // ---- dialogs
+
+    /// What an input of the set at an address accepts, and how its number is shown, or `None` if there is no such input. The only error
+    /// is [`Error::OutOfMemory`].
+    pub fn limits(&mut self, address: u8, id: u16) -> Result<Option<Limits>, Error> {
+        let count = self.handle.limits(address, id);
+        Ok(Limits::from_bytes(&self.written(count)?))
+    }
+
+    /// The text of an input or output field of the set at an address, as the terminal shows it: a number with its offset, scale and
+    /// decimals, or the whole text of a string in the bytes of its font. Empty for another object. The only error is
+    /// [`Error::OutOfMemory`].
+    pub fn value_text(&mut self, address: u8, id: u16) -> Result<Vec<u8>, Error> {
+        let count = self.handle.value_text(address, id);
+        self.written(count)
+    }
+
+    /// The raw value, for [`number`](Terminal::number), of what the operator typed for an Input Number of the set at an address,
+    /// exactly: an optional minus, digits, and perhaps a point and more digits, 15 digits at most. `None` if there is no such value of
+    /// 32 bits; it may still be outside the limits.
+    pub fn raw(&self, address: u8, id: u16, typed: &str) -> Option<u32> {
+        let (is_negative, rest) = match typed.strip_prefix('-') {
+            Some(rest) => (true, rest),
+            None => (false, typed),
+        };
+        let (whole, behind) = rest.split_once('.').unwrap_or((rest, ""));
+        let digits = format!("{whole}{behind}");
+        let is_number = !whole.is_empty() && digits.bytes().all(|byte| byte.is_ascii_digit());
+        if !is_number || digits.len() > 15 {
+            return None;
+        }
+        let decimals = behind.len() as u32;
+        let raw = self
+            .handle
+            .raw(address, id, is_negative, digits.parse().ok()?, decimals);
+        u32::try_from(raw).ok()
+    }
+
     // ---- what a host asks
 
     /// The address of the shown working set, if one is shown.
@@ -197,8 +252,14 @@ impl Terminal {
 
     // ----
 
-    fn act(&mut self, action: Action, id: u16, number: u32) -> Result<Outputs<'_>, Error> {
-        let status = self.ready().act(action, id, number);
+    fn act(
+        &mut self,
+        time: u64,
+        action: Action,
+        id: u16,
+        number: u32,
+    ) -> Result<Outputs<'_>, Error> {
+        let status = self.ready().act(time, action, id, number);
         self.outputs(status)
     }
 
@@ -349,15 +410,15 @@ mod tests {
     fn refused_actions_come_as_outputs() {
         let mut terminal = terminal();
         let refused = |refusal| [Output::Refused(refusal)];
-        assert_eq!(all(terminal.press(1)), refused(Refusal::NoSet));
+        assert_eq!(all(terminal.press(LATEST, 1)), refused(Refusal::NoSet));
         terminal.preload(0x80, &pool()).unwrap();
-        assert_eq!(all(terminal.press(1)), refused(Refusal::NotShown));
-        assert_eq!(all(terminal.release(1)), refused(Refusal::NotPressed));
-        assert_eq!(all(terminal.select(100)), refused(Refusal::WrongKind));
-        assert_eq!(all(terminal.number(100, 7)), refused(Refusal::WrongKind));
-        assert_eq!(all(terminal.text(100, b"")), refused(Refusal::WrongKind));
-        assert_eq!(all(terminal.set(0x81)), refused(Refusal::NoSet));
-        assert_eq!(all(terminal.set(0x80)), []);
+        assert_eq!(all(terminal.press(LATEST, 1)), refused(Refusal::NotShown));
+        assert_eq!(all(terminal.release(LATEST, 1)), refused(Refusal::NotPressed));
+        assert_eq!(all(terminal.select(LATEST, 100)), refused(Refusal::WrongKind));
+        assert_eq!(all(terminal.number(LATEST, 100, 7)), refused(Refusal::WrongKind));
+        assert_eq!(all(terminal.text(LATEST, 100, b"")), refused(Refusal::WrongKind));
+        assert_eq!(all(terminal.set(LATEST, 0x81)), refused(Refusal::NoSet));
+        assert_eq!(all(terminal.set(LATEST, 0x80)), []);
     }
 
     #[test]
@@ -384,7 +445,7 @@ mod tests {
         assert!(terminal.lost());
         assert_eq!(all(terminal.status()), []);
         assert_eq!(all(terminal.claim()), []);
-        assert_eq!(all(terminal.press(1)), []);
+        assert_eq!(all(terminal.press(LATEST, 1)), []);
         assert_eq!(terminal.own(), 0x26);
     }
 

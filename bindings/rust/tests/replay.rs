@@ -1,6 +1,6 @@
 //! Replays the logs of `examples/` and compares the text with what the tests expect of the program (`tests/vt_replay/examples.run`).
 
-use segyolant::{Error, Frame, Output, Outputs, Terminal};
+use segyolant::{Error, Frame, Output, Outputs, Terminal, LATEST};
 use std::fmt::Write;
 use std::fs;
 use std::path::PathBuf;
@@ -51,16 +51,16 @@ fn take<'a>(terminal: &'a mut Terminal, line: &str) -> Option<Result<Outputs<'a>
     };
     let (action, rest) = words.split_once(' ')?;
     if action == "set" {
-        return Some(terminal.set(u8::from_str_radix(rest, 16).ok()?));
+        return Some(terminal.set(LATEST, u8::from_str_radix(rest, 16).ok()?));
     }
     let (id, value) = rest.split_once(' ').unwrap_or((rest, ""));
     let id = id.parse().ok()?;
     Some(match action {
-        "press" => terminal.press(id),
-        "release" => terminal.release(id),
-        "select" => terminal.select(id),
-        "number" => terminal.number(id, value.parse().ok()?),
-        "text" => terminal.text(id, value.as_bytes()),
+        "press" => terminal.press(LATEST, id),
+        "release" => terminal.release(LATEST, id),
+        "select" => terminal.select(LATEST, id),
+        "number" => terminal.number(LATEST, id, value.parse().ok()?),
+        "text" => terminal.text(LATEST, id, value.as_bytes()),
         _ => return None,
     })
 }
