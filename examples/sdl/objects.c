@@ -1,0 +1,116 @@
+#include "objects.h"
+#include <stdlib.h>
+
+/* Gives a record room for some bytes. */
+static bool make_room(struct record *record, uint64_t count)
+{
+    if (count <= record->room) {
+        return true;
+    }
+    uint8_t *more = count < SIZE_MAX ? realloc(record->bytes, (size_t)count) : NULL;
+    if (more == NULL) {
+        return false;
+    }
+    record->bytes = more;
+    record->room = (size_t)count;
+    return true;
+}
+
+/* Reads the record of an object. The first call fills the room that there is, and a second one is made if that was too small. */
+static const uint8_t *read_record(struct objects *objects, uint32_t id, struct record *record)
+{
+    uint64_t count = vt_object(objects->vt, objects->set, id, record->bytes, record->room);
+    if (count != UINT64_MAX && count > record->room) {
+        if (!make_room(record, count)) {
+            objects->lacks_memory = true;
+            return NULL;
+        }
+        count = vt_object(objects->vt, objects->set, id, record->bytes, record->room);
+    }
+    if (count == UINT64_MAX) {
+        objects->lacks_memory = true;
+    }
+    return count == 0 || count == UINT64_MAX ? NULL : record->bytes;
+}
+
+void read_shown(struct objects *objects)
+{
+    objects->lacks_memory = false;
+    objects->set = vt_shown(objects->vt);
+    vt_active(objects->vt, objects->set, &objects->active);
+    uint64_t count = vt_elements(objects->vt, objects->elements, MOST_ELEMENTS);
+    if (count == UINT64_MAX) {
+        objects->lacks_memory = true;
+        count = 0;
+    }
+    objects->count = count < MOST_ELEMENTS ? (size_t)count : MOST_ELEMENTS;
+}
+
+/* Soft keys are in columns to the right of the mask, as many in one as fit beside it, with 8 pixels before each column and between two
+ * keys. Their number is in the record of the soft key mask, as a place without a key has no element. */
+struct sizes sizes_of(struct objects *objects)
+{
+    static const struct vt_profile profile = VT_STANDARD_PROFILE; /* as host_begin has it */
+    enum { GAP = 8 };
+    const uint8_t *record = record_named(objects, objects->active.soft_key_mask, VT_SOFT_KEY_MASK);
+    int keys = record == NULL ? 0 : record[VT_SOFT_KEY_MASK_COUNT_OF_KEYS];
+    int in_column = (profile.height + GAP) / (profile.soft_key_height + GAP);
+    int columns = (keys + in_column - 1) / in_column;
+    struct sizes sizes = {profile.width, profile.height, profile.width + columns * (profile.soft_key_width + GAP), profile.height};
+    return sizes;
+}
+
+int background_of(struct objects *objects)
+{
+    const uint8_t *record = record_named(objects, objects->active.mask, VT_DATA_MASK);
+    if (record != NULL) {
+        return record[VT_DATA_MASK_COLOUR];
+    }
+    record = record_named(objects, objects->active.mask, VT_ALARM_MASK);
+    return record == NULL ? -1 : record[VT_ALARM_MASK_COLOUR];
+}
+
+const uint8_t *record_of(struct objects *objects, const struct vt_element *element)
+{
+    return read_record(objects, element->id, &objects->own);
+}
+
+const uint8_t *record_named(struct objects *objects, uint32_t id, enum vt_object_kind kind)
+{
+    if (id == VT_NO_ID) {
+        return NULL;
+    }
+    const uint8_t *record = read_record(objects, id, &objects->named);
+    return record != NULL && record[VT_RECORD_KIND] == kind ? record : NULL;
+}
+
+uint32_t number_shown(struct objects *objects, uint32_t variable, uint32_t own)
+{
+    const uint8_t *record = record_named(objects, variable, VT_NUMBER_VARIABLE);
+    return record == NULL ? own : vt_number(record, VT_NUMBER_VARIABLE_VALUE, 4);
+}
+
+uint32_t object_at(struct objects *objects, int32_t x, int32_t y)
+{
+    uint64_t id = vt_touch(objects->vt, x, y);
+    return id > VT_NO_ID ? VT_NO_ID : (uint32_t)id;
+}
+
+int kind_of(struct objects *objects, uint32_t id)
+{
+    const uint8_t *record = read_record(objects, id, &objects->named);
+    return record == NULL ? -1 : record[VT_RECORD_KIND];
+}
+
+uint32_t held_key(struct objects *objects)
+{
+    struct vt_active_ids active;
+    vt_active(objects->vt, vt_shown(objects->vt), &active);
+    return active.key;
+}
+
+void end_objects(struct objects *objects)
+{
+    free(objects->own.bytes);
+    free(objects->named.bytes);
+}
