@@ -1,0 +1,166 @@
+#include "window.h"
+
+/* ---- opening and drawing */
+
+bool open_window(struct window *window, struct host *host, const char *font)
+{
+    window->host = host;
+    window->is_stale = true;
+    window->is_open = true;
+    window->painter.objects.vt = host->vt;
+    window->painter.texts.path = font;
+    if (SDL_Init(SDL_INIT_VIDEO) != 0 || TTF_Init() != 0) {
+        return false;
+    }
+    read_shown(&window->painter.objects);
+    struct sizes sizes = sizes_of(&window->painter.objects);
+    window->window = SDL_CreateWindow("Virtual terminal", SDL_WINDOWPOS_CENTERED, SDL_WINDOWPOS_CENTERED, sizes.width, sizes.height, 0);
+    if (window->window == NULL) {
+        return false;
+    }
+    /* The same pixels on every machine: SDL draws by itself, without a graphics card. */
+    window->painter.canvas.renderer = SDL_CreateRenderer(window->window, -1, SDL_RENDERER_SOFTWARE);
+    if (window->painter.canvas.renderer == NULL) {
+        return false;
+    }
+    TTF_Font *found = TTF_OpenFont(font, 8);
+    if (found != NULL) {
+        TTF_CloseFont(found);
+    }
+    return found != NULL;
+}
+
+/* Draws what the terminal shows now, in a window as large as that. */
+static bool draw_window(struct window *window)
+{
+    int width, height;
+    read_shown(&window->painter.objects);
+    struct sizes sizes = sizes_of(&window->painter.objects);
+    SDL_GetWindowSize(window->window, &width, &height);
+    if (width != sizes.width || height != sizes.height) {
+        SDL_SetWindowSize(window->window, sizes.width, sizes.height);
+    }
+    return draw_shown(&window->painter);
+}
+
+bool save_shot(struct window *window, const char *path)
+{
+    int width, height;
+    SDL_GetWindowSize(window->window, &width, &height);
+    SDL_Surface *shot = SDL_CreateRGBSurfaceWithFormat(0, width, height, 24, SDL_PIXELFORMAT_BGR24);
+    bool is_saved = shot != NULL && draw_window(window) &&
+                    SDL_RenderReadPixels(window->painter.canvas.renderer, NULL, shot->format->format, shot->pixels, shot->pitch) == 0;
+    SDL_RenderPresent(window->painter.canvas.renderer);
+    is_saved = is_saved && SDL_SaveBMP(shot, path) == 0;
+    SDL_FreeSurface(shot);
+    return is_saved;
+}
+
+/* ---- the operator */
+
+/* Prints what the terminal sends for the last action, and its refusals. */
+static void print_outputs(struct host *host)
+{
+    uint32_t kind;
+    while ((kind = vt_next(host->vt)) != VT_NONE) {
+        if (kind == VT_REFUSED) {
+            printf("operator %s\n", host_refusal(host));
+            continue;
+        }
+        struct frame frame = host_frame(host);
+        print_frame(&frame, stdout);
+    }
+    fflush(stdout);
+}
+
+/* An action may change a colour, of which vt_redraws says nothing: so all is drawn anew after each. */
+static void act(struct window *window, uint32_t kind, uint32_t id)
+{
+    struct action action = {.kind = kind, .id = id};
+    if (host_act(window->host, &action) == VT_NO_MEMORY) {
+        fprintf(stderr, "display: the memory for an action was refused\n");
+    }
+    print_outputs(window->host);
+    window->is_stale = true;
+}
+
+/* Presses the key or button at a place, or selects the input there. */
+static void touch(struct window *window, int32_t x, int32_t y)
+{
+    struct objects *objects = &window->painter.objects;
+    uint32_t id = object_at(objects, x, y);
+    if (id == VT_NO_ID) {
+        return;
+    }
+    int kind = kind_of(objects, id);
+    act(window, kind == VT_KEY || kind == VT_BUTTON ? VT_PRESS : VT_SELECT, id);
+}
+
+/* Releases the key or button that is held, wherever the pointer is now. */
+static void let_go(struct window *window)
+{
+    uint32_t key = held_key(&window->painter.objects);
+    if (key != VT_NO_ID) {
+        act(window, VT_RELEASE, key);
+    }
+}
+
+/* ---- events */
+
+static void take_event(struct window *window, const SDL_Event *event)
+{
+    switch (event->type) {
+    case SDL_QUIT:
+        window->is_open = false;
+        break;
+    case SDL_WINDOWEVENT:
+        window->is_stale = window->is_stale || event->window.event == SDL_WINDOWEVENT_EXPOSED;
+        break;
+    case SDL_MOUSEBUTTONDOWN:
+        if (event->button.button == SDL_BUTTON_LEFT) {
+            SDL_CaptureMouse(SDL_TRUE); /* so that its release is told outside of the window too */
+            touch(window, event->button.x, event->button.y);
+        }
+        break;
+    case SDL_MOUSEBUTTONUP:
+        if (event->button.button == SDL_BUTTON_LEFT) {
+            SDL_CaptureMouse(SDL_FALSE);
+            let_go(window);
+        }
+        break;
+    default:
+        break;
+    }
+}
+
+/* Takes all events that wait, and then draws once. */
+void run_window(struct window *window)
+{
+    SDL_Event event;
+    while (window->is_open) {
+        if (window->is_stale) {
+            window->is_stale = false;
+            if (!draw_window(window)) {
+                fprintf(stderr, "display: a part of the picture could not be drawn\n");
+            }
+            SDL_RenderPresent(window->painter.canvas.renderer);
+        }
+        if (SDL_WaitEvent(&event) != 1) {
+            fprintf(stderr, "display: %s\n", SDL_GetError());
+            return;
+        }
+        do {
+            take_event(window, &event);
+        } while (SDL_PollEvent(&event) == 1);
+    }
+}
+
+void close_window(struct window *window)
+{
+    let_go(window);
+    end_painter(&window->painter);
+    SDL_DestroyRenderer(window->painter.canvas.renderer);
+    SDL_DestroyWindow(window->window);
+    TTF_Quit();
+    SDL_Quit();
+}
