@@ -19,6 +19,7 @@ import tempfile
 sys.dont_write_bytecode = True
 
 from c.dialogs import test_dialogs
+from c.display import test_display
 from c.languages import test_other_languages
 from c.live import test_live
 from c.memory import test_memory
@@ -38,6 +39,7 @@ def test_all(tests, folder, cases):
     test_times(tests, programs)
     test_replays(tests, programs, cases)
     test_readings(tests, programs)
+    test_display(tests, programs)
     test_memory(tests, programs)
     test_stacks(tests, programs)
     test_live(tests, programs)

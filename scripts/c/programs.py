@@ -17,11 +17,11 @@ LIVE = ['live.c', 'bus.c', *HOST]
 STATE = ['state.c', 'files.c', *HOST]
 
 
-def compiled(folder, name, sources, *flags, compiler='gcc', library=LIBRARY):
-    """Compiles and links a program, and returns its path."""
+def compiled(folder, name, sources, *flags, compiler='gcc', library=LIBRARY, libraries=()):
+    """Compiles and links a program, and returns its path. `libraries` are the words of others behind the library."""
     program = f'{folder}/{name}'
     paths = [source if '/' in source else f'{EXAMPLES}/c/{source}' for source in sources]
-    words = [compiler, *WARNINGS, *flags, f'-I{HEADERS}', f'-I{EXAMPLES}/c', '-o', program, *paths, library]
+    words = [compiler, *WARNINGS, *flags, f'-I{HEADERS}', f'-I{EXAMPLES}/c', '-o', program, *paths, library, *libraries]
     ran = subprocess.run(words, capture_output=True, text=True)
     if ran.returncode != 0:
         raise Failed(f'gcc: {ran.stderr.strip()[:600]}')
