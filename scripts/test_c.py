@@ -22,6 +22,7 @@ from c.dialogs import test_dialogs
 from c.display import test_display
 from c.languages import test_other_languages
 from c.live import test_live
+from c.looks import test_looks
 from c.memory import test_memory
 from c.programs import CHECKING, LIBRARY, Programs
 from c.readings import test_readings
@@ -40,6 +41,7 @@ def test_all(tests, folder, cases):
     test_replays(tests, programs, cases)
     test_readings(tests, programs)
     test_display(tests, programs)
+    test_looks(tests, programs)
     test_memory(tests, programs)
     test_stacks(tests, programs)
     test_live(tests, programs)
