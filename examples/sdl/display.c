@@ -16,7 +16,7 @@
  *
  * What is left out: the operator enters no numbers and texts, and no list shows its items for a choice. The selected input and the held
  * key look as others do. Images of more than 4,000,000 pixels are not drawn. What docs/PROFILE.md leaves out under "Pictures" is left out
- * here too: flashing, the type of a font, wraps at spaces.
+ * here too: flashing, the type of a font, wraps at spaces, the options of numbers.
  */
 #include "files.h"
 #include "window.h"
