@@ -69,15 +69,15 @@ static bool read_words(struct words *words, int count, char **all)
 
 /* ---- what there is before the window */
 
-static uint32_t take_line(struct host *host, struct span text)
+static enum vt_result take_line(struct host *host, struct span text)
 {
     struct line line = read_line(text);
-    uint32_t result = VT_DONE;
+    enum vt_result result = VT_DONE;
 
     if (line.kind == LINE_FRAME) {
         result = host_hear(host, &line.frame);
     } else if (line.kind == LINE_OPERATOR) {
-        result = host_act(host, &line.action);
+        result = host_act(host, VT_LATEST, &line.action);
     }
     while (vt_next(host->vt) != VT_NONE) {
     }
@@ -127,7 +127,7 @@ static int preload(struct host *host, const struct words *words)
     if (pool == NULL) {
         return fault(words->pool, "it cannot be read");
     }
-    uint32_t result = host_preload(host, address, pool, count);
+    enum vt_result result = host_preload(host, address, pool, count);
     free(pool);
     switch (result) {
     case VT_DONE:

@@ -1,5 +1,4 @@
 /* Keys and buttons, and the fields of inputs and outputs with their texts (docs/PROFILE.md, "Shapes" and "Fields"). */
-#include "numbers.h"
 #include "painter.h"
 #include "pens.h"
 #include <string.h>
@@ -125,26 +124,18 @@ static void draw_rows(struct painter *painter, const struct field *field, const 
     }
 }
 
-static void draw_field(struct painter *painter, const struct field *field, const uint8_t *text, size_t count)
+static void draw_field(struct painter *painter, const struct field *field)
 {
+    size_t count;
+    const uint8_t *text = text_of(&painter->objects, field->one, &count);
+
     draw_area(painter, field);
     if (field->look.is_known && count > 0) {
         draw_rows(painter, field, text, count);
     }
 }
 
-/* ---- strings */
-
-/* Draws a field with the text of its variable, or with its own one if it has none. */
-static void draw_string(struct painter *painter, const struct field *field, uint32_t variable, const uint8_t *text, size_t count)
-{
-    const uint8_t *record = record_named(&painter->objects, variable, VT_STRING_VARIABLE);
-    if (record != NULL) {
-        text = record + VT_STRING_VARIABLE_TEXT;
-        count = vt_number(record, VT_STRING_VARIABLE_COUNT_OF_TEXT, 2);
-    }
-    draw_field(painter, field, text, count);
-}
+/* ---- strings and numbers */
 
 void draw_output_string(struct painter *painter, const struct vt_element *one, const uint8_t *record)
 {
@@ -157,8 +148,7 @@ void draw_output_string(struct painter *painter, const struct vt_element *one, c
         .justification = record[VT_OUTPUT_STRING_JUSTIFICATION],
         .border = NO_COLOUR,
     };
-    draw_string(painter, &field, vt_number(record, VT_OUTPUT_STRING_VARIABLE, 2), record + VT_OUTPUT_STRING_TEXT,
-                vt_number(record, VT_OUTPUT_STRING_COUNT_OF_TEXT, 2));
+    draw_field(painter, &field);
 }
 
 void draw_input_string(struct painter *painter, const struct vt_element *one, const uint8_t *record)
@@ -172,11 +162,8 @@ void draw_input_string(struct painter *painter, const struct vt_element *one, co
         .justification = record[VT_INPUT_STRING_JUSTIFICATION],
         .border = border_of_input(record[vt_input_string_enabled_at(record)] != 0),
     };
-    draw_string(painter, &field, vt_number(record, VT_INPUT_STRING_VARIABLE, 2), record + VT_INPUT_STRING_TEXT,
-                record[VT_INPUT_STRING_COUNT_OF_TEXT]);
+    draw_field(painter, &field);
 }
-
-/* ---- numbers */
 
 void draw_output_number(struct painter *painter, const struct vt_element *one, const uint8_t *record)
 {
@@ -188,12 +175,7 @@ void draw_output_number(struct painter *painter, const struct vt_element *one, c
         .justification = record[VT_OUTPUT_NUMBER_JUSTIFICATION],
         .border = NO_COLOUR,
     };
-    uint32_t value = number_shown(&painter->objects, vt_number(record, VT_OUTPUT_NUMBER_VARIABLE, 2),
-                                  vt_number(record, VT_OUTPUT_NUMBER_VALUE, 4));
-    char text[LONGEST_NUMBER];
-    size_t count = write_number(text, value, vt_signed(record, VT_OUTPUT_NUMBER_OFFSET, 4),
-                                vt_number(record, VT_OUTPUT_NUMBER_SCALE, 4), record[VT_OUTPUT_NUMBER_DECIMALS]);
-    draw_field(painter, &field, (const uint8_t *)text, count);
+    draw_field(painter, &field);
 }
 
 void draw_input_number(struct painter *painter, const struct vt_element *one, const uint8_t *record)
@@ -206,12 +188,7 @@ void draw_input_number(struct painter *painter, const struct vt_element *one, co
         .justification = record[VT_INPUT_NUMBER_JUSTIFICATION],
         .border = border_of_input(record[VT_INPUT_NUMBER_OPTIONS_TWO] & 1),
     };
-    uint32_t value = number_shown(&painter->objects, vt_number(record, VT_INPUT_NUMBER_VARIABLE, 2),
-                                  vt_number(record, VT_INPUT_NUMBER_VALUE, 4));
-    char text[LONGEST_NUMBER];
-    size_t count = write_number(text, value, vt_signed(record, VT_INPUT_NUMBER_OFFSET, 4),
-                                vt_number(record, VT_INPUT_NUMBER_SCALE, 4), record[VT_INPUT_NUMBER_DECIMALS]);
-    draw_field(painter, &field, (const uint8_t *)text, count);
+    draw_field(painter, &field);
 }
 
 /* ---- lists and booleans */

@@ -16,26 +16,33 @@ static bool make_room(struct record *record, uint64_t count)
     return true;
 }
 
-/* Reads the record of an object. The first call fills the room that there is, and a second one is made if that was too small. */
-static const uint8_t *read_record(struct objects *objects, uint32_t id, struct record *record)
+/* A call that writes what there is of an object. */
+typedef uint64_t reading(struct vt_terminal *at, uint32_t address, uint32_t id, uint8_t *buf, size_t room);
+
+/* Reads what there is of an object, and returns the number of bytes. The first call fills the room that there is, and a second one is made
+ * if that was too small. */
+static size_t read_bytes(struct objects *objects, reading *read, uint32_t id, struct record *record)
 {
-    uint64_t count = vt_object(objects->vt, objects->set, id, record->bytes, record->room);
+    uint64_t count = read(objects->vt, objects->set, id, record->bytes, record->room);
     if (count != UINT64_MAX && count > record->room) {
-        if (!make_room(record, count)) {
-            objects->lacks_memory = true;
-            return NULL;
-        }
-        count = vt_object(objects->vt, objects->set, id, record->bytes, record->room);
+        count = make_room(record, count) ? read(objects->vt, objects->set, id, record->bytes, record->room) : UINT64_MAX;
     }
     if (count == UINT64_MAX) {
         objects->lacks_memory = true;
+        count = 0;
     }
-    return count == 0 || count == UINT64_MAX ? NULL : record->bytes;
+    return (size_t)count;
+}
+
+static const uint8_t *read_record(struct objects *objects, uint32_t id, struct record *record)
+{
+    return read_bytes(objects, vt_object, id, record) == 0 ? NULL : record->bytes;
 }
 
 void read_shown(struct objects *objects)
 {
     objects->lacks_memory = false;
+    objects->look = vt_look(objects->vt);
     objects->set = vt_shown(objects->vt);
     vt_active(objects->vt, objects->set, &objects->active);
     uint64_t count = vt_elements(objects->vt, objects->elements, MOST_ELEMENTS);
@@ -44,6 +51,11 @@ void read_shown(struct objects *objects)
         count = 0;
     }
     objects->count = count < MOST_ELEMENTS ? (size_t)count : MOST_ELEMENTS;
+}
+
+bool is_changed(const struct objects *objects)
+{
+    return vt_look(objects->vt) != objects->look;
 }
 
 /* Soft keys are in columns to the right of the mask, as many in one as fit beside it, with 8 pixels before each column and between two
@@ -84,6 +96,12 @@ const uint8_t *record_named(struct objects *objects, uint32_t id, enum vt_object
     return record != NULL && record[VT_RECORD_KIND] == kind ? record : NULL;
 }
 
+const uint8_t *text_of(struct objects *objects, const struct vt_element *element, size_t *count)
+{
+    *count = read_bytes(objects, vt_value_text, element->id, &objects->text);
+    return objects->text.bytes;
+}
+
 uint32_t number_shown(struct objects *objects, uint32_t variable, uint32_t own)
 {
     const uint8_t *record = record_named(objects, variable, VT_NUMBER_VARIABLE);
@@ -113,4 +131,5 @@ void end_objects(struct objects *objects)
 {
     free(objects->own.bytes);
     free(objects->named.bytes);
+    free(objects->text.bytes);
 }

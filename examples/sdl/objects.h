@@ -10,7 +10,7 @@
 
 enum { MOST_ELEMENTS = 2000 };
 
-/* Memory for the record of an object. */
+/* Memory for the record of an object, or for its text. */
 struct record {
     uint8_t *bytes;
     size_t room;
@@ -18,12 +18,14 @@ struct record {
 
 struct objects {
     struct vt_terminal *vt;
+    uint64_t look;             /* of the terminal, as it was read */
     uint32_t set;              /* the address of the shown working set, or 254 */
     struct vt_active_ids active;
     size_t count;              /* of the elements */
     struct vt_element elements[MOST_ELEMENTS];
     struct record own;         /* the record of the element that is drawn */
     struct record named;       /* the record of an object that it names, as its font */
+    struct record text;        /* the text of a field */
     bool lacks_memory;         /* memory was refused: what was read is not all */
 };
 
@@ -38,6 +40,9 @@ struct sizes {
 /* Reads what is shown now. */
 void read_shown(struct objects *objects);
 
+/* Whether what is shown may have changed since it was read. */
+bool is_changed(const struct objects *objects);
+
 /* The sizes of what was read. */
 struct sizes sizes_of(struct objects *objects);
 
@@ -49,6 +54,9 @@ const uint8_t *record_of(struct objects *objects, const struct vt_element *eleme
 
 /* The record of an object that another one names, until the next call. Null for VT_NO_ID, or if it is of another kind. */
 const uint8_t *record_named(struct objects *objects, uint32_t id, enum vt_object_kind kind);
+
+/* The text of a field as the terminal shows it, until the next call. */
+const uint8_t *text_of(struct objects *objects, const struct vt_element *element, size_t *count);
 
 /* The number that an object shows: that of its Number Variable, or its own one if it has none. */
 uint32_t number_shown(struct objects *objects, uint32_t variable, uint32_t own);

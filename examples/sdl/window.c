@@ -61,27 +61,25 @@ bool save_shot(struct window *window, const char *path)
 /* Prints what the terminal sends for the last action, and its refusals. */
 static void print_outputs(struct host *host)
 {
-    uint32_t kind;
-    while ((kind = vt_next(host->vt)) != VT_NONE) {
-        if (kind == VT_REFUSED) {
-            printf("operator %s\n", host_refusal(host));
-            continue;
+    struct vt_out out;
+    while (vt_take(host->vt, &out) != VT_NONE) {
+        if (out.kind == VT_REFUSED) {
+            printf("operator %s\n", host_refusal(&out));
+        } else {
+            print_frame(&out, stdout);
         }
-        struct frame frame = host_frame(host);
-        print_frame(&frame, stdout);
     }
     fflush(stdout);
 }
 
-/* An action may change a colour, of which vt_redraws says nothing: so all is drawn anew after each. */
-static void act(struct window *window, uint32_t kind, uint32_t id)
+static void act(struct window *window, enum vt_action kind, uint32_t id)
 {
     struct action action = {.kind = kind, .id = id};
-    if (host_act(window->host, &action) == VT_NO_MEMORY) {
+    if (host_act(window->host, VT_LATEST, &action) == VT_NO_MEMORY) {
         fprintf(stderr, "display: the memory for an action was refused\n");
     }
     print_outputs(window->host);
-    window->is_stale = true;
+    window->is_stale = window->is_stale || is_changed(&window->painter.objects);
 }
 
 /* Presses the key or button at a place, or selects the input there. */

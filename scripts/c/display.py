@@ -1,15 +1,13 @@
 """Tests of examples/sdl, a display on SDL2: its elements are those of the pictures and of the screens."""
-import itertools
 import re
 import subprocess
-from decimal import ROUND_HALF_UP, Decimal
 
 from c.programs import EXAMPLES, ROOT, SANITIZERS, VT_REPLAY, compiled, run
 from c.readings import SEGYOLANT, boxes
 from c.results import PassedOver, expect, need, read
 
 SOURCES = ['display.c', 'window.c', 'painter.c', 'objects.c', 'canvas.c', 'pens.c', 'shapes.c', 'gauges.c', 'fields.c', 'texts.c',
-           'numbers.c', 'images.c']
+           'images.c']
 SHARED = ['files.c', 'host.c', 'lines.c', 'heap.c']
 OWNER = '80'
 MASK, KEY, GAP = 480, 64, 8
@@ -146,26 +144,6 @@ def check_lines(programs, kind, pool, log):
     return f'{lines + 1} times, {count} elements'
 
 
-SCALES = {0: '3F800000', 1: '3DCCCCCD', 2: '3C23D70A', 3: '3A83126F'}
-
-
-def check_numbers(programs):
-    """Shown numbers are those of docs/PROFILE.md, "Shown numbers", by Python's decimal numbers."""
-    program = compiled(programs.folder, 'shown', [f'{ROOT}/scripts/c/shown.c', f'{EXAMPLES}/sdl/numbers.c'], '-O1', *SANITIZERS,
-                       f'-I{EXAMPLES}/sdl')
-    values = [0, 1, 4, 5, 15, 49, 50, 51, 95, 445, 499, 500, 501, 999, 1000, 1235, 1245, 99999, 4294967294, 4294967295]
-    offsets = [0, 1, -1, -4, -5, -50, -51, -445, -500, -1235, -99999, 2147483647, -2147483648]
-    cases = list(itertools.product(values, offsets, SCALES, range(8)))
-    lines = ''.join(f'{value} {offset} {SCALES[places]} {decimals}\n' for value, offset, places, decimals in cases)
-    status, out, messages = run([program], ROOT, input=lines.encode())
-    expect(status == 0, f'status {status}: {messages[-300:]!r}')
-    for case, text in zip(cases, out.decode().split('\n'), strict=False):
-        value, offset, places, decimals = case
-        number = Decimal(value + offset).scaleb(-places).quantize(Decimal(1).scaleb(-decimals), ROUND_HALF_UP)
-        expect(text == f'{abs(number) if number == 0 else number:f}', f'{case} is shown as {text}')
-    return f'{len(cases)} numbers'
-
-
 def check_words(programs, kind):
     """Wrong words and files that cannot be read are told, with the status."""
     for words, wanted in [(['--pool', 'pool.iop'], 2), (['--lines', '3'], 2), (['--log', 'hide.log', '--lines', '-1'], 2), (['--boxes', '--shot', 'none.bmp'], 2), (['--none'], 2), (['--pool', 'none.iop', '--owner', '80'], 1),
@@ -176,7 +154,6 @@ def check_words(programs, kind):
 
 
 def test_display(tests, programs):
-    tests.run('display numbers', check_numbers, programs)
     for kind in ['display', 'display-sanitized']:
         tests.run(f'{kind} words', check_words, programs, kind)
         for pool in ['kinds.iop', 'sprayer.iop']:
