@@ -2,7 +2,7 @@
 import re
 import subprocess
 
-from c.programs import EXAMPLES, ROOT, SANITIZERS, VT_REPLAY, compiled, run
+from c.programs import EXAMPLES, SANITIZERS, VT_REPLAY, compiled, run
 from c.readings import SEGYOLANT, boxes
 from c.results import PassedOver, expect, need, read
 
