@@ -37,6 +37,25 @@ extern "C" {
 /* A terminal. Its memory is the caller's: vt_size() bytes at a multiple of 16. */
 struct vt_terminal;
 
+/* Eight bytes as a number, the first lowest, and a number as eight bytes: written out, since compilers make one instruction of it so. */
+static inline uint64_t vt_word_of(const uint8_t *at)
+{
+    return (uint64_t)at[0] | (uint64_t)at[1] << 8 | (uint64_t)at[2] << 16 | (uint64_t)at[3] << 24 | (uint64_t)at[4] << 32 |
+           (uint64_t)at[5] << 40 | (uint64_t)at[6] << 48 | (uint64_t)at[7] << 56;
+}
+
+static inline void vt_write_word(uint8_t *at, uint64_t word)
+{
+    at[0] = (uint8_t)word;
+    at[1] = (uint8_t)(word >> 8);
+    at[2] = (uint8_t)(word >> 16);
+    at[3] = (uint8_t)(word >> 24);
+    at[4] = (uint8_t)(word >> 32);
+    at[5] = (uint8_t)(word >> 40);
+    at[6] = (uint8_t)(word >> 48);
+    at[7] = (uint8_t)(word >> 56);
+}
+
 /* The results of calls that can be refused. After all but VT_DONE the terminal is unchanged, with one exception: after VT_NO_MEMORY of
  * vt_act or vt_text the time may have moved on, and outputs of that may wait. */
 enum vt_result {
@@ -127,6 +146,9 @@ enum vt_result vt_hear_bits(struct vt_terminal *at, uint64_t time, uint32_t id, 
 VT_INLINE enum vt_result vt_hear(struct vt_terminal *at, uint64_t time, uint32_t id, const uint8_t *data, size_t count)
 {
     uint64_t bits = 0;
+    if (count == 8) {
+        return vt_hear_bits(at, time, id, 8, vt_word_of(data));
+    }
     for (size_t i = 0; i < count && i < 8; i++) {
         bits |= (uint64_t)data[i] << 8 * i;
     }
@@ -149,8 +171,8 @@ enum vt_action {
     VT_ACTION_BITS = 0x7FFFFFFF /* none of the actions: it makes the type 32 bits wide */
 };
 
-/* An action of the operator at a time: first the time moves on as by vt_tick, unless it is VT_LATEST, and then the action is done. VT_NO_SUCH for another kind, an
- * ID above 65535 (with VT_SET too) or an address above 255. */
+/* An action of the operator at a time: first the time moves on as by vt_tick, unless it is VT_LATEST, and then the action is done.
+ * VT_NO_SUCH for another kind, an ID above 65535 (with VT_SET too) or an address above 255. */
 enum vt_result vt_act(struct vt_terminal *at, uint64_t time, enum vt_action kind, uint32_t id, uint32_t number);
 
 /* The call behind vt_text. `text` is not null. */
@@ -213,14 +235,10 @@ struct vt_out {
  * VT_NONE or all outputs are taken. */
 VT_INLINE enum vt_output vt_take(struct vt_terminal *at, struct vt_out *out)
 {
-    uint64_t bits;
     out->kind = vt_next(at);
     out->id = vt_output_id(at);
     out->count = vt_output_count(at);
-    bits = vt_output_data(at);
-    for (unsigned i = 0; i < 8; i++) {
-        out->data[i] = (uint8_t)(bits >> 8 * i);
-    }
+    vt_write_word(out->data, vt_output_data(at));
     return out->kind;
 }
 
@@ -233,11 +251,12 @@ uint64_t vt_screen_word(const struct vt_terminal *at, uint64_t index);
 /* Copies the text written last to `buf`, as much as there is room for, and fills the rest of the room with 0. */
 VT_INLINE void vt_copy(const struct vt_terminal *at, uint8_t *buf, size_t room)
 {
-    for (size_t k = 0; k < room; k += 8) {
-        uint64_t word = vt_screen_word(at, k);
-        for (size_t i = 0; i < 8 && i < room - k; i++) {
-            buf[k + i] = (uint8_t)(word >> 8 * i);
-        }
+    size_t k = 0;
+    for (; room - k >= 8; k += 8) {
+        vt_write_word(buf + k, vt_screen_word(at, k));
+    }
+    for (uint64_t word = k < room ? vt_screen_word(at, k) : 0; k < room; k++, word >>= 8) {
+        buf[k] = (uint8_t)word;
     }
 }
 
