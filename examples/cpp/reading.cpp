@@ -48,6 +48,20 @@ bool is_touched(segyolant::Terminal &terminal, const segyolant::Element &one)
     return terminal.touch(one.left + (one.right - one.left) / 2, one.top + (one.bottom - one.top) / 2).has_value();
 }
 
+// Whether an input has limits, nothing else has them, and a shown number is typed as its raw value again.
+bool is_limited(segyolant::Terminal &terminal, const segyolant::Element &one)
+{
+    const std::optional<segyolant::Limits> limits = terminal.limits(implement, one.id);
+    const bool is_input = one.kind >= VT_INPUT_BOOLEAN && one.kind <= VT_INPUT_LIST;
+    if (limits.has_value() != is_input || !is_input) {
+        return limits.has_value() == is_input;
+    }
+    if (one.kind != VT_INPUT_NUMBER || limits->decimals < limits->places) {
+        return limits->kind == one.kind;
+    }
+    return terminal.raw(implement, one.id, terminal.value_text(implement, one.id).value_or("")) == limits->value;
+}
+
 } // namespace
 
 int main(int argc, char **argv)
@@ -79,8 +93,17 @@ int main(int argc, char **argv)
         if (!is_touched(terminal, elements[k])) {
             return failed("a key or a button is not found at its place");
         }
+        if (!is_limited(terminal, elements[k])) {
+            return failed("the limits of an input do not fit");
+        }
     }
     std::printf("mask %u, %zu elements, a picture of %zu bytes\n", static_cast<unsigned>(*active->mask), elements.size(), picture.size());
+
+    const std::uint64_t look = terminal.look();
+    const segyolant::Frame claim{0x18EEFF90, {0x1D, 0, 0, 0, 0, 0, 0, 0x20}, 8};
+    if (terminal.hear(1, claim).result != segyolant::Result::done || terminal.look() != look) {
+        return failed("the claim of another node is a change of the picture");
+    }
 
     // Before it has a pool, a set has no state, and outside of the mask nothing is touched.
     return elements.empty() || terminal.active(0x81) || terminal.picture(0x81) != "" || terminal.touch(-1, 5) ? failed("too much is told") : 0;

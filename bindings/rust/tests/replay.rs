@@ -124,3 +124,28 @@ fn inputs_and_a_set_that_falls_silent() {
         printed("$ vt_replay sprayer.log --pool sprayer.iop --owner 80")
     );
 }
+
+#[test]
+fn what_a_dialog_reads_and_when_to_paint() {
+    let mut terminal = terminal();
+    terminal
+        .preload(0x80, &read("examples/sprayer.iop"))
+        .expect("a pool");
+    let limits = terminal.limits(0x80, 351).expect("memory");
+    let limits = limits.expect("an input");
+    assert!(limits.is_enabled);
+    assert_eq!((limits.kind, limits.value), (9, 200));
+    assert_eq!((limits.minimum, limits.maximum), (0, 500));
+    assert_eq!(terminal.limits(0x80, 1000).expect("memory"), None);
+    assert_eq!(terminal.raw(0x80, 351, "250.0"), Some(250));
+    assert_eq!(terminal.raw(0x80, 351, "250.5"), None);
+
+    let look = terminal.look();
+    let claim = Frame::new(0x18EE_FF90, &[0x1D, 0, 0, 0, 0, 0, 0, 0x20]).expect("a frame");
+    terminal.hear(1, &claim).expect("memory").for_each(drop);
+    assert_eq!(terminal.look(), look);
+    let (_, change) = frame_of("(0.000000) can0 14E72680#A85F01FFFA000000").expect("a frame");
+    terminal.hear(2, &change).expect("memory").for_each(drop);
+    assert_ne!(terminal.look(), look);
+    assert_eq!(terminal.value_text(0x80, 351).expect("memory"), b"250");
+}
