@@ -59,6 +59,10 @@ key_places sizes i (id ∷ ids) = key_place sizes i id ∷ key_places sizes (suc
 abbrev pub width_of : Sizes → ℕ → ℕ
 width_of sizes keys = min (sizes.mask.width + (keys + keys_in_column sizes - 1) / keys_in_column sizes * (sizes.key.width + gap)) 0xFFFFFFFF
 
+-- the width and the height of the picture of a mask
+abbrev pub picture_size : Sizes → ObjectMap → ℕ → ℕ × ℕ
+picture_size sizes store mask = (width_of sizes (length (soft_keys store mask)), sizes.mask.height)
+
 abbrev pub background : Option Seen → Paint
 background (Some (objects.WorkingSet o)) = paints.Colour o.colour
 background (Some (objects.DataMask o)) = paints.Colour o.colour

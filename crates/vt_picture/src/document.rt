@@ -170,6 +170,14 @@ pub(crate) fn width_of(sizes: Sizes, keys: usize) -> u32
     width.min(u64::from(u32::MAX)) as u32
 }
 
+/// The size of the picture of a mask with its soft keys, in pixels: its width, and its height.
+pub fn picture_size<S: Store>(store: &S, sizes: Sizes, mask: ObjectId) -> (u32, u32)
+    ensures { result ≡ documents.picture_size sizes (S.contents store.now) mask }
+{
+    let keys = soft_keys(store, mask).len();
+    (width_of(sizes, keys), u32::from(sizes.mask.height))
+}
+
 /// The background of a mask. Nothing without a mask.
 fn background<S: Store>(store: &S, mask: ObjectId) -> Paint
     ensures { result ≡ documents.background (finite.get (S.contents store.now) mask) }

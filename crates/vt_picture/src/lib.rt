@@ -1,7 +1,7 @@
 //! The picture of a mask as SVG (ISO 11783-6).
 //!
 //! - `draw` returns the picture of a mask with its soft keys: each element in its area, with its own shapes and the elements
-//!   within it.
+//!   within it. `picture_size` tells how large it is.
 //! - `list_elements` lists the same elements with their places, and `touched` finds the one at a place.
 //!
 //! The laws about the definitions are in the crate vt_picture_laws. docs/PROFILE.md, "Pictures", says how each kind looks.
@@ -13,7 +13,7 @@ mod frame;
 mod listing;
 mod walk;
 
-pub use document::draw;
+pub use document::{draw, picture_size};
 pub use listing::{Bounds, Element, Position, list_elements, touched};
 
 /// A refused allocation.

@@ -14,7 +14,7 @@ use Rattle.vt_shown.specs.ShownElements.{soft_key_mask_of}
 use Rattle.vt_machine.specs.SetStates.{SetState, active_in}
 use Rattle.vt_needs.specs.declared.sizes.Sizes.{Sizes}
 use Rattle.vt_picture.specs.declared.listing.Element.{Element}
-use Rattle.vt_picture.specs.Documents.{IsPicture}
+use Rattle.vt_picture.specs.Documents.{IsPicture, picture_size}
 use Rattle.vt_picture.specs.Listings.{elements_of, touched}
 use Rattle.vt_server.specs.shown.Screens.{redraws}
 use Rattle.vt_server.specs.Terminals.{State, pool_at, pool_of}
@@ -110,6 +110,17 @@ IsPictureIn (Some set) profile mask text = IsPicture (sizes_of profile) set.obje
 abbrev pub Pictures : Session → ℕ → ℕ → Session → ℕ → Type 0
 Pictures before address mask after count =
     Writes (IsPictureIn (pool_by (state before) address) (state before).profile mask) before after count
+
+abbrev pub size_number : ℕ × ℕ → ℕ
+size_number size = size.1 * 2 ^ 32 + size.0
+
+-- the size of the picture of a mask in one number, or 0 without a pool
+abbrev pub size_in : Profile → Option SetState → ℕ → ℕ
+size_in profile None mask = 0
+size_in profile (Some set) mask = size_number (picture_size (sizes_of profile) set.objects (mask_in set.objects mask))
+
+abbrev pub TellsSize : Session → ℕ → ℕ → Session → ℕ → Type 0
+TellsSize before address mask after size = (after ≡ before) × (size ≡ size_in (state before).profile (pool_by (state before) address) mask)
 
 -- ---- the elements of the shown mask
 

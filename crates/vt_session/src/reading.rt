@@ -8,7 +8,7 @@ ghost use Rattle.byteorder.specs.Endian.{little_bytes};
 ghost use Rattle.vt_kinds.specs.Ids.{null_id};
 ghost use Rattle.vt_server.specs.States.{state_of};
 ghost use Rattle.vt_server.specs.Terminals.{pool_at};
-ghost use Rattle.vt_session.specs.Readings.{IsPictureIn, Lists, ListsElements, Pictures, TellsActive, TellsPool, TellsTouched, WritesObject, active_of, element_bytes, elements_shown, four_ids, head_bytes, mask_in, numbers_of, pool_by, record_in, set_bytes, sizes_of, touched_of};
+ghost use Rattle.vt_session.specs.Readings.{IsPictureIn, Lists, ListsElements, Pictures, TellsActive, TellsPool, TellsSize, TellsTouched, WritesObject, active_of, element_bytes, elements_shown, four_ids, head_bytes, mask_in, numbers_of, pool_by, record_in, set_bytes, size_in, sizes_of, touched_of};
 
 use crate::session::Session;
 use std::alloc::{AllocError, Global};
@@ -17,7 +17,7 @@ use vt_names::Set;
 use vt_needs::{Area, Sizes};
 use vt_node::Profile;
 use vt_objects::{ObjectId, SortedStore};
-use vt_picture::{Element, draw, list_elements, touched};
+use vt_picture::{Element, draw, list_elements, picture_size, touched};
 use vt_server::Terminal;
 use vt_writing::write_object;
 
@@ -178,6 +178,23 @@ fn picture_at(
         sizes_of(terminal.profile()),
         mask_in(live, mask),
     )
+}
+
+/// The size of the picture of a mask, chosen as for `picture`: its width, and its height times 2^32. It is 0 without a set that has a pool.
+pub fn size(session: &mut Session, address: u32, mask: u32) -> u64
+    ensures { TellsSize session.old address mask session.new result }
+{
+    match pool_at(&session.terminal, address) {
+        Some(live) => size_of(live, session.terminal.profile(), mask),
+        None => 0,
+    }
+}
+
+fn size_of(live: &Live<SortedStore>, profile: &Profile, mask: u32) -> u64
+    ensures { result ≡ size_in profile.now (Some live.now) mask }
+{
+    let (width, height) = picture_size(live.store(), sizes_of(profile), mask_in(live, mask));
+    u64::from(height) * 0x1_0000_0000 + u64::from(width)
 }
 
 /// The area of a mask and that of a key.

@@ -12,7 +12,7 @@ ghost use Rattle.vt_session.specs.contracts.session.Session.{the_row};
 ghost use Rattle.vt_session.specs.Calls.{Acts, Claims, Draws, Hears, Nexts, TellsCount, TellsData, TellsDeadline, TellsId, TellsLooks, TellsLost, TellsRedraws, TellsShown, SendsStatus, TellsWord, Texts, Ticks};
 ghost use Rattle.vt_session.specs.Dialogs.{TellsRaw, WritesLimits, WritesValue};
 ghost use Rattle.vt_session.specs.Preloads.{Preloads};
-ghost use Rattle.vt_session.specs.Readings.{Lists, ListsElements, Pictures, TellsActive, TellsPool, TellsTouched, WritesObject};
+ghost use Rattle.vt_session.specs.Readings.{Lists, ListsElements, Pictures, TellsActive, TellsPool, TellsSize, TellsTouched, WritesObject};
 ghost use Rattle.vt_session.specs.Sessions.{Begins};
 
 use std::alloc::Global;
@@ -309,6 +309,17 @@ pub unsafe extern "C" fn vt_text_of_picture(at: *mut VtTerminal, address: u32, m
     ensures* { ∃ₛ (λ (after : Session). sem 𝓛 (lies_at the_row full_share at after) ∗ ⌜ Pictures before address mask after result ⌝) }
 {
     reading::picture(unsafe { &mut *(at as *mut Session) }, address, mask)
+}
+
+/// The size of the picture that `vt_text_of_picture` draws: its width in pixels, and its height times 2^32. 0 without a set that has a
+/// pool.
+#[unsafe(no_mangle)]
+pub unsafe extern "C" fn vt_size_of_picture(at: *mut VtTerminal, address: u32, mask: u32) -> u64
+    ghost before: { Session }
+    requires* { sem 𝓛 (lies_at the_row full_share at before) }
+    ensures* { ∃ₛ (λ (after : Session). sem 𝓛 (lies_at the_row full_share at after) ∗ ⌜ TellsSize before address mask after result ⌝) }
+{
+    reading::size(unsafe { &mut *(at as *mut Session) }, address, mask)
 }
 
 /// Lists the elements of the shown mask and its soft keys in the terminal's text, 40 bytes each, and returns the number of its bytes, or
