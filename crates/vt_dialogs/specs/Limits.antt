@@ -57,7 +57,7 @@ limits_in store (Some (objects.InputList o)) =
 limits_in store _ = None
 
 -- The limits are those of the terminal: it accepts a number or a text from the operator exactly where they allow it, once the input is
--- shown. A text needs the variable of its input, which a store in order has.
+-- shown, and nothing where there are none. A text needs the variable of its input, which a store in order has.
 pub record LimitsAreTheTerminals : Type 0 where
   pub numbers : (store : ObjectMap) (id n : ℕ) (object : Seen) (limits : Limits) → limits_in store (Some object) ≡ Some limits
       → is_ok (number_place id n (Some object)) ≡ (limits.enabled && (nat_le limits.least n && nat_le n limits.greatest))
@@ -65,3 +65,5 @@ pub record LimitsAreTheTerminals : Type 0 where
       → finite.get store id ≡ Some (objects.InputString o) → text_at store (kept_at id o.variable) ≡ Some kept
       → limits_in store (Some (objects.InputString o)) ≡ Some limits
       → is_ok (text_place store id text (Some (objects.InputString o))) ≡ (limits.enabled && nat_le (length text) limits.length)
+  pub none : (store : ObjectMap) (id n : ℕ) (text : List ℕ) (object : Option Seen) → limits_in store object ≡ None
+      → (is_ok (number_place id n object) ≡ false) × (is_ok (text_place store id text object) ≡ false)

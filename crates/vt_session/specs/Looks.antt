@@ -1,6 +1,6 @@
 -- Whether the picture of a terminal may have changed (docs/EMBEDDING.md, "When to paint").
 use Rattle.std.specs.Option.{option_map}
-use Rattle.std.specs.Prelude.{◌≡◌, ◌≢◌, ℕ, true, List, ◌∷◌, Option, is_some, IfSome}
+use Rattle.std.specs.Prelude.{◌≡◌, ◌≢◌, ◌⊎◌, ℕ, ◌+◌, ◌%◌, ◌^◌, true, List, ◌∷◌, Option, is_some, IfSome}
 use Rattle.vt_can.specs.declared.frames.frame.Frame.{Frame as CanFrame}
 use Rattle.vt_can.specs.frames.Frame.{source_of}
 use Rattle.vt_stores.specs.Stores.{ObjectMap}
@@ -17,6 +17,14 @@ pub record KeepsPicture (old new : State) : Type 0 where
   pub shown : new.shown ≡ old.shown
   pub profile : new.profile ≡ old.profile
   pub objects : objects_shown new ≡ objects_shown old
+
+-- the next number of a count in 64 bits
+abbrev pub next_look : ℕ → ℕ
+next_look n = (n + 1) % 2 ^ 64
+
+-- The count of looks stays, and then something holds, or it goes on by one.
+abbrev pub LooksOn : ℕ → ℕ → Type 0 → Type 0
+LooksOn old new Holds = ((new ≡ old) × Holds) ⊎ (new ≡ next_look old)
 
 -- the only input is a frame from a source
 pub record IsFrameFrom (source : ℕ) (inputs : List Input) : Type 0 where

@@ -1,5 +1,5 @@
 -- A set with a pool that is there from the start (docs/EMBEDDING.md, "Preloaded sets").
-use Rattle.std.specs.Prelude.{◌≡◌, ◌≢◌, ◌⊎◌, ℕ, ◌==◌, ◌&&◌, Bool, true, not, nat_le, if◌then◌else◌, List, Option, Some, None, is_some}
+use Rattle.std.specs.Prelude.{◌≡◌, ◌⊎◌, ℕ, ◌==◌, ◌&&◌, Bool, true, not, nat_le, if◌then◌else◌, List, Option, Some, None, is_some}
 use Rattle.vt_names.specs.Registry.{set_at}
 use Rattle.vt_stores.specs.Stores.{Objects, map_of}
 use Rattle.vt_judge.specs.declared.NotAccepted.{NotAccepted}
@@ -7,6 +7,7 @@ use Rattle.vt_judge.specs.Judgements.{IsAcceptedPool, IsNotAccepted, wants_memor
 use Rattle.vt_server.specs.shown.Screens.{redraws}
 use Rattle.vt_server.specs.Steps.{preloading}
 use Rattle.vt_session.specs.declared.session.Session.{Session}
+use Rattle.vt_session.specs.Looks.{next_look}
 use Rattle.vt_session.specs.Sessions.{Remains, closed, latest, state, waiting}
 use Rattle.vt_session.specs.Statuses.{DONE, NO_MEMORY, NO_POOL, NO_SUCH}
 
@@ -24,7 +25,7 @@ pub record IsPreloaded (before : Session) (address : ℕ) (bytes : List ℕ) (af
   pub accepted : IsAcceptedPool bytes objects
   pub state : state after ≡ preloading (state before) address (map_of objects)
   pub redraws : redraws after.terminal ≡ true
-  pub looks : after.looks ≢ before.looks
+  pub looks : after.looks ≡ next_look before.looks
   pub waiting : waiting after ≡ waiting before
   pub latest : latest after ≡ latest before
   pub begun : after.begun ≡ before.begun

@@ -13,7 +13,7 @@ use Rattle.vt_server.specs.Terminals.{State}
 use Rattle.vt_laws.specs.Headline.{Pools, ArePoolsInForce, KeepsPromise}
 use Rattle.vt_session.specs.declared.session.Session.{Session}
 use Rattle.vt_session.specs.Inputs.{tick_at}
-use Rattle.vt_session.specs.Looks.{KeepsPicture}
+use Rattle.vt_session.specs.Looks.{KeepsPicture, LooksOn}
 use Rattle.vt_session.specs.Statuses.{DONE, NO_MEMORY, NO_SUCH, WAITING, NOT_BEGUN}
 
 -- the state of its terminal
@@ -109,7 +109,7 @@ pub record HasTaken (before : Session) (inputs : List Input) (after : Session) :
   pub steps : TakesInputs (state before) inputs (state after) [] (waiting after)
   pub promise : (pools : Pools) → ArePoolsInForce pools (state before) → KeepsPromise pools (state before) inputs (state after) [] (waiting after)
   pub screen : redraws after.terminal ≡ false → KeepsScreen (state before) (state after)
-  pub look : after.looks ≡ before.looks → KeepsPicture (state before) (state after)
+  pub look : LooksOn before.looks after.looks (KeepsPicture (state before) (state after))
   pub begun : after.begun ≡ before.begun
   pub text : after.text.items ≡ before.text.items
 
@@ -119,6 +119,7 @@ pub record LacksMemory (before after : Session) : Type 0 where
   pub state : state after ≡ state before
   pub redraws : redraws after.terminal ≡ redraws before.terminal
   pub waiting : waiting after ≡ []
+  pub look : after.looks ≡ before.looks
   pub begun : after.begun ≡ before.begun
   pub text : after.text.items ≡ before.text.items
 

@@ -1,10 +1,10 @@
 //! A terminal with the outputs that wait to be taken and the text written last, and the inputs that it takes.
 
-ghost use Rattle.std.specs.Prelude.{◌≡◌, ◌≢◌, [], length, true, IfSome, IsSomeAnd};
+ghost use Rattle.std.specs.Prelude.{◌≡◌, [], length, true, IfSome, IsSomeAnd};
 ghost use Rattle.vt_session.specs.Calls.{Acts, Hears, Texts, Ticks};
 ghost use Rattle.vt_session.specs.Inputs.{action_input, frame_input, text_input, ticks};
 ghost use Rattle.vt_server.specs.States.{state_of};
-ghost use Rattle.vt_session.specs.Looks.{IsFrameFrom, IsUntouched};
+ghost use Rattle.vt_session.specs.Looks.{IsFrameFrom, IsUntouched, LooksOn, next_look};
 ghost use Rattle.vt_session.specs.Sessions.{Answers, AnswersAt, AnswersWhen, Begins, Takes, TakesBoth, closed, profile_of};
 
 use crate::status::{DONE, NO_MEMORY, NO_SUCH, NOT_BEGUN, WAITING};
@@ -193,10 +193,15 @@ fn take_both(session: &mut Session, inputs: &[Input<'_>]) -> u32
     ensures { TakesBoth session.old inputs.now session.new result }
 {
     vt_laws::the_machine_never_sticks();
-    let taken = session.terminal.run(inputs, &mut session.outputs);
-    note_change(session);
-    match taken {
-        Ok(()) => DONE,
+    match session.terminal.run(inputs, &mut session.outputs) {
+        Ok(()) => {
+            note_change(session);
+            DONE
+        }
+        Err(fault) if fault.at > 0 => {
+            note_change(session);
+            NO_MEMORY
+        }
         Err(_) => NO_MEMORY,
     }
 }
@@ -233,7 +238,7 @@ fn source_in(inputs: &[Input<'_>]) -> Option<u8>
 
 /// Notes that the picture may have changed, unless what was done is a frame of a source that cannot have changed it.
 fn note_look(session: &mut Session, was: Option<u8>, source: Option<u8>)
-    ensures look { session.new.looks ≡ session.old.looks → IsSomeAnd source (λ s. IsUntouched was (state_of session.new.terminal) s) }
+    ensures look { LooksOn session.old.looks session.new.looks (IsSomeAnd source (λ s. IsUntouched was (state_of session.new.terminal) s)) }
     ensures rest { session.new ≡ record session.old { looks = session.new.looks } }
 {
     if !is_untouched(&session.terminal, was, source) {
@@ -243,7 +248,7 @@ fn note_look(session: &mut Session, was: Option<u8>, source: Option<u8>)
 
 /// Notes that the picture may have changed.
 pub(crate) fn note_change(session: &mut Session)
-    ensures other { session.new.looks ≢ session.old.looks }
+    ensures next { session.new.looks ≡ next_look session.old.looks }
     ensures rest { session.new ≡ record session.old { looks = session.new.looks } }
 {
     session.looks = session.looks.wrapping_add(1);

@@ -26,9 +26,12 @@ returns-in-Ok c =
       steps = steps;
       promise = λ pools force. c.the_machine_never_sticks.ensures.inputs pools old inputs new [] _ force steps;
       screen = c.run.ensures.same;
-      look = λ same. by_note c.others_keep_objects.ensures c.profiles_are_kept.ensures old new inputs c.shown-was.result c.source_in-source.result [] _
+      look = elim c.note_look.ensures.look [
+        | inl (same, noted) ↦ inl (same, by_note c.others_keep_objects.ensures c.profiles_are_kept.ensures old new inputs c.shown-was.result c.source_in-source.result [] _
           c.shown-was.ensures c.source_in-source.ensures c.requires.one steps
-          (subst (λ (t : Terminal). IsSomeAnd c.source_in-source.result (λ s. IsUntouched c.shown-was.result (state_of t) s)) here (c.note_look.ensures.look same));
+          (subst (λ (t : Terminal). IsSomeAnd c.source_in-source.result (λ s. IsUntouched c.shown-was.result (state_of t) s)) here noted))
+        | inr next ↦ inr next
+      ];
       begun = refl;
       text = refl;
     } in
@@ -45,6 +48,7 @@ returns-in-Err c =
         state = none.0;
         redraws = c.in-Err.ensures.err_redraws first;
         waiting = ap (λ (n : ℕ). drop n c.run.new.outputs.items) c.requires.first ∙ none.1 ∙ c.requires.none;
+        look = refl;
         begun = refl;
         text = refl;
       },
