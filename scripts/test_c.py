@@ -20,6 +20,7 @@ sys.dont_write_bytecode = True
 
 from c.dialogs import test_dialogs
 from c.display import test_display
+from c.generated import test_generated
 from c.languages import test_other_languages
 from c.live import test_live
 from c.looks import test_looks
@@ -39,6 +40,7 @@ def test_all(tests, folder, cases):
     test_symbols(tests)
     test_times(tests, programs)
     test_replays(tests, programs, cases)
+    test_generated(tests, programs)
     test_readings(tests, programs)
     test_display(tests, programs)
     test_looks(tests, programs)

@@ -32,8 +32,12 @@ class Log:
     def __init__(self):
         self.at, self.lines = 1000000, []
 
+    def gap(self):
+        """The microseconds from the frame before to the next one."""
+        return 1000
+
     def hear(self, identifier, data):
-        self.at += 1000
+        self.at += self.gap()
         self.lines.append(f'({self.at // 1000000}.{self.at % 1000000:06}) can0 {identifier:08X}#{data.hex().upper()}')
 
     def vt(self, data, source=0x80):
@@ -43,18 +47,20 @@ class Log:
         self.hear(0x18EEFF00 | source, struct.pack('<Q', 0x20001D0000000100 + source))
         self.hear(0x1CFE0D00 | source, bytes([1]) + b'\xff' * 7)
 
-    def upload_by_pieces(self, pool):
-        for at in range(0, len(pool), 7):
-            self.hear(0x14E72680, b'\x11' + pool[at:at + 7])
-        self.vt(b'\x12')
-
-    def upload_by_tp(self, pool):
-        message = b'\x11' + pool
+    def send_by_tp(self, message, source=0x80):
         packets = -(-len(message) // 7)
-        self.hear(0x1CEC2680, struct.pack('<BHBB', 0x10, len(message), packets, 0xFF) + bytes([0, 0xE7, 0]))
+        self.hear(0x1CEC2600 | source, struct.pack('<BHBB', 0x10, len(message), packets, 0xFF) + bytes([0, 0xE7, 0]))
         for number in range(packets):
-            self.hear(0x1CEB2680, bytes([number + 1]) + message[7 * number:7 * number + 7].ljust(7, b'\xff'))
-        self.vt(b'\x12')
+            self.hear(0x1CEB2600 | source, bytes([number + 1]) + message[7 * number:7 * number + 7].ljust(7, b'\xff'))
+
+    def upload_by_pieces(self, pool, source=0x80):
+        for at in range(0, len(pool), 7):
+            self.hear(0x14E72600 | source, b'\x11' + pool[at:at + 7])
+        self.vt(b'\x12', source)
+
+    def upload_by_tp(self, pool, source=0x80):
+        self.send_by_tp(b'\x11' + pool, source)
+        self.vt(b'\x12', source)
 
     def upload_by_etp(self, pool):
         message = b'\x11' + pool
