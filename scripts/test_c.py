@@ -27,6 +27,7 @@ from c.looks import test_looks
 from c.memory import test_memory
 from c.programs import CHECKING, LIBRARY, Programs
 from c.readings import test_readings
+from c.repaints import test_repaints
 from c.replays import test_replays
 from c.results import Tests
 from c.shared import test_shared
@@ -42,6 +43,7 @@ def test_all(tests, folder, cases):
     test_replays(tests, programs, cases)
     test_generated(tests, programs)
     test_readings(tests, programs)
+    test_repaints(tests, programs)
     test_display(tests, programs)
     test_looks(tests, programs)
     test_memory(tests, programs)

@@ -15,6 +15,7 @@ HOST = ['host.c', 'lines.c']
 REPLAY = ['replay.c', 'files.c', *HOST]
 LIVE = ['live.c', 'bus.c', *HOST]
 STATE = ['state.c', 'files.c', *HOST]
+LOOKS = [f'{ROOT}/scripts/c/looks.c', 'files.c', *HOST]
 
 
 def compiled(folder, name, sources, *flags, compiler='gcc', library=LIBRARY, libraries=()):
@@ -46,6 +47,9 @@ class Programs:
             'live-sanitized': ([*LIVE, 'heap.c'], ['-O1', *SANITIZERS]),
             'state': ([*STATE, 'heap.c'], ['-O2']),
             'state-sanitized': ([*STATE, 'heap.c'], ['-O1', *SANITIZERS]),
+            'looks': ([*LOOKS, 'heap.c'], ['-O2']),
+            'looks-sanitized': ([*LOOKS, 'heap.c'], ['-O1', *SANITIZERS]),
+            'looks-by-redraws': ([*LOOKS, 'heap.c'], ['-O2', '-DBY_REDRAWS']),
             'records': (['records.c', 'files.c'], ['-O1', *SANITIZERS]),
             'bench': (['bench.c', *HOST, 'heap.c'], ['-O2']),
             'bench-sanitized': (['bench.c', *HOST, 'heap.c'], ['-O1', *SANITIZERS]),
