@@ -25,6 +25,7 @@ from c.languages import test_other_languages
 from c.live import test_live
 from c.looks import test_looks
 from c.memory import test_memory
+from c.misuse import test_misuse
 from c.programs import CHECKING, LIBRARY, Programs
 from c.readings import test_readings
 from c.repaints import test_repaints
@@ -47,6 +48,7 @@ def test_all(tests, folder, cases):
     test_display(tests, programs)
     test_looks(tests, programs)
     test_memory(tests, programs)
+    test_misuse(tests, programs)
     test_stacks(tests, programs)
     test_live(tests, programs)
     test_other_languages(tests, folder)

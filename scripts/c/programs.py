@@ -10,11 +10,13 @@ CHECKING = f'{ROOT}/crates/vt_check/out/libvt_check.a'
 VT_REPLAY = f'{ROOT}/crates/vt_replay/out/vt_replay'
 EXAMPLES, HEADERS = f'{ROOT}/examples', f'{ROOT}/include'
 WARNINGS = ['-std=c11', '-Wall', '-Wextra', '-Werror']
+THREADS = ['-g', '-pthread', '-fsanitize=thread']
 SANITIZERS = ['-g', '-fsanitize=address,undefined', '-fno-sanitize-recover=all']
 HOST = ['host.c', 'lines.c']
 REPLAY = ['replay.c', 'files.c', *HOST]
 LIVE = ['live.c', 'bus.c', *HOST]
 STATE = ['state.c', 'files.c', *HOST]
+PAIR = [f'{ROOT}/scripts/c/pair.c', 'files.c', *HOST]
 LOOKS = [f'{ROOT}/scripts/c/looks.c', 'files.c', *HOST]
 
 
@@ -50,6 +52,9 @@ class Programs:
             'looks': ([*LOOKS, 'heap.c'], ['-O2']),
             'looks-sanitized': ([*LOOKS, 'heap.c'], ['-O1', *SANITIZERS]),
             'looks-by-redraws': ([*LOOKS, 'heap.c'], ['-O2', '-DBY_REDRAWS']),
+            'misuse': ([f'{ROOT}/scripts/c/misuse.c', 'files.c', 'heap.c'], ['-O1', *SANITIZERS]),
+            'pair': ([*PAIR, 'heap.c'], ['-O1', *THREADS]),
+            'pair-arena': ([*PAIR, 'arena.c'], ['-O1', '-DARENA_BYTES=67108864', *THREADS]),
             'records': (['records.c', 'files.c'], ['-O1', *SANITIZERS]),
             'bench': (['bench.c', *HOST, 'heap.c'], ['-O2']),
             'bench-sanitized': (['bench.c', *HOST, 'heap.c'], ['-O1', *SANITIZERS]),
