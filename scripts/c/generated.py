@@ -1,6 +1,6 @@
 """Tests on logs that are made at random, each from its number: replay.c prints for them what vt_replay prints.
 
-    PYTHONPATH=scripts python3 -m c.generated 17 > 17.log
+    PYTHONPATH=scripts python3 -B -m c.generated 17 > 17.log
 
 The pool of a log with an even number is sprayer.iop, that of the others kinds.iop, at the address 80.
 """
@@ -59,7 +59,8 @@ class Field:
         return struct.pack('<H', self.random.choice([0, 1, 2, 8, 20, 60, 100, 200, 480, 65535]))
 
     def value(self):
-        return struct.pack('<I', self.random.choice([0, 1, 2, 3, 30, 100, 255, 1000, 20000, 65535, 2000000, 4294967295, self.random.randrange(300)]))
+        known = [0, 1, 2, 3, 30, 100, 255, 1000, 20000, 65535, 2000000, 4294967295]
+        return struct.pack('<I', self.random.choice([*known, self.random.randrange(300)]))
 
 
 class RandomLog(Log):
@@ -137,7 +138,8 @@ class RandomLog(Log):
     def garbage(self):
         """A frame of random bytes."""
         source = self.random.choice([OWNER, OTHER, OWN, 0xFE])
-        identifier = self.random.choice([0x14E72600, 0x1CEC2600, 0x1CEB2600, 0x1CC82600, 0x18EEFF00, 0x18EAFF00, self.random.randrange(1 << 29) & ~0xFF])
+        known = [0x14E72600, 0x1CEC2600, 0x1CEB2600, 0x1CC82600, 0x18EEFF00, 0x18EAFF00]
+        identifier = self.random.choice([*known, self.random.randrange(1 << 29) & ~0xFF])
         data = self.random.randbytes(self.random.randrange(9))
         self.hear(identifier | source, data)
 
@@ -237,16 +239,22 @@ def printed_alike(programs, kind, number):
 
 
 def check_generated(programs, kind, numbers):
-    """Of each log the same is printed, and each kind of command is answered somewhere."""
+    """Of each log the same is printed."""
     need(VT_REPLAY)
     programs.get(kind)
     outputs = b''.join(side_by_side(lambda number: printed_alike(programs, kind, number), numbers)).split(b'\n')
+    screens = sum(line.startswith(b'screen ') for line in outputs)
+    refused = sum(line.startswith(b'operator ') for line in outputs)
+    if len(numbers) == COUNT:
+        check_answers(outputs)
+    return f'{len(numbers)} logs, {len(outputs)} lines printed, {screens} screens, {refused} refused actions'
+
+
+def check_answers(outputs):
+    """Each kind of command is answered somewhere, and each message of the terminal is sent."""
     answered = {line[9:11].decode() for line in outputs if line.startswith((b'14E68026#', b'14E68126#'))}
     missing = {*(row[:2] for row in COMMANDS), *TOLD} - {'FF'} - answered
     expect(not missing, f'never answered or told: {sorted(missing)}')
-    screens = sum(line.startswith(b'screen ') for line in outputs)
-    refused = sum(line.startswith(b'operator ') for line in outputs)
-    return f'{len(numbers)} logs, {len(outputs)} lines printed, {screens} screens, {refused} refused actions'
 
 
 def test_generated(tests, programs):
