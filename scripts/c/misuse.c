@@ -12,7 +12,12 @@
 #include <stdlib.h>
 #include <string.h>
 
-enum { OWN = 0x26, OWNER = 0x80, FRAMES = 100000, MOST_OUTPUTS = 1024 };
+/* How many random frames are heard. */
+#ifndef FRAMES
+#define FRAMES 100000
+#endif
+
+enum { OWN = 0x26, OWNER = 0x80, MOST_OUTPUTS = 1024 };
 
 /* A mask of the pool, and an Input Number, which is shown with one decimal. */
 enum { MASK = 1000, INPUT = 351 };
@@ -85,19 +90,21 @@ static void write_texts(struct vt_terminal *vt, const char *state, uint32_t addr
         check(id == INPUT ? (bytes > 0) == has_pool : may_be_there || bytes == 0, state, "vt_value_text");
         bytes = vt_picture(vt, address, id, buf, rooms[k]);
         check((bytes > 0) == has_pool, state, "vt_picture");
-        check(vt_screen(vt, buf, rooms[k]) > 0, state, "vt_screen");
         free(buf);
     }
 }
 
-/* Makes each call that lists, into memory of just its room. */
+/* Writes the screen and makes each call that lists, into memory of just its room. */
 static void write_lists(struct vt_terminal *vt, const char *state)
 {
     for (size_t k = 0; k < COUNT(rooms); k++) {
+        uint8_t *buf = rooms[k] == 0 ? NULL : malloc(rooms[k]);
         struct vt_set *sets = rooms[k] == 0 ? NULL : malloc(rooms[k] * sizeof *sets);
         struct vt_element *elements = rooms[k] == 0 ? NULL : malloc(rooms[k] * sizeof *elements);
+        check(vt_screen(vt, buf, rooms[k]) > 0, state, "vt_screen");
         check(vt_sets(vt, sets, rooms[k]) <= 254, state, "vt_sets");
         check((vt_elements(vt, elements, rooms[k]) > 0) == (vt_shown(vt) != 254), state, "vt_elements");
+        free(buf);
         free(sets);
         free(elements);
     }

@@ -1,4 +1,7 @@
-"""Tests of calls that make no sense, by misuse.c, and of two terminals in two threads, by pair.c. The library itself has no sanitizer."""
+"""Tests of calls that make no sense, by misuse.c, and of two terminals in two threads, by pair.c.
+
+The sanitizers see the headers, the programs and the memory that is taken; what the library itself reads and writes is seen by valgrind.
+"""
 import os
 
 from c.programs import EXAMPLES, VT_REPLAY, run
@@ -10,11 +13,16 @@ SPRAYER = ['sprayer.iop', 'sprayer.log']
 FIRST_REPORT = {**os.environ, 'TSAN_OPTIONS': 'halt_on_error=1'}
 
 
-def check_misuse(programs):
+def check_misuse(programs, kind, *before):
     """Each call has the result that its header names, before a pool is there, after the address was lost, and of random frames."""
-    status, out, messages = run([programs.get('misuse'), SPRAYER[0]], EXAMPLES)
+    status, out, messages = run([*before, programs.get(kind), SPRAYER[0]], EXAMPLES)
     expect(status == 0 and not messages, f'status {status}: {out[:300]!r} {messages[:600]!r}')
     return out.decode().splitlines()[0]
+
+
+def check_in_valgrind(programs):
+    need('valgrind')
+    return check_misuse(programs, 'misuse-short', 'valgrind', '-q', '--error-exitcode=9', '--leak-check=full')
 
 
 def in_two_threads(programs, kind):
@@ -41,6 +49,7 @@ def check_arena(programs):
 
 
 def test_misuse(tests, programs):
-    tests.run('calls that make no sense', check_misuse, programs)
+    tests.run('calls that make no sense', check_misuse, programs, 'misuse')
+    tests.run('calls that make no sense, in valgrind', check_in_valgrind, programs)
     tests.run('two terminals in two threads', check_threads, programs)
     tests.run('two threads over one arena are found', check_arena, programs)

@@ -53,6 +53,7 @@ class Programs:
             'looks-sanitized': ([*LOOKS, 'heap.c'], ['-O1', *SANITIZERS]),
             'looks-by-redraws': ([*LOOKS, 'heap.c'], ['-O2', '-DBY_REDRAWS']),
             'misuse': ([f'{ROOT}/scripts/c/misuse.c', 'files.c', 'heap.c'], ['-O1', *SANITIZERS]),
+            'misuse-short': ([f'{ROOT}/scripts/c/misuse.c', 'files.c', 'heap.c'], ['-O1', '-g', '-DFRAMES=10000']),
             'pair': ([*PAIR, 'heap.c'], ['-O1', *THREADS]),
             'pair-arena': ([*PAIR, 'arena.c'], ['-O1', '-DARENA_BYTES=67108864', *THREADS]),
             'records': (['records.c', 'files.c'], ['-O1', *SANITIZERS]),
