@@ -56,7 +56,7 @@ inline const char *text_of(Result result) noexcept
     case Result::done:
         return "the call is done";
     case Result::no_memory:
-        return "memory was refused and nothing is changed: free some, or give the arena more, and make the call again";
+        return "memory was refused: free some, or give the arena more, take the outputs that wait after an action, and make the call again";
     case Result::no_such:
         return "there is no such frame or address: an identifier is at most 1FFFFFFF, a frame has at most 8 bytes, and a set is "
                "preloaded at an address up to 253 that is not the terminal's own and has no set";
@@ -149,7 +149,8 @@ struct [[nodiscard]] Reply {
 };
 
 // What the terminal answers to requests for its technical data (ISO 11783-6, Get Memory, Get Number of Soft Keys, Get Text Font
-// Data, Get Hardware). It changes nothing else. The default is the profile of docs/PROFILE.md.
+// Data, Get Hardware), and the sizes by which pictures, elements and touches
+// are made. It changes nothing else. The default is the profile of docs/PROFILE.md.
 struct Profile {
     std::uint32_t memory = 1048576;        // for pools, in bytes
     std::uint8_t soft_key_width = 64;      // in pixels
@@ -185,6 +186,9 @@ struct Active {
 // What an input accepts from the operator, and how its number is shown (vt_terminal.h).
 using Limits = ::vt_limits;
 
+// The size of a picture, in pixels.
+using Extent = ::vt_extent;
+
 // An element of the shown mask or of its soft keys, in pixels from the upper left corner of the mask (vt_terminal.h).
 using Element = vt_element;
 
@@ -204,24 +208,29 @@ public:
 
 #if SEGYOLANT_THROWS
     // A terminal at an address, with its NAME (ISO 11783-5) and its profile. It sends nothing yet: see `claim`.
-    // Throws std::invalid_argument for an address above 253, and std::bad_alloc without memory for itself.
+    // Throws std::invalid_argument for an address above 253, std::bad_alloc without memory for itself, and std::runtime_error where the
+    // library is of another version than this header.
     Terminal(std::uint8_t own, std::uint64_t name, const Profile &profile = Profile())
     {
         if (own > highest_address) {
             throw std::invalid_argument("the address of a terminal is above 253 (FD): 254 and 255 are no addresses of a node; "
                                         "take one up to 253, such as 38 (26)");
         }
-        if (!begin(own, name, profile)) {
+        const Result result = begin(own, name, profile);
+        if (result == Result::other_version) {
+            throw std::runtime_error(text_of(result));
+        }
+        if (result != Result::done) {
             throw std::bad_alloc();
         }
     }
 #endif
 
-    // Makes a terminal without exceptions: none for an address above 253, or without memory for it.
+    // Makes a terminal without exceptions: none for an address above 253, without memory for it, or where the library is of another version.
     static std::optional<Terminal> create(std::uint8_t own, std::uint64_t name, const Profile &profile = Profile()) noexcept
     {
         Terminal made;
-        if (own > highest_address || !made.begin(own, name, profile)) {
+        if (own > highest_address || made.begin(own, name, profile) != Result::done) {
             return std::nullopt;
         }
         return std::optional<Terminal>(std::move(made));
@@ -403,6 +412,14 @@ public:
         return count == UINT64_MAX ? std::nullopt : std::optional(written<std::string>(count));
     }
 
+    // The size of what `picture` draws, in pixels: none if there is no set with a pool.
+    [[nodiscard]] std::optional<Extent> picture_size(std::uint8_t address, std::optional<std::uint16_t> mask = std::nullopt) const noexcept
+    {
+        Extent size{};
+        const bool is = at_ && vt_picture_size(at_, address, mask.value_or(VT_NO_ID), &size) == VT_DONE;
+        return is ? std::optional<Extent>(size) : std::nullopt;
+    }
+
     // The elements that the shown mask and its soft keys show, in the order in which they are drawn, at most 2,000.
     [[nodiscard]] std::optional<std::vector<Element>> elements()
     {
@@ -494,13 +511,12 @@ private:
 
     Terminal() noexcept = default;
 
-    bool begin(std::uint8_t own, std::uint64_t name, const Profile &profile) noexcept
+    Result begin(std::uint8_t own, std::uint64_t name, const Profile &profile) noexcept
     {
         void *memory = ::operator new(vt_size(), alignment, std::nothrow);
         if (!memory) {
-            return false;
+            return Result::no_memory;
         }
-        at_ = static_cast<vt_terminal *>(memory);
         vt_profile all = VT_STANDARD_PROFILE;
         all.memory = profile.memory;
         all.soft_key_width = profile.soft_key_width;
@@ -515,7 +531,14 @@ private:
         all.hardware = profile.hardware;
         all.width = profile.width;
         all.height = profile.height;
-        return vt_begin(at_, own, name, &all) == VT_DONE;
+        vt_terminal *made = static_cast<vt_terminal *>(memory);
+        const Result result = static_cast<Result>(vt_begin(made, own, name, &all));
+        if (result == Result::done) {
+            at_ = made;
+        } else {
+            ::operator delete(memory, alignment);
+        }
+        return result;
     }
 
     void end() noexcept

@@ -56,8 +56,8 @@ static inline void vt_write_word(uint8_t *at, uint64_t word)
     at[7] = (uint8_t)(word >> 56);
 }
 
-/* The results of calls that can be refused. After all but VT_DONE the terminal is unchanged, with one exception: after VT_NO_MEMORY of
- * vt_act or vt_text the time may have moved on, and outputs of that may wait. */
+/* The results of calls that can be refused. After all but VT_DONE the terminal is unchanged but for the text written last, with one
+ * exception: after VT_NO_MEMORY of vt_act or vt_text the time may have moved on, as by vt_tick, and outputs of that may wait. */
 enum vt_result {
     VT_DONE = 0,          /* the call is done */
     VT_NO_MEMORY = 1,     /* memory was refused; take the outputs, if there are any, and make the same call again */
@@ -70,7 +70,7 @@ enum vt_result {
 };
 
 /* What the terminal answers to requests for its technical data (ISO 11783-6, Get Memory, Get Number of Soft Keys, Get Text Font
- * Data, Get Hardware). It changes nothing else. The version is always 3. */
+ * Data, Get Hardware), and the sizes by which pictures, elements and touches are made. It changes nothing else. The version is always 3. */
 struct vt_profile {
     uint32_t size;              /* sizeof(struct vt_profile) */
     uint32_t memory;            /* for pools, in bytes */
@@ -127,7 +127,7 @@ enum vt_result vt_preload_bytes(struct vt_terminal *at, uint32_t address, const 
 
 /* Adds a working set with an object pool that is there from the start, at an address without a set (at most 253, not the own one).
  * VT_NO_SUCH if the address is none of these, VT_NO_POOL if the pool has a fault or breaks a rule. The bytes are not kept. The set is
- * closed three seconds after the first vt_hear or vt_tick that follows, unless a frame comes from its address. */
+ * closed more than three seconds after the first time that is told from then on, unless a frame comes from its address. */
 VT_INLINE enum vt_result vt_preload(struct vt_terminal *at, uint32_t address, const uint8_t *pool, size_t count)
 {
     return vt_preload_bytes(at, address, pool == NULL ? (const uint8_t *)"" : pool, count);
@@ -158,7 +158,8 @@ VT_INLINE enum vt_result vt_hear(struct vt_terminal *at, uint64_t time, uint32_t
 /* The time alone: sessions time out, and silent sets are closed. Call it at vt_deadline, or some times a second. */
 enum vt_result vt_tick(struct vt_terminal *at, uint64_t time);
 
-/* As the time of an action: the latest time so far, as an operator's line in a log has it. Nothing times out for it. */
+/* As the time of vt_act and vt_text alone: the latest time so far, as an operator's line in a log has it. Nothing times out for it. To
+ * vt_hear and vt_tick it is a time like others, after which nothing times out any more. */
 #define VT_LATEST UINT64_MAX
 
 /* Actions of the operator for vt_act. */
@@ -217,7 +218,8 @@ enum vt_refusal {
 };
 
 /* The calls behind vt_take. vt_next takes the next output and returns its kind. The others tell of the output taken last: the identifier of
- * the frame, or the number of the refusal; the number of data bytes; the data bytes, the first lowest. All are 0 after VT_NONE. */
+ * the frame, or the number of the refusal; the number of data bytes; the data bytes, the first lowest. All are 0 after VT_NONE, and after an input, a claim or a status until the next
+ * output is taken. */
 enum vt_output vt_next(struct vt_terminal *at);
 uint32_t vt_output_id(const struct vt_terminal *at);
 uint32_t vt_output_count(const struct vt_terminal *at);
@@ -372,6 +374,25 @@ VT_INLINE uint64_t vt_picture(struct vt_terminal *at, uint32_t address, uint32_t
     return vt_written(at, vt_text_of_picture(at, address, mask), buf, room);
 }
 
+/* The size of a picture, in pixels. */
+struct vt_extent {
+    uint32_t width;
+    uint32_t height;
+};
+
+/* The call behind vt_picture_size: the width, and the height times 2^32. */
+uint64_t vt_size_of_picture(const struct vt_terminal *at, uint32_t address, uint32_t mask);
+
+/* Tells how large vt_picture draws a mask with its soft keys. Returns VT_DONE, or VT_NO_SUCH if there is no set with a pool; then both are
+ * 0. */
+VT_INLINE enum vt_result vt_picture_size(const struct vt_terminal *at, uint32_t address, uint32_t mask, struct vt_extent *size)
+{
+    uint64_t both = vt_size_of_picture(at, address, mask);
+    size->width = (uint32_t)both;
+    size->height = (uint32_t)(both >> 32);
+    return vt_has_pool(at, address) == 0 ? VT_NO_SUCH : VT_DONE;
+}
+
 /* An element of the shown mask or of its soft keys, in pixels from the upper left corner of the mask. */
 struct vt_element {
     uint16_t id;     /* the object: for a pointer that to which it leads */
@@ -447,13 +468,14 @@ struct vt_limits {
     uint8_t decimals;  /* the number of decimals shown, 0 to 7 */
     uint8_t items;     /* the number of items of an Input List, or 0 */
     uint8_t length;    /* the most bytes of a text, or 0 */
-    uint32_t value;    /* the raw value that it shows: its own, or that of its variable; of an Input String 0 */
+    uint32_t value;    /* the raw value that it shows: its own, or that of its variable; 0 for an Input String, or without that variable */
     uint32_t minimum;  /* the least raw value that VT_NUMBER accepts */
     uint32_t maximum;  /* the greatest one; below the least where no number is accepted */
     int32_t offset;
 };
 
-/* Tells the limits of an input of the set at an address. Returns VT_DONE, VT_NO_SUCH if there is no such input, or VT_NO_MEMORY. */
+/* Tells the limits of an input of the set at an address. Returns VT_DONE, or VT_NO_SUCH if there is no such input: then no number and no
+ * text is accepted by the limits; or VT_NO_MEMORY. */
 VT_INLINE enum vt_result vt_limits_of(struct vt_terminal *at, uint32_t address, uint32_t id, struct vt_limits *limits)
 {
     uint64_t count = vt_text_of_limits(at, address, id);
@@ -468,6 +490,9 @@ VT_INLINE enum vt_result vt_limits_of(struct vt_terminal *at, uint32_t address, 
     limits->minimum = (uint32_t)(first >> 32);
     limits->maximum = (uint32_t)last;
     limits->offset = (int32_t)(uint32_t)(last >> 32);
+    if (count == 0 || count == UINT64_MAX) {
+        limits->minimum = 1;
+    }
     return count == UINT64_MAX ? VT_NO_MEMORY : count == 0 ? VT_NO_SUCH : VT_DONE;
 }
 
@@ -479,8 +504,8 @@ VT_INLINE uint64_t vt_value_text(struct vt_terminal *at, uint32_t address, uint3
 }
 
 /* Finds the raw value of what the operator typed for an Input Number of the set at an address, exactly, for VT_NUMBER: an optional minus,
- * digits, and perhaps a point and more digits, 15 digits at most. VT_NO_SUCH if it is no such text, or no raw value of 32 bits is shown as
- * just that number; the raw value may still be outside the limits. */
+ * digits, and perhaps a point and more digits, 15 digits at most with leading zeros. VT_NO_SUCH if it is no such text, if there is no such
+ * input, or if no raw value of 32 bits is just that number before any rounding; the raw value may still be outside the limits. */
 VT_INLINE enum vt_result vt_raw(const struct vt_terminal *at, uint32_t address, uint32_t id, const char *text, size_t count, uint32_t *raw)
 {
     size_t k = count > 0 && text[0] == '-' ? 1 : 0, begin = k;
@@ -497,7 +522,7 @@ VT_INLINE enum vt_result vt_raw(const struct vt_terminal *at, uint32_t address, 
             return VT_NO_SUCH;
         }
     }
-    found = all == 0 ? UINT64_MAX : vt_raw_of(at, address, id, begin == 0 ? 0 : 1, digits, decimals);
+    found = all == 0 || (behind == 1 && decimals == 0) ? UINT64_MAX : vt_raw_of(at, address, id, begin == 0 ? 0 : 1, digits, decimals);
     if (found == UINT64_MAX) {
         return VT_NO_SUCH;
     }

@@ -16,7 +16,11 @@ bool host_begin(struct host *host, uint32_t own, uint64_t name)
     if (host->vt == NULL) {
         return false;
     }
-    vt_begin(host->vt, own, name, &profile);
+    if (vt_begin(host->vt, own, name, &profile) != VT_DONE) {
+        free(host->vt);
+        host->vt = NULL;
+        return false;
+    }
     return true;
 }
 
@@ -82,6 +86,7 @@ static enum vt_result try_call(struct host *host, const struct call *call)
     enum vt_result result = make(host->vt, call);
     for (unsigned tries = 1; result == VT_NO_MEMORY && tries < host->tries; tries++) {
         rest(host);
+        host->redraws = host->redraws || vt_redraws(host->vt);
         if (call->kind == ACT && host->take != NULL) {
             host->take(host);
         }
@@ -182,6 +187,7 @@ enum draw host_draw(struct host *host)
     if (count == UINT64_MAX || !make_room(host, (size_t)count)) {
         return DRAW_NO_MEMORY;
     }
+    host->redraws = false;
     if (count > room) {
         /* The room was too small: the text is still there, and is copied again. */
         vt_copy(host->vt, (uint8_t *)host->drawn, (size_t)count);

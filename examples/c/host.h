@@ -15,13 +15,15 @@ struct host {
     char *drawn;    /* room for the next one */
     size_t count;   /* the bytes of `screen` */
     size_t room;    /* the bytes that `screen` and `drawn` have room for */
+    bool redraws;   /* the screen may have changed at a try that memory was refused to */
     void (*take)(struct host *host); /* takes the outputs that wait before an action is tried again, or null */
 };
 
 /* What a draw gave. */
 enum draw { DRAW_NEW, DRAW_SAME, DRAW_NO_MEMORY };
 
-/* Makes a terminal with the standard profile, and two tries for each call. Returns false if memory was refused. */
+/* Makes a terminal with the standard profile, and two tries for each call. Returns false if memory was refused, the address is above 253
+ * or the library is of another version. */
 bool host_begin(struct host *host, uint32_t own, uint64_t name);
 
 /* Ends the terminal. */

@@ -35,7 +35,7 @@ enum { SECOND = 1000000, QUIET = 250000 };
 /* The parameter groups of address claims and of requests. */
 enum { CLAIMS = 0xEE00, REQUESTS = 0xEA00 };
 
-/* How often a call is made whose memory is refused, the microseconds between, and those after a tick that was left out. */
+/* How often a call is made whose memory is refused, the microseconds between, and the least from one tick to the next. */
 enum { TRIES = 10, PAUSE = 1000, TICK_PAUSE = 100000 };
 
 /* The most frames heard before the status is looked at. */
@@ -112,7 +112,7 @@ static void end_input(struct live *live, enum vt_result result)
         fprintf(live->people, "the memory for an input was refused %d times\n", TRIES);
     }
     take_outputs(live);
-    if (vt_redraws(live->host.vt)) {
+    if (vt_redraws(live->host.vt) || live->host.redraws) {
         print_screen(live);
     }
     fflush(live->people);
@@ -155,7 +155,7 @@ static void hear_bus(struct live *live)
     }
 }
 
-/* Tells the terminal the time. Where memory is refused for that, it is told again some time later. */
+/* Tells the terminal the time. It is told again some time later, also where memory was refused for it. */
 static void tick(struct live *live, uint64_t time)
 {
     enum vt_result result = host_tick(&live->host, time);

@@ -85,6 +85,10 @@ int main(int argc, char **argv)
 
     const std::vector<segyolant::Element> elements = terminal.elements().value_or(std::vector<segyolant::Element>());
     const std::string picture = terminal.picture(implement).value_or("");
+    const std::optional<segyolant::Extent> size = terminal.picture_size(implement);
+    if (!size || picture.find("width=\"" + std::to_string(size->width) + "\" height=\"" + std::to_string(size->height) + "\"") > 60) {
+        return failed("the picture has another size");
+    }
     for (std::size_t k = 0; k < elements.size(); k++) {
         const std::string id = "data-id=\"" + std::to_string(elements[k].id) + "\"";
         if (!fits(terminal, elements, k) || picture.find(id) == std::string::npos) {

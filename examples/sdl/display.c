@@ -1,4 +1,5 @@
-/* Shows a working set in a window of SDL2, as a display does: from the elements of the shown mask and the records of objects alone.
+/* Shows a working set in a window of SDL2, as a display does, by the calls of vt_terminal.h alone: the elements of the shown mask, the
+ * record of each object and the text of a field.
  *
  *     display [--pool FILE --owner AA] [--log FILE [--lines N]] [--font FILE] [--boxes | --shot FILE.bmp]
  *

@@ -58,17 +58,16 @@ bool is_changed(const struct objects *objects)
     return vt_look(objects->vt) != objects->look;
 }
 
-/* Soft keys are in columns to the right of the mask, as many in one as fit beside it, with 8 pixels before each column and between two
- * keys. Their number is in the record of the soft key mask, as a place without a key has no element. */
 struct sizes sizes_of(struct objects *objects)
 {
     static const struct vt_profile profile = VT_STANDARD_PROFILE; /* as host_begin has it */
-    enum { GAP = 8 };
-    const uint8_t *record = record_named(objects, objects->active.soft_key_mask, VT_SOFT_KEY_MASK);
-    int keys = record == NULL ? 0 : record[VT_SOFT_KEY_MASK_COUNT_OF_KEYS];
-    int in_column = (profile.height + GAP) / (profile.soft_key_height + GAP);
-    int columns = (keys + in_column - 1) / in_column;
-    struct sizes sizes = {profile.width, profile.height, profile.width + columns * (profile.soft_key_width + GAP), profile.height};
+    struct vt_extent size;
+    struct sizes sizes = {profile.width, profile.height, profile.width, profile.height};
+
+    if (vt_picture_size(objects->vt, objects->set, VT_NO_ID, &size) == VT_DONE) {
+        sizes.width = (int)size.width;
+        sizes.height = (int)size.height;
+    }
     return sizes;
 }
 

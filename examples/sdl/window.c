@@ -137,8 +137,8 @@ void run_window(struct window *window)
     SDL_Event event;
     while (window->is_open) {
         if (window->is_stale) {
-            window->is_stale = false;
-            if (!draw_window(window)) {
+            window->is_stale = !draw_window(window);
+            if (window->is_stale) {
                 fprintf(stderr, "display: a part of the picture could not be drawn\n");
             }
             SDL_RenderPresent(window->painter.canvas.renderer);

@@ -1,5 +1,6 @@
 """Tests of what a dialog reads and of vt_look, over the shared library: compared with a plain reading of the records."""
 import ctypes
+import re
 import struct
 from fractions import Fraction
 
@@ -66,6 +67,11 @@ class Terminal:
         count = self.library.vt_picture(self.at, shown, NONE, self.room, ctypes.c_size_t(len(self.room)))
         return shown, self.room.raw[:count]
 
+    def size(self):
+        found = (ctypes.c_uint32 * 2)()
+        status = self.library.vt_picture_size(self.at, self.library.vt_shown(self.at), NONE, ctypes.byref(found))
+        return status, found[0], found[1]
+
     def take(self):
         taken = ctypes.create_string_buffer(64)
         outputs = 0
@@ -128,8 +134,8 @@ def check_raw():
     inputs = {200: (-100, 1), 201: (-2147483648, 3)}
     numbers = ['0', '20', '20.0', '20.00', '20.5', '20.05', '-9.9', '-10', '-10.0', '-10.1', '-0', '-0.0', '0.1', '4294967195', '429496719.5',
                '429496719.6', '2147483.647', '2147483.648', '-2147483.648', '-2147483.649', '2147483.6470000', '999999999999999', '1.00000000000000',
-               '100000000000000', '0.00000000000001', '00000000000020.5'[:15]]
-    none = ['', '-', '.', '.5', '5..', '5.5.5', '+5', ' 5', '5 ', '1e3', '--5', '5-', '1' * 16, 'x', '0x10', '1,5', '-.5']
+               '100000000000000', '0.00000000000001', '00000000000020.5']
+    none = ['', '-', '.', '.5', '5.', '-5.', '5..', '5.5.5', '+5', ' 5', '5 ', '1e3', '--5', '5-', '1' * 16, 'x', '0x10', '1,5', '-.5']
     for number, (offset, places) in inputs.items():
         for typed in numbers:
             expect(terminal.raw(number, typed) == raw_of(typed, offset, places), f'{typed!r} is {terminal.raw(number, typed)} for {number}')
@@ -173,6 +179,22 @@ def check_look():
     return f'{changed} pictures, {stayed} frames after which nothing is painted'
 
 
+def check_sizes():
+    """The size of a picture is that in its first tag: of each mask of a pool, and of none once the set is closed."""
+    terminal = Terminal(read(f'{EXAMPLES}/sprayer.iop'))
+    sizes = set()
+    for mask in ('E803', 'DC05'):
+        terminal.hear(1000000, 0x14E72680, bytes.fromhex('AD0100' + mask + 'FFFFFF'))
+        first = re.match(rb'<svg [^>]*?width="(\d+)" height="(\d+)"', terminal.picture()[1])
+        wanted = (0, int(first[1]), int(first[2]))
+        expect(terminal.size() == wanted, f'{terminal.size()} in place of {wanted}')
+        sizes.add(wanted)
+    terminal.act(9000000, 0, 200, 0)
+    expect(terminal.size() == (2, 0, 0), f'{terminal.size()} of no set')
+    terminal.end()
+    expect(len(sizes) == 2, f'{sizes}')
+
+
 def check_act_at_its_time():
     """A text of an operator after two seconds of silence is sent in a session that does not end at once."""
     terminal = Terminal(pool_of(POOL))
@@ -208,5 +230,6 @@ def test_dialogs(tests):
     tests.run('limits and texts of inputs', check_dialogs)
     tests.run('raw values of typed numbers', check_raw)
     tests.run('vt_look', check_look)
+    tests.run('sizes of pictures', check_sizes)
     tests.run('actions at their time', check_act_at_its_time)
     tests.run('null pointers and versions', check_null_and_versions)

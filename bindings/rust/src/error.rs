@@ -1,12 +1,13 @@
 use std::fmt;
 
-/// Why a call failed. The terminal is unchanged.
+/// Why a call failed. The terminal is unchanged, but for the time of an action without memory ([`Error::OutOfMemory`]).
 #[derive(Clone, Copy, Debug, PartialEq, Eq)]
 #[non_exhaustive]
 pub enum Error {
     /// A terminal was to be made at an address above 253 (ISO 11783-5: 254 is the null address, 255 the global one).
     OwnAddress(u8),
-    /// Memory was refused. The same call may be made again.
+    /// Memory was refused. The same call may be made again. After one of an action the time may have moved on: then the outputs of that
+    /// are taken first, by [`Terminal::waiting`](crate::Terminal::waiting), or the next call drops them.
     OutOfMemory,
     /// There is no frame with this identifier and this number of data bytes.
     NoSuchFrame {
@@ -19,7 +20,9 @@ pub enum Error {
     NotFree(u8),
     /// The bytes are no accepted object pool.
     NotAPool,
-    /// The library returned a status that it does not have here.
+    /// The library is of another version than this crate.
+    OtherVersion(u32),
+    /// The library returned a result that it does not have here.
     Unexpected(u32),
 }
 
@@ -31,7 +34,7 @@ impl fmt::Display for Error {
                 "{own} ({own:02X}) is no address of a terminal: take one up to 253 (FD), such as 38 (26)"
             ),
             Error::OutOfMemory => f.write_str(
-                "memory was refused and nothing is changed: free some, or give the arena more, and make the call again",
+                "memory was refused: free some, or give the arena more, take what `waiting` has after an action, and make the call again",
             ),
             Error::NoSuchFrame { id, count } => write!(
                 f,
@@ -44,9 +47,13 @@ impl fmt::Display for Error {
             Error::NotAPool => f.write_str(
                 "the bytes are no accepted object pool: `segyolant check FILE` names each fault, and docs/POOLS.md has its cure",
             ),
+            Error::OtherVersion(version) => write!(
+                f,
+                "the library has the version {version:06X}, and this crate 000200: link the libvt_terminal.a of the same commit"
+            ),
             Error::Unexpected(status) => write!(
                 f,
-                "the library returned the status {status}, which this crate does not know: link the libvt_terminal.a of the same commit"
+                "the library returned the result {status}, which this crate does not know: link the libvt_terminal.a of the same commit"
             ),
         }
     }

@@ -78,7 +78,7 @@ impl fmt::Display for Refusal {
     }
 }
 
-/// The outputs of one input, at most 1,024, in the order in which they are to be sent. It allocates nothing.
+/// The outputs of one input, at most 1,024, or 2,048 of an action at a time, in the order in which they are to be sent. It allocates nothing.
 ///
 /// Those that are not taken are lost with it.
 #[must_use = "the frames are to be sent, and those not taken are lost"]

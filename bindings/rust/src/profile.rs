@@ -1,5 +1,5 @@
 /// What the terminal answers to requests for its technical data (ISO 11783-6, Get Memory, Get Number of Soft Keys, Get Text Font
-/// Data, Get Hardware). It changes nothing else. The default is the profile of docs/PROFILE.md.
+/// Data, Get Hardware), and the sizes by which pictures, elements and touches are made. It changes nothing else. The default is the profile of docs/PROFILE.md.
 #[derive(Clone, Copy, Debug, PartialEq, Eq)]
 pub struct Profile {
     /// The memory for pools, in bytes.

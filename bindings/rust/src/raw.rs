@@ -35,6 +35,7 @@ struct VtTerminal {
 
 // These declarations are those of include/vt_terminal.h.
 extern "C" {
+    fn vt_version() -> u32;
     fn vt_size() -> usize;
     fn vt_init(
         at: *mut VtTerminal,
@@ -74,6 +75,7 @@ extern "C" {
     fn vt_has_pool(at: *mut VtTerminal, address: u32) -> u64;
     fn vt_text_of_object(at: *mut VtTerminal, address: u32, id: u32) -> u64;
     fn vt_text_of_picture(at: *mut VtTerminal, address: u32, mask: u32) -> u64;
+    fn vt_size_of_picture(at: *const VtTerminal, address: u32, mask: u32) -> u64;
     fn vt_look(at: *mut VtTerminal) -> u64;
     fn vt_text_of_limits(at: *mut VtTerminal, address: u32, id: u32) -> u64;
     fn vt_text_of_value(at: *mut VtTerminal, address: u32, id: u32) -> u64;
@@ -113,8 +115,18 @@ fn word(bytes: [u8; 4]) -> u32 {
     u32::from_le_bytes(bytes)
 }
 
+/// The version of the interface that this crate speaks: its first two numbers are those of the library.
+const VERSION: u32 = 0x00_0200;
+
+/// The version of the library, if it is another one than that of this crate.
+pub(crate) fn other_version() -> Option<u32> {
+    // SAFETY: the call takes and changes nothing.
+    let version = unsafe { vt_version() };
+    Some(version).filter(|version| version >> 8 != VERSION >> 8)
+}
+
 impl Handle {
-    /// Makes a terminal at an address up to 253, or none if its memory was refused.
+    /// Makes a terminal at an address up to 253, or none if its memory was refused. The library has the version of this crate.
     pub(crate) fn new(own: u8, name: u64, profile: &Profile) -> Option<Handle> {
         let p = profile;
         // SAFETY: the layout has at least one byte.
@@ -284,6 +296,12 @@ impl Handle {
     pub(crate) fn picture(&mut self, address: u8, mask: u16) -> u64 {
         // SAFETY: `at` is a terminal, lent alone.
         unsafe { vt_text_of_picture(self.at.as_ptr(), u32::from(address), u32::from(mask)) }
+    }
+
+    /// The width of a picture, and its height times 2^32; 0 without a set that has a pool.
+    pub(crate) fn picture_size(&self, address: u8, mask: u16) -> u64 {
+        // SAFETY: `at` is a terminal, and the call changes nothing.
+        unsafe { vt_size_of_picture(self.at.as_ptr(), u32::from(address), u32::from(mask)) }
     }
 
     /// Writes the limits of an input and returns the number of their bytes, 24 or 0, or `u64::MAX`.

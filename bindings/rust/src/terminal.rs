@@ -1,4 +1,4 @@
-use crate::raw::{status, Action, Handle};
+use crate::raw::{other_version, status, Action, Handle};
 use crate::set::NO_ID;
 use crate::{Active, Element, Error, Frame, Limits, Outputs, Profile, Set};
 
@@ -33,6 +33,9 @@ impl Terminal {
     pub fn with_profile(own: u8, name: u64, profile: &Profile) -> Result<Terminal, Error> {
         if own > 253 {
             return Err(Error::OwnAddress(own));
+        }
+        if let Some(version) = other_version() {
+            return Err(Error::OtherVersion(version));
         }
         match Handle::new(own, name, profile) {
             Some(handle) => Ok(Terminal { handle, own }),
@@ -176,6 +179,13 @@ impl Terminal {
         Ok(Some(text_of(self.written(count)?)).filter(|picture| !picture.is_empty()))
     }
 
+    /// The width and the height of what [`picture`](Terminal::picture) draws, in pixels. `None` if there is no set with a pool.
+    pub fn picture_size(&mut self, address: u8, mask: Option<u16>) -> Option<(u32, u32)> {
+        let size = self.handle.picture_size(address, mask.unwrap_or(NO_ID));
+        let has_pool = self.handle.has_pool(address);
+        has_pool.then_some((size as u32, (size >> 32) as u32))
+    }
+
     /// The elements that the shown mask and its soft keys show, in the order in which they are drawn; of a longer drawing the first
     /// 2,000. The only error is [`Error::OutOfMemory`].
     pub fn elements(&mut self) -> Result<Vec<Element>, Error> {
@@ -209,7 +219,7 @@ impl Terminal {
     }
 
     /// The raw value, for [`number`](Terminal::number), of what the operator typed for an Input Number of the set at an address,
-    /// exactly: an optional minus, digits, and perhaps a point and more digits, 15 digits at most. `None` if there is no such value of
+    /// exactly: an optional minus, digits, and perhaps a point and more digits, 15 digits at most with leading zeros. `None` if there is no such value of
     /// 32 bits; it may still be outside the limits.
     pub fn raw(&self, address: u8, id: u16, typed: &str) -> Option<u32> {
         let (is_negative, rest) = match typed.strip_prefix('-') {
@@ -218,7 +228,10 @@ impl Terminal {
         };
         let (whole, behind) = rest.split_once('.').unwrap_or((rest, ""));
         let digits = format!("{whole}{behind}");
-        let is_number = !whole.is_empty() && digits.bytes().all(|byte| byte.is_ascii_digit());
+        let has_point = rest.contains('.');
+        let is_number = !whole.is_empty()
+            && has_point != behind.is_empty()
+            && digits.bytes().all(|byte| byte.is_ascii_digit());
         if !is_number || digits.len() > 15 {
             return None;
         }

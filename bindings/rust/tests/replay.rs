@@ -140,6 +140,13 @@ fn what_a_dialog_reads_and_when_to_paint() {
     assert_eq!(terminal.raw(0x80, 351, "250.0"), Some(250));
     assert_eq!(terminal.raw(0x80, 351, "250.5"), None);
 
+    let picture = terminal.picture(0x80, None).expect("memory");
+    let (width, height) = terminal.picture_size(0x80, None).expect("a pool");
+    let size = format!("width=\"{width}\" height=\"{height}\"");
+    assert!(picture.expect("a pool")[..100].contains(&size));
+    assert_eq!(terminal.picture_size(0x81, None), None);
+    assert_eq!(terminal.raw(0x80, 351, "250."), None);
+
     let look = terminal.look();
     let claim = Frame::new(0x18EE_FF90, &[0x1D, 0, 0, 0, 0, 0, 0, 0x20]).expect("a frame");
     terminal.hear(1, &claim).expect("memory").for_each(drop);
