@@ -63,6 +63,94 @@ enum vt_object_kind {
     VT_MACRO = 28,
 };
 
+/* The bits of the options of fields: strings, and numbers without the second one. */
+enum vt_field_options {
+    VT_FIELD_TRANSPARENT = 1,
+    VT_FIELD_WRAPS = 2,
+};
+
+/* The bit of the second options of an Input Number, and of the options of an Input List. */
+enum vt_enabled_option {
+    VT_IS_ENABLED = 1,
+};
+
+/* Where the text of a field is, the lowest two bits of its justification. */
+enum vt_justification {
+    VT_AT_LEFT = 0,
+    VT_IN_MIDDLE = 1,
+    VT_AT_RIGHT = 2,
+};
+
+/* The bits of the style of a font. */
+enum vt_font_style {
+    VT_BOLD = 1,
+    VT_CROSSED_OUT = 2,
+    VT_UNDERLINED = 4,
+    VT_ITALIC = 8,
+    VT_INVERTED = 16,
+};
+
+/* The bits of the line suppression of a Rectangle: the sides that it has not. */
+enum vt_suppression {
+    VT_NO_UPPER_SIDE = 1,
+    VT_NO_RIGHT_SIDE = 2,
+    VT_NO_LOWER_SIDE = 4,
+    VT_NO_LEFT_SIDE = 8,
+};
+
+/* The types of Fill Attributes. Others are as VT_FILL_OWN. */
+enum vt_fill_type {
+    VT_FILL_NOTHING = 0,
+    VT_FILL_LINE = 1,
+    VT_FILL_OWN = 2,
+    VT_FILL_PATTERN = 3,
+};
+
+/* The types of an Ellipse. */
+enum vt_ellipse_type {
+    VT_WHOLE = 0,
+    VT_ARC = 1,
+    VT_SEGMENT = 2,
+    VT_SECTOR = 3,
+};
+
+/* The type of a Polygon that does not go back to its first point. Those of other types are closed, and filled. */
+enum vt_polygon_type {
+    VT_OPEN_POLYGON = 3,
+};
+
+/* The bits of the options of a Meter. */
+enum vt_meter_options {
+    VT_METER_HAS_ARC = 1,
+    VT_METER_HAS_BORDER = 2,
+    VT_METER_HAS_TICKS = 4,
+    VT_METER_CLOCKWISE = 8,
+};
+
+/* The bits of the options of a Linear Bar. */
+enum vt_linear_bar_options {
+    VT_LINEAR_HAS_BORDER = 1,
+    VT_LINEAR_HAS_TARGET = 2,
+    VT_LINEAR_HAS_TICKS = 4,
+    VT_LINEAR_AS_LINE = 8,
+    VT_LINEAR_LEVEL = 16,
+    VT_LINEAR_FORWARDS = 32,
+};
+
+/* The bits of the options of an Arched Bar. */
+enum vt_arched_bar_options {
+    VT_ARCHED_HAS_BORDER = 1,
+    VT_ARCHED_HAS_TARGET = 2,
+    VT_ARCHED_AS_LINE = 8,
+    VT_ARCHED_CLOCKWISE = 16,
+};
+
+/* The bits of the options of a Picture: pixels of the transparency colour are not drawn; the bytes are pairs of a count and a byte. */
+enum vt_picture_options {
+    VT_PICTURE_TRANSPARENT = 1,
+    VT_PICTURE_PACKED = 4,
+};
+
 /* ---- the record of a working set, kind 0 */
 
 enum {

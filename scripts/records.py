@@ -56,6 +56,33 @@ static inline int32_t vt_signed(const uint8_t *record, size_t at, size_t size)
 enum { VT_RECORD_ID = 0, VT_RECORD_KIND = 2 };
 '''
 
+# What the values and the bits of fields mean (docs/PROFILE.md, "Pictures"): a name for each, and of which field.
+MEANINGS = [
+    ('The bits of the options of fields: strings, and numbers without the second one.', 'field_options',
+     [('FIELD_TRANSPARENT', 1), ('FIELD_WRAPS', 2)]),
+    ('The bit of the second options of an Input Number, and of the options of an Input List.', 'enabled_option', [('IS_ENABLED', 1)]),
+    ('Where the text of a field is, the lowest two bits of its justification.', 'justification',
+     [('AT_LEFT', 0), ('IN_MIDDLE', 1), ('AT_RIGHT', 2)]),
+    ('The bits of the style of a font.', 'font_style',
+     [('BOLD', 1), ('CROSSED_OUT', 2), ('UNDERLINED', 4), ('ITALIC', 8), ('INVERTED', 16)]),
+    ('The bits of the line suppression of a Rectangle: the sides that it has not.', 'suppression',
+     [('NO_UPPER_SIDE', 1), ('NO_RIGHT_SIDE', 2), ('NO_LOWER_SIDE', 4), ('NO_LEFT_SIDE', 8)]),
+    ('The types of Fill Attributes. Others are as VT_FILL_OWN.', 'fill_type',
+     [('FILL_NOTHING', 0), ('FILL_LINE', 1), ('FILL_OWN', 2), ('FILL_PATTERN', 3)]),
+    ('The types of an Ellipse.', 'ellipse_type', [('WHOLE', 0), ('ARC', 1), ('SEGMENT', 2), ('SECTOR', 3)]),
+    ('The type of a Polygon that does not go back to its first point. Those of other types are closed, and filled.', 'polygon_type',
+     [('OPEN_POLYGON', 3)]),
+    ('The bits of the options of a Meter.', 'meter_options',
+     [('METER_HAS_ARC', 1), ('METER_HAS_BORDER', 2), ('METER_HAS_TICKS', 4), ('METER_CLOCKWISE', 8)]),
+    ('The bits of the options of a Linear Bar.', 'linear_bar_options',
+     [('LINEAR_HAS_BORDER', 1), ('LINEAR_HAS_TARGET', 2), ('LINEAR_HAS_TICKS', 4), ('LINEAR_AS_LINE', 8), ('LINEAR_LEVEL', 16),
+      ('LINEAR_FORWARDS', 32)]),
+    ('The bits of the options of an Arched Bar.', 'arched_bar_options',
+     [('ARCHED_HAS_BORDER', 1), ('ARCHED_HAS_TARGET', 2), ('ARCHED_AS_LINE', 8), ('ARCHED_CLOCKWISE', 16)]),
+    ('The bits of the options of a Picture: pixels of the transparency colour are not drawn; the bytes are pairs of a count and a byte.',
+     'picture_options', [('PICTURE_TRANSPARENT', 1), ('PICTURE_PACKED', 4)]),
+]
+
 LENGTH = '''
 /* The number of bytes of a whole record by its kind and its counts, or 0 for a kind that is not known. */
 static inline size_t vt_record_length(const uint8_t *record)
@@ -161,11 +188,18 @@ def wrapped(line, indent=4):
     return lines
 
 
+def meaning(note, name, values):
+    """The enum of the values or the bits of a field."""
+    lines = '\n'.join(f'    VT_{value} = {number},' for value, number in values)
+    return f'\n/* {note} */\nenum vt_{name} {{\n{lines}\n}};\n'
+
+
 def header():
     found, made = tables(), []
     names = [snake(kind) for kind in kinds()]
     numbers = [f'    VT_{name.upper()} = {number},' for number, name in enumerate(names)]
     made.append('\n/* The kinds of objects. */\nenum vt_object_kind {\n' + '\n'.join(numbers) + '\n};\n')
+    made += [meaning(*one) for one in MEANINGS]
     cases = []
     for number, name in enumerate(names):
         kind = Kind(name, number)

@@ -6,9 +6,6 @@
 /* The colours of borders that records do not have: grey for keys and for disabled inputs, blue for enabled ones. */
 enum { GREY = 8, BLUE = 9 };
 
-/* The bits of a field's options. */
-enum { OPTION_TRANSPARENT = 0, OPTION_WRAPS = 1 };
-
 /* ---- boxes */
 
 static void fill_element(struct painter *painter, const struct vt_element *one, uint16_t colour)
@@ -50,7 +47,7 @@ struct field {
 
 static bool is_inverted(const struct field *field)
 {
-    return field->look.is_known && (field->look.style >> STYLE_INVERTED & 1) != 0;
+    return field->look.is_known && (field->look.style & VT_INVERTED) != 0;
 }
 
 static uint16_t border_of_input(bool is_enabled)
@@ -94,7 +91,7 @@ static void place_row(struct painter *painter, const struct field *field, uint32
     uint32_t length = (uint32_t)count * field->look.width;
     uint32_t rest = field->one->width > length ? field->one->width - length : 0;
     uint8_t side = field->justification & 3;
-    uint32_t indent = side == 1 ? rest / 2 : side == 2 ? rest : 0;
+    uint32_t indent = side == VT_IN_MIDDLE ? rest / 2 : side == VT_AT_RIGHT ? rest : 0;
     SDL_Color ink = palette(is_inverted(field) ? field->colour : field->look.colour);
 
     if (count > 0) {
@@ -143,8 +140,8 @@ void draw_output_string(struct painter *painter, const struct vt_element *one, c
         .one = one,
         .look = look_of(painter, vt_number(record, VT_OUTPUT_STRING_FONT, 2)),
         .colour = record[VT_OUTPUT_STRING_COLOUR],
-        .is_transparent = record[VT_OUTPUT_STRING_OPTIONS] >> OPTION_TRANSPARENT & 1,
-        .wraps = record[VT_OUTPUT_STRING_OPTIONS] >> OPTION_WRAPS & 1,
+        .is_transparent = (record[VT_OUTPUT_STRING_OPTIONS] & VT_FIELD_TRANSPARENT) != 0,
+        .wraps = (record[VT_OUTPUT_STRING_OPTIONS] & VT_FIELD_WRAPS) != 0,
         .justification = record[VT_OUTPUT_STRING_JUSTIFICATION],
         .border = NO_COLOUR,
     };
@@ -157,8 +154,8 @@ void draw_input_string(struct painter *painter, const struct vt_element *one, co
         .one = one,
         .look = look_of(painter, vt_number(record, VT_INPUT_STRING_FONT, 2)),
         .colour = record[VT_INPUT_STRING_COLOUR],
-        .is_transparent = record[VT_INPUT_STRING_OPTIONS] >> OPTION_TRANSPARENT & 1,
-        .wraps = record[VT_INPUT_STRING_OPTIONS] >> OPTION_WRAPS & 1,
+        .is_transparent = (record[VT_INPUT_STRING_OPTIONS] & VT_FIELD_TRANSPARENT) != 0,
+        .wraps = (record[VT_INPUT_STRING_OPTIONS] & VT_FIELD_WRAPS) != 0,
         .justification = record[VT_INPUT_STRING_JUSTIFICATION],
         .border = border_of_input(record[vt_input_string_enabled_at(record)] != 0),
     };
@@ -171,7 +168,7 @@ void draw_output_number(struct painter *painter, const struct vt_element *one, c
         .one = one,
         .look = look_of(painter, vt_number(record, VT_OUTPUT_NUMBER_FONT, 2)),
         .colour = record[VT_OUTPUT_NUMBER_COLOUR],
-        .is_transparent = record[VT_OUTPUT_NUMBER_OPTIONS] >> OPTION_TRANSPARENT & 1,
+        .is_transparent = (record[VT_OUTPUT_NUMBER_OPTIONS] & VT_FIELD_TRANSPARENT) != 0,
         .justification = record[VT_OUTPUT_NUMBER_JUSTIFICATION],
         .border = NO_COLOUR,
     };
@@ -184,9 +181,9 @@ void draw_input_number(struct painter *painter, const struct vt_element *one, co
         .one = one,
         .look = look_of(painter, vt_number(record, VT_INPUT_NUMBER_FONT, 2)),
         .colour = record[VT_INPUT_NUMBER_COLOUR],
-        .is_transparent = record[VT_INPUT_NUMBER_OPTIONS] >> OPTION_TRANSPARENT & 1,
+        .is_transparent = (record[VT_INPUT_NUMBER_OPTIONS] & VT_FIELD_TRANSPARENT) != 0,
         .justification = record[VT_INPUT_NUMBER_JUSTIFICATION],
-        .border = border_of_input(record[VT_INPUT_NUMBER_OPTIONS_TWO] & 1),
+        .border = border_of_input((record[VT_INPUT_NUMBER_OPTIONS_TWO] & VT_IS_ENABLED) != 0),
     };
     draw_field(painter, &field);
 }
@@ -196,7 +193,7 @@ void draw_input_number(struct painter *painter, const struct vt_element *one, co
 /* The item of a list is an element within it. */
 void draw_input_list(struct painter *painter, const struct vt_element *one, const uint8_t *record)
 {
-    draw_border(painter, one, border_of_input(record[VT_INPUT_LIST_OPTIONS] & 1), 2);
+    draw_border(painter, one, border_of_input((record[VT_INPUT_LIST_OPTIONS] & VT_IS_ENABLED) != 0), 2);
 }
 
 /* A check mark in a square, in the colour of the font, or black without one. */

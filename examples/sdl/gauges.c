@@ -6,11 +6,6 @@
 /* The colour of the ticks of a bar, black. */
 enum { TICK_COLOUR = 0 };
 
-static bool has_bit(uint8_t options, int bit)
-{
-    return (options >> bit & 1) != 0;
-}
-
 /* How far a value is between the least and the greatest one, as a part of a length. A value outside counts as the one next to it. */
 static uint32_t share(uint32_t length, uint32_t least, uint32_t greatest, uint32_t value)
 {
@@ -57,8 +52,6 @@ static void draw_arc(struct canvas *canvas, struct oval oval, struct scale scale
 
 /* ---- meters */
 
-enum { METER_ARC = 0, METER_BORDER = 1, METER_TICKS = 2, METER_CLOCKWISE = 3 };
-
 /* A circle in a meter, with so many tenths of its radius. */
 static struct oval dial(const struct vt_element *one, double width, int tenths)
 {
@@ -73,14 +66,14 @@ static void draw_dial(struct canvas *canvas, const struct vt_element *one, const
     struct pen arc = plain_pen(record[VT_METER_ARC_COLOUR], 2), border = plain_pen(record[VT_METER_BORDER_COLOUR], 2);
     struct point circle[MOST_POINTS];
 
-    if (has_bit(options, METER_ARC)) {
+    if ((options & VT_METER_HAS_ARC) != 0) {
         draw_arc(canvas, dial(one, width, 9), scale, arc);
     }
-    if (has_bit(options, METER_BORDER) && width > 0) {
+    if ((options & VT_METER_HAS_BORDER) != 0 && width > 0) {
         arc_points(dial(one, width, 10), 0, CIRCLE - 1, circle);
         draw_along(canvas, circle, CIRCLE, true, border);
     }
-    for (uint32_t k = 0; has_bit(options, METER_TICKS) && k < record[VT_METER_TICKS]; k++) {
+    for (uint32_t k = 0; (options & VT_METER_HAS_TICKS) != 0 && k < record[VT_METER_TICKS]; k++) {
         uint32_t angle = angle_at(scale, tick_at(scale.steps, record[VT_METER_TICKS], k));
         draw_between(canvas, point_on(dial(one, width, 8), angle), point_on(dial(one, width, 9), angle), arc);
     }
@@ -89,7 +82,7 @@ static void draw_dial(struct canvas *canvas, const struct vt_element *one, const
 void draw_meter(struct painter *painter, const struct vt_element *one, const uint8_t *record)
 {
     struct scale scale = {record[VT_METER_START], steps_between(record[VT_METER_START], record[VT_METER_END]),
-                          has_bit(record[VT_METER_OPTIONS], METER_CLOCKWISE)};
+                          (record[VT_METER_OPTIONS] & VT_METER_CLOCKWISE) != 0};
     uint32_t value = value_of(painter, record, VT_METER_VARIABLE, VT_METER_VALUE);
     uint32_t steps = share(scale.steps, vt_number(record, VT_METER_MIN, 2), vt_number(record, VT_METER_MAX, 2), value);
     struct oval needle = dial(one, vt_number(record, VT_METER_WIDTH, 2), 8);
@@ -100,8 +93,6 @@ void draw_meter(struct painter *painter, const struct vt_element *one, const uin
 }
 
 /* ---- linear bars, with lengths in tenths of a pixel */
-
-enum { BAR_BORDER = 0, BAR_TARGET = 1, BAR_TICKS = 2, BAR_AS_LINE = 3, BAR_LEVEL = 4, BAR_FORWARDS = 5 };
 
 /* The axis of a bar: from the end at which it begins to the other one. */
 struct axis {
@@ -115,8 +106,8 @@ struct axis {
 static struct axis axis_of(const struct vt_element *one, const uint8_t *record)
 {
     uint32_t width = 10 * vt_number(record, VT_LINEAR_BAR_WIDTH, 2), height = 10 * vt_number(record, VT_LINEAR_BAR_HEIGHT, 2);
-    bool is_level = has_bit(record[VT_LINEAR_BAR_OPTIONS], BAR_LEVEL);
-    bool is_forwards = has_bit(record[VT_LINEAR_BAR_OPTIONS], BAR_FORWARDS); /* to the right or up */
+    bool is_level = (record[VT_LINEAR_BAR_OPTIONS] & VT_LINEAR_LEVEL) != 0;
+    bool is_forwards = (record[VT_LINEAR_BAR_OPTIONS] & VT_LINEAR_FORWARDS) != 0; /* to the right or up */
     struct axis axis = {one, is_level, is_level != is_forwards, is_level ? width : height, is_level ? height : width};
     return axis;
 }
@@ -148,27 +139,25 @@ void draw_linear_bar(struct painter *painter, const struct vt_element *one, cons
                               place_in(axis, 0, axis.across)};
     struct point border[4] = {filled[0], place_in(axis, axis.length, 0), place_in(axis, axis.length, axis.across), filled[3]};
 
-    if (has_bit(options, BAR_AS_LINE)) {
+    if ((options & VT_LINEAR_AS_LINE) != 0) {
         draw_across(canvas, axis, length, axis.across, plain_pen(colour, 2));
     } else {
         add_area(canvas, filled, 4);
         fill_area(canvas, plain(colour));
     }
-    if (has_bit(options, BAR_BORDER)) {
+    if ((options & VT_LINEAR_HAS_BORDER) != 0) {
         draw_along(canvas, border, 4, true, plain_pen(colour, 1));
     }
-    for (uint32_t k = 0; has_bit(options, BAR_TICKS) && k < record[VT_LINEAR_BAR_TICKS]; k++) {
+    for (uint32_t k = 0; (options & VT_LINEAR_HAS_TICKS) != 0 && k < record[VT_LINEAR_BAR_TICKS]; k++) {
         draw_across(canvas, axis, tick_at(axis.length, record[VT_LINEAR_BAR_TICKS], k), tick, plain_pen(TICK_COLOUR, 1));
     }
-    if (has_bit(options, BAR_TARGET)) {
+    if ((options & VT_LINEAR_HAS_TARGET) != 0) {
         struct pen pen = plain_pen(record[VT_LINEAR_BAR_TARGET_COLOUR], 2);
         draw_across(canvas, axis, share(axis.length, least, greatest, target), axis.across, pen);
     }
 }
 
 /* ---- arched bars */
-
-enum { ARCH_BORDER = 0, ARCH_TARGET = 1, ARCH_AS_LINE = 3, ARCH_CLOCKWISE = 4 };
 
 /* The outer edge of an arched bar, or with its width as the distance the inner one. */
 static struct oval ring(const struct vt_element *one, const uint8_t *record, double distance)
@@ -195,23 +184,23 @@ void draw_arched_bar(struct painter *painter, const struct vt_element *one, cons
     struct canvas *canvas = &painter->canvas;
     uint8_t options = record[VT_ARCHED_BAR_OPTIONS], colour = record[VT_ARCHED_BAR_COLOUR];
     struct scale scale = {record[VT_ARCHED_BAR_START], steps_between(record[VT_ARCHED_BAR_START], record[VT_ARCHED_BAR_END]),
-                          has_bit(options, ARCH_CLOCKWISE)};
+                          (options & VT_ARCHED_CLOCKWISE) != 0};
     struct oval outer = ring(one, record, 0), inner = ring(one, record, vt_number(record, VT_ARCHED_BAR_BAR_WIDTH, 2));
     uint32_t least = vt_number(record, VT_ARCHED_BAR_MIN, 2), greatest = vt_number(record, VT_ARCHED_BAR_MAX, 2);
     uint32_t value = value_of(painter, record, VT_ARCHED_BAR_VARIABLE, VT_ARCHED_BAR_VALUE);
     uint32_t target = value_of(painter, record, VT_ARCHED_BAR_TARGET_VARIABLE, VT_ARCHED_BAR_TARGET);
     uint32_t steps = share(scale.steps, least, greatest, value), angle = angle_at(scale, steps);
 
-    if (has_bit(options, ARCH_AS_LINE)) {
+    if ((options & VT_ARCHED_AS_LINE) != 0) {
         draw_between(canvas, point_on(inner, angle), point_on(outer, angle), plain_pen(colour, 2));
     } else {
         fill_arch(canvas, outer, inner, scale.is_clockwise ? angle : scale.start, steps, colour);
     }
-    if (has_bit(options, ARCH_BORDER)) {
+    if ((options & VT_ARCHED_HAS_BORDER) != 0) {
         draw_arc(canvas, outer, scale, plain_pen(colour, 1));
         draw_arc(canvas, inner, scale, plain_pen(colour, 1));
     }
-    if (has_bit(options, ARCH_TARGET)) {
+    if ((options & VT_ARCHED_HAS_TARGET) != 0) {
         angle = angle_at(scale, share(scale.steps, least, greatest, target));
         draw_between(canvas, point_on(inner, angle), point_on(outer, angle), plain_pen(record[VT_ARCHED_BAR_TARGET_COLOUR], 2));
     }

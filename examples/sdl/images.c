@@ -5,9 +5,6 @@
 /* The most pixels of an image. A larger one is not drawn. */
 enum { MOST_PIXELS = 4000000 };
 
-/* The bits of the options. */
-enum { OPTION_CLEAR = 0, OPTION_PACKED = 2 };
-
 /* ---- the pixels of a record */
 
 /* The bytes of image data, which may be packed: pairs of a count and a byte. */
@@ -80,8 +77,8 @@ bool read_image(struct painter *painter, const uint8_t *record)
 {
     uint8_t options = record[VT_PICTURE_OPTIONS], format = record[VT_PICTURE_FORMAT];
     const uint8_t *bytes = record + VT_PICTURE_BYTES;
-    struct source source = {bytes, bytes + vt_number(record, VT_PICTURE_COUNT_OF_BYTES, 4), options >> OPTION_PACKED & 1, 0, 0};
-    int clear = options >> OPTION_CLEAR & 1 ? record[VT_PICTURE_TRANSPARENCY] : -1;
+    struct source source = {bytes, bytes + vt_number(record, VT_PICTURE_COUNT_OF_BYTES, 4), (options & VT_PICTURE_PACKED) != 0, 0, 0};
+    int clear = (options & VT_PICTURE_TRANSPARENT) != 0 ? record[VT_PICTURE_TRANSPARENCY] : -1;
     struct image *image = &painter->image;
 
     if (!make_image(painter, vt_number(record, VT_PICTURE_ACTUAL_WIDTH, 2), vt_number(record, VT_PICTURE_ACTUAL_HEIGHT, 2))) {

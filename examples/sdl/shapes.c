@@ -39,11 +39,11 @@ static struct paint paint_of(struct painter *painter, const struct vt_element *o
         return plain(NO_COLOUR);
     }
     switch (record[VT_FILL_ATTRIBUTES_FILL_TYPE]) {
-    case 0:
+    case VT_FILL_NOTHING:
         return plain(NO_COLOUR);
-    case 1:
+    case VT_FILL_LINE:
         return plain(pen.colour);
-    case 3:
+    case VT_FILL_PATTERN:
         return pattern_of(painter, one, vt_number(record, VT_FILL_ATTRIBUTES_PATTERN, 2));
     default:
         return plain(record[VT_FILL_ATTRIBUTES_COLOUR]);
@@ -106,8 +106,6 @@ static void draw_closed(struct painter *painter, const struct point *points, siz
     draw_along(&painter->canvas, points, count, true, pen);
 }
 
-enum { ELLIPSE_WHOLE = 0, ELLIPSE_ARC = 1, ELLIPSE_SEGMENT = 2 };
-
 void draw_ellipse(struct painter *painter, const struct vt_element *one, const uint8_t *record)
 {
     struct pen pen = pen_of(painter, vt_number(record, VT_ELLIPSE_LINE_ATTRIBUTES, 2));
@@ -118,7 +116,7 @@ void draw_ellipse(struct painter *painter, const struct vt_element *one, const u
     uint32_t steps = steps_between(start, record[VT_ELLIPSE_END]);
     struct point points[MOST_POINTS];
 
-    if (type == ELLIPSE_WHOLE || (type != ELLIPSE_ARC && steps == CIRCLE)) {
+    if (type == VT_WHOLE || (type != VT_ARC && steps == CIRCLE)) {
         if (oval.radius_x > 0 && oval.radius_y > 0) {
             arc_points(oval, 0, CIRCLE, points);
             turn_around(points, CIRCLE + 1); /* line art begins at the right and goes clockwise, as in SVG */
@@ -127,17 +125,15 @@ void draw_ellipse(struct painter *painter, const struct vt_element *one, const u
         return;
     }
     size_t count = arc_points(oval, start, steps, points);
-    if (type == ELLIPSE_ARC) {
+    if (type == VT_ARC) {
         draw_along(&painter->canvas, points, count, false, pen);
         return;
     }
-    if (type != ELLIPSE_SEGMENT) {
+    if (type != VT_SEGMENT) {
         points[count++] = oval.centre;
     }
     draw_closed(painter, points, count, paint, pen);
 }
-
-enum { POLYGON_OPEN = 3 };
 
 void draw_polygon(struct painter *painter, const struct vt_element *one, const uint8_t *record)
 {
@@ -149,7 +145,7 @@ void draw_polygon(struct painter *painter, const struct vt_element *one, const u
         size_t field = VT_POLYGON_POINTS + 4 * k;
         points[k] = at(one, vt_number(record, field, 2) + 0.5, vt_number(record, field + 2, 2) + 0.5);
     }
-    if (record[VT_POLYGON_POLYGON_TYPE] == POLYGON_OPEN) {
+    if (record[VT_POLYGON_POLYGON_TYPE] == VT_OPEN_POLYGON) {
         draw_along(&painter->canvas, points, count, false, pen);
     } else {
         draw_closed(painter, points, count, paint_of(painter, one, vt_number(record, VT_POLYGON_FILL, 2), pen), pen);

@@ -41,9 +41,9 @@ static TTF_Font *font_of(struct texts *texts, struct look look)
 
 static int style_of(uint8_t style)
 {
-    return (style >> STYLE_BOLD & 1 ? TTF_STYLE_BOLD : 0) | (style >> STYLE_ITALIC & 1 ? TTF_STYLE_ITALIC : 0) |
-           (style >> STYLE_UNDERLINED & 1 ? TTF_STYLE_UNDERLINE : 0) |
-           (style >> STYLE_CROSSED_OUT & 1 ? TTF_STYLE_STRIKETHROUGH : 0);
+    return (style & VT_BOLD ? TTF_STYLE_BOLD : 0) | (style & VT_ITALIC ? TTF_STYLE_ITALIC : 0) |
+           (style & VT_UNDERLINED ? TTF_STYLE_UNDERLINE : 0) |
+           (style & VT_CROSSED_OUT ? TTF_STYLE_STRIKETHROUGH : 0);
 }
 
 /* Copies characters as a text for SDL_ttf, which ends with a NUL. A dot in the middle of the line stands for a control character. */

@@ -2,6 +2,7 @@
 #ifndef TEXTS_H
 #define TEXTS_H
 
+#include "vt_records.h"
 #include <SDL.h>
 #include <SDL_ttf.h>
 #include <stdbool.h>
@@ -10,9 +11,6 @@
 
 /* The sizes of fonts, which have numbers from 0 on. */
 enum { FONT_SIZES = 15 };
-
-/* The bits of a font's style. */
-enum { STYLE_BOLD = 0, STYLE_CROSSED_OUT = 1, STYLE_UNDERLINED = 2, STYLE_ITALIC = 3, STYLE_INVERTED = 4 };
 
 /* A file of a font whose characters are all as wide, opened in each size when that is first needed. */
 struct texts {
