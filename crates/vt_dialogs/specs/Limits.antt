@@ -47,12 +47,19 @@ limits_in store (Some (objects.InputBoolean o)) =
 limits_in store (Some (objects.InputString o)) = Some (record (no_limits (objects.InputString o)) { length = length_in store o.variable o.text })
 limits_in store (Some (objects.InputNumber o)) =
     Some (record (no_limits (objects.InputNumber o)) {
-      places = scale_places o.scale; decimals = o.decimals; value = value_in store o.variable o.value; least = o.min; greatest = o.max; offset = o.offset
+      places = scale_places o.scale;
+      decimals = o.decimals;
+      value = value_in store o.variable o.value;
+      least = o.min;
+      greatest = o.max;
+      offset = o.offset;
     })
 limits_in store (Some (objects.InputList o)) =
     Some (record (no_limits (objects.InputList o)) {
-      items = length o.items; value = value_in store o.variable o.value;
-      least = if length o.items == 0 then 1 else 0; greatest = length o.items - 1
+      items = length o.items;
+      value = value_in store o.variable o.value;
+      least = if length o.items == 0 then 1 else 0;
+      greatest = length o.items - 1;
     })
 limits_in store _ = None
 

@@ -16,6 +16,7 @@ use ellipses::draw_ellipse;
 use gauges::{draw_arched_bar, draw_linear_bar, draw_meter};
 use lines::{draw_line, draw_polygon, draw_rectangle};
 use std::alloc::AllocError;
+pub use texts::text_shown;
 use texts::{
     draw_input_boolean, draw_input_list, draw_input_number, draw_input_string, draw_output_number,
     draw_output_string,
@@ -23,8 +24,6 @@ use texts::{
 use vt_needs::Sizes;
 use vt_objects::{Button, Key, Object, ObjectId, Store};
 use vt_svg::{Attribute, Element, Paint, empty};
-
-pub use texts::text_shown;
 
 /// Appends the shapes of an object, by its ID, without those of other elements in it. Those of lines, areas, meters and bars are in tenths
 /// of a pixel, others in pixels.

@@ -28,11 +28,7 @@ fn input_border(is_disabled: bool) -> Paint
 
 /// The text that an object shows: that of its variable, if it has one. `None` if the variable is missing, which a store in order rules
 /// out.
-pub fn text_shown<'a, S: Store>(
-    store: &'a S,
-    variable: ObjectId,
-    own: &'a [u8],
-) -> Option<&'a [u8]>
+pub fn text_shown<'a, S: Store>(store: &'a S, variable: ObjectId, own: &'a [u8]) -> Option<&'a [u8]>
     ensures { option_map (λ text. text.now) result ≡ text_shown (S.contents store.now) variable own.now }
 {
     if variable.is_null() {

@@ -27,9 +27,12 @@ returns-in-Ok c =
       promise = λ pools force. c.the_machine_never_sticks.ensures.inputs pools old inputs new [] _ force steps;
       screen = c.run.ensures.same;
       look = elim c.note_look.ensures.look [
-        | inl (same, noted) ↦ inl (same, by_note c.others_keep_objects.ensures c.profiles_are_kept.ensures old new inputs c.shown-was.result c.source_in-source.result [] _
-          c.shown-was.ensures c.source_in-source.ensures c.requires.one steps
-          (subst (λ (t : Terminal). IsSomeAnd c.source_in-source.result (λ s. IsUntouched c.shown-was.result (state_of t) s)) here noted))
+        | inl (same, noted) ↦ inl (
+          same,
+          by_note c.others_keep_objects.ensures c.profiles_are_kept.ensures old new inputs c.shown-was.result c.source_in-source.result [] _
+              c.shown-was.ensures c.source_in-source.ensures c.requires.one steps
+              (subst (λ (t : Terminal). IsSomeAnd c.source_in-source.result (λ s. IsUntouched c.shown-was.result (state_of t) s)) here noted),
+        )
         | inr next ↦ inr next
       ];
       begun = refl;

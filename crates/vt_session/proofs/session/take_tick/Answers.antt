@@ -30,11 +30,14 @@ returns-in-Ok c =
       promise = λ pools force. c.the_machine_never_sticks.ensures.inputs pools old (ticks c.args.session.now c.args.time) new [] _ force steps;
       screen = c.in-Ok.ensures.same;
       look = elim c.note_look.ensures.look [
-        | inl (same, noted) ↦ inl (same, picture_kept c.others_keep_objects.ensures c.profiles_are_kept.ensures old new c.args.time (echo old.claims.own) old.claims.own [] _
-          (echoed old.claims.own (subst (λ (own : ℕ). own < 2 ^ 8) c.own-own.ensures c.own-own.type_inv)) steps
-          (subst (λ (shown : Option ℕ). IsUntouched shown new old.claims.own) c.shown-was.ensures
-          (subst (λ (own : ℕ). IsUntouched c.shown-was.result new own) c.own-own.ensures
-          (subst (λ (t : Terminal). IsUntouched c.shown-was.result (state_of t) c.own-own.result) here noted))))
+        | inl (same, noted) ↦ inl (
+          same,
+          picture_kept c.others_keep_objects.ensures c.profiles_are_kept.ensures old new c.args.time (echo old.claims.own) old.claims.own [] _
+              (echoed old.claims.own (subst (λ (own : ℕ). own < 2 ^ 8) c.own-own.ensures c.own-own.type_inv)) steps
+              (subst (λ (shown : Option ℕ). IsUntouched shown new old.claims.own) c.shown-was.ensures
+              (subst (λ (own : ℕ). IsUntouched c.shown-was.result new own) c.own-own.ensures
+              (subst (λ (t : Terminal). IsUntouched c.shown-was.result (state_of t) c.own-own.result) here noted))),
+        )
         | inr next ↦ inr next
       ];
       begun = refl;
