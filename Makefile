@@ -24,7 +24,7 @@ quick:
 
 # Lists these commands.
 help:
-	@awk '/^# /{text = text substr($$0, 2)} /^[a-z-]+:/{sub(/:.*/, ""); printf "make %-14s%s\n", $$0, text} !/^# /{text = ""}' Makefile
+	@awk '/^# /{text = text substr($$0, 2)} /^[a-z0-9-]+:/{sub(/:.*/, ""); printf "make %-14s%s\n", $$0, text} !/^# /{text = ""}' Makefile
 
 # Runs the tests without any proof, in minutes: logs, pools and command lines by quick builds, and test functions. ONLY=hide runs those
 # whose names hold the word, BLESS=1 writes what came into the files of tests/.

@@ -63,7 +63,7 @@ def main():
         sys.exit(status)
     names = [name for name in PROGRAMS if not is_built(name)]
     if names:
-        print(f'{", ".join(names)}: proving; from nothing that takes some 40 minutes on four processors', file=sys.stderr)
+        print(f'{", ".join(names)}: proving; from nothing that takes some 30 minutes on four processors', file=sys.stderr)
         with tempfile.TemporaryDirectory(prefix='build-') as room:
             sums = sums_of(names)
             copy_of_programs(names, room)

@@ -1,5 +1,5 @@
 #!/usr/bin/env python3
-"""Runs the tests that are data: run_tests.py [--only WORD] [--bless] [--programs PATTERN] [FILE ...]
+"""Runs the tests that are data: run_tests.py [--only WORD] [--bless] [--functions] [--programs PATTERN] [FILE ...]
 
 Below tests/, a log `*.log` says behind `#<` what the terminal prints, and a session `*.run` has command lines with what they print, say
 and write (docs/TESTING.md). Without FILE all are run, and those of scripts/testing/faults.py, consoles.py and limits.py, by the quick builds unless PATTERN says where the programs are, as

@@ -14,7 +14,7 @@ import subprocess
 import sys
 
 ROOT = os.path.dirname(os.path.dirname(os.path.abspath(__file__)))
-VERSION = '0.1.0'
+VERSION = '0.2.0'
 ARCHIVES = [f'{ROOT}/crates/{name}/out/lib{name}.a' for name in ('vt_terminal', 'vt_check')]
 PACKAGING, OUT = f'{ROOT}/packaging', f'{ROOT}/out/lib'
 NAMES = ['libsegyolant.so', f'libsegyolant.so.{VERSION.split(".")[0]}', f'libsegyolant.so.{VERSION}']
@@ -27,7 +27,11 @@ def link():
              f'-Wl,-soname,{NAMES[1]}', f'-Wl,--version-script={PACKAGING}/exported.map', '-Wl,-z,defs',
              f'{PACKAGING}/shared.c', f'{ROOT}/examples/c/heap.c', '-Wl,--whole-archive', *ARCHIVES, '-Wl,--no-whole-archive']
     subprocess.run(words, check=True)
-    put_links(OUT)
+    # Copies in place of links: rt ci takes no link in the tree.
+    for name in NAMES[:2]:
+        if os.path.islink(f'{OUT}/{name}'):
+            os.remove(f'{OUT}/{name}')
+        shutil.copy2(f'{OUT}/{NAMES[2]}', f'{OUT}/{name}')
 
 
 def put_links(folder):

@@ -5,7 +5,7 @@
     file short.log
     | ! press 400
     pool two.iop
-    | @1 00 00 01 00 @1000 00 00 00
+    | @1 00 00 01 @1000 00 00 00
 
     $ segyolant check sprayer.iop --names sprayer.h > told.txt
     | a line of its output
