@@ -27,9 +27,9 @@ def link():
              f'-Wl,-soname,{NAMES[1]}', f'-Wl,--version-script={PACKAGING}/exported.map', '-Wl,-z,defs',
              f'{PACKAGING}/shared.c', f'{ROOT}/examples/c/heap.c', '-Wl,--whole-archive', *ARCHIVES, '-Wl,--no-whole-archive']
     subprocess.run(words, check=True)
-    # Copies in place of links: rt ci takes no link in the tree.
+    # Copies in place of links, as rt ci takes no link in the tree. A program that has the old one loaded keeps it.
     for name in NAMES[:2]:
-        if os.path.islink(f'{OUT}/{name}'):
+        if os.path.lexists(f'{OUT}/{name}'):
             os.remove(f'{OUT}/{name}')
         shutil.copy2(f'{OUT}/{NAMES[2]}', f'{OUT}/{name}')
 
