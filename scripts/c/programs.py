@@ -83,10 +83,17 @@ class Programs:
         return compiled(self.folder, name, [first, *sources[1:]], *flags)
 
 
+# What a program may take, on a busy machine too.
+SECONDS = 300
+
+
 def run(words, folder, **how):
     """Runs a program, and returns its status, its output and its messages."""
     how.setdefault('stdin', None if 'input' in how else subprocess.DEVNULL)
     if 'input' in how:
         del how['stdin']
-    ran = subprocess.run(words, cwd=folder, capture_output=True, timeout=60, **how)
+    try:
+        ran = subprocess.run(words, cwd=folder, capture_output=True, timeout=SECONDS, **how)
+    except subprocess.TimeoutExpired:
+        raise Failed(f'{words[0]}: it has not ended after {SECONDS} seconds') from None
     return ran.returncode, ran.stdout, ran.stderr
