@@ -26,7 +26,7 @@ next_look n = (n + 1) % 2 ^ 64
 abbrev pub LooksOn : ℕ → ℕ → Type 0 → Type 0
 LooksOn old new Holds = ((new ≡ old) × Holds) ⊎ (new ≡ next_look old)
 
--- the only input is a frame from a source
+-- the first input is a frame from a source
 pub record IsFrameFrom (source : ℕ) (inputs : List Input) : Type 0 where
   pub time : ℕ
   pub frame : CanFrame
