@@ -12,6 +12,7 @@
 #![tactic(auto)]
 
 mod entries;
+mod kept;
 pub mod laws;
 mod live;
 mod operator;
@@ -22,6 +23,9 @@ pub use entries::text_message;
 pub use live::{Live, Outcome};
 pub use operator::{Acted, OperatorRefusal};
 pub use replacement::Replacement;
+
+/// The audio commands that a working set has done.
+pub use vt_macros::{Audio, Signal};
 
 /// A refused allocation.
 pub use std::alloc::AllocError as OutOfMemory;

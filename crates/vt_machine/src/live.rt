@@ -19,14 +19,15 @@ ghost use Rattle.vt_macros.specs.QuietMacros.{KeepsLook, RunsKeepLook};
 ghost use Rattle.vt_machine.specs.OperatorActions.{HasActed};
 ghost use Rattle.vt_shown.specs.ShownElements.{IsShown, soft_key_mask_of};
 ghost use Rattle.vt_effects.specs.Soundness.{IsSound};
-ghost use Rattle.vt_machine.specs.SetStates.{HasRun, Applied, IsActive, working_set_in, active_in, is_kept, kept_key, kept_input, with_objects, renewed};
+ghost use Rattle.vt_machine.specs.SetStates.{HasRun, Applied, IsActive, working_set_in, active_in, with_objects, renewed};
 
+use crate::kept::{kept_input, kept_key};
 use crate::working_set::working_set;
 use std::alloc::{AllocError, Global};
 use std::marker::Model;
 use vt_chains::Levels;
-use vt_effects::{execute, keeps_look, kind_in};
-use vt_macros::{Index, active_mask, events_of, raise, raise_all};
+use vt_effects::{execute, keeps_look};
+use vt_macros::{Audio, Index, active_mask, events_of, raise, raise_all};
 use vt_objects::{Command, Event, Object, ObjectId, Raised, SortedStore, Store};
 use vt_shown::{search_shown, soft_key_mask};
 use vt_verify::{Accepted, AcceptedParts};
@@ -67,6 +68,8 @@ pub struct Live<S: Store> {
     all_marked: bool,
     pub(crate) key: Option<HeldKey>,
     pub(crate) input: Option<ObjectId>,
+    /// The audio commands that are done.
+    audio: Audio,
 }
 
 // Written by hand, so that the crates above need not prove it again.
@@ -82,6 +85,7 @@ impl<S: Store> Drop for Live<S> {
             all_marked: _all_marked,
             key: _key,
             input: _input,
+            audio: _audio,
         } = self;
     }
 }
@@ -141,6 +145,7 @@ impl<S: Store> Live<S> {
             all_marked: false,
             key: None,
             input: None,
+            audio: Audio::new(),
         })
     }
 
@@ -155,7 +160,7 @@ impl<S: Store> Live<S> {
     }
 
     /// This working set with the held key and the selected input of `old`, each if its object is of the same kind in
-    /// both.
+    /// both, and with its audio commands.
     fn keeping(mut self, old: &Live<S>) -> Live<S>
         ensures { result ≡ renewed old.now self.objects }
     {
@@ -163,6 +168,7 @@ impl<S: Store> Live<S> {
         let input = kept_input(&old.store, &self.store, old.input);
         self.key = key;
         self.input = input;
+        self.audio = old.audio;
         self
     }
 
@@ -212,6 +218,11 @@ impl<S: Store> Live<S> {
         soft_key_mask(&self.store, self.active_mask())
     }
 
+    /// The audio commands that are done, by the implement and in macros. An update of the pool keeps them.
+    pub fn audio(&self) -> Audio {
+        self.audio
+    }
+
     /// Raises an event of an object, by its number: runs the macros listed for it, and those of the events that their
     /// commands raise. Returns the number of steps: 0 for a missing object, and for a number above 26. Event 0 of a macro
     /// runs the macro itself.
@@ -220,7 +231,14 @@ impl<S: Store> Live<S> {
         ensures kept { self.new ≡ with_objects self.old self.new.objects }
     {
         self.are_marked &= self.index.is_quiet_at(id, event);
-        raise(&self.index, &mut self.store, &mut self.levels, id, event)
+        raise(
+            &self.index,
+            &mut self.store,
+            &mut self.levels,
+            &mut self.audio,
+            id,
+            event,
+        )
     }
 
     /// Raises events, one after the other. Returns the number of steps.
@@ -229,7 +247,13 @@ impl<S: Store> Live<S> {
         ensures { HasActed self.old raised.now result self.new }
     {
         self.are_marked &= self.index.are_quiet(raised);
-        raise_all(&self.index, &mut self.store, &mut self.levels, raised)
+        raise_all(
+            &self.index,
+            &mut self.store,
+            &mut self.levels,
+            &mut self.audio,
+            raised,
+        )
     }
 
     /// Whether the active mask shows an object.
@@ -277,7 +301,14 @@ impl<S: Store> Live<S> {
         let raised = events_of(&self.store, command);
         match execute(&mut self.store, &mut self.levels, command) {
             Ok(()) => {
-                let steps = raise_all(&self.index, &mut self.store, &mut self.levels, &raised);
+                self.audio.note(command);
+                let steps = raise_all(
+                    &self.index,
+                    &mut self.store,
+                    &mut self.levels,
+                    &mut self.audio,
+                    &raised,
+                );
                 Outcome::Done { steps: steps + 1 }
             }
             Err(bits) => Outcome::Refused { bits },
@@ -340,33 +371,5 @@ fn working_set_of(accepted: &Accepted) -> ObjectId
     match working_set(accepted.objects()) {
         Some(id) => id,
         None => unreachable!(),
-    }
-}
-
-fn kept_key<S: Store>(old: &S, new: &S, key: Option<HeldKey>) -> Option<HeldKey>
-    ensures { result ≡ kept_key (S.contents old.now) (S.contents new.now) key }
-{
-    match key {
-        Some(key) if is_kept(old, new, key.id) => Some(key),
-        _ => None,
-    }
-}
-
-pub(crate) fn kept_input<S: Store>(old: &S, new: &S, input: Option<ObjectId>) -> Option<ObjectId>
-    ensures { result ≡ kept_input (S.contents old.now) (S.contents new.now) input }
-{
-    match input {
-        Some(id) if is_kept(old, new, id) => Some(id),
-        _ => None,
-    }
-}
-
-/// Whether an object exists before and after, with the same kind.
-fn is_kept<S: Store>(old: &S, new: &S, id: ObjectId) -> bool
-    ensures { result ≡ is_kept (S.contents old.now) (S.contents new.now) id }
-{
-    match (kind_in(old, id), kind_in(new, id)) {
-        (Some(before), Some(after)) => before == after,
-        _ => false,
     }
 }

@@ -9,7 +9,8 @@ ghost use Rattle.vt_verify.specs.Updates.{updated};
 ghost use Rattle.vt_machine.specs.Replacements.{Replaces, AreReplacements, with_objects_put, ids_of_slots};
 ghost use Rattle.vt_machine.specs.SetStates.{renewed};
 
-use crate::live::{Live, kept_input};
+use crate::kept::kept_input;
+use crate::live::Live;
 use std::alloc::{AllocError, Global};
 use std::convert::AsSlice;
 use std::marker::Model;

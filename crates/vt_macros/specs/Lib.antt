@@ -1,4 +1,5 @@
 -- The definitions used in the contracts of vt_macros.
+pub mod Audio
 pub mod Indexes
 pub mod Machines
 pub mod NestedRuns

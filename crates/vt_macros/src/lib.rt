@@ -5,17 +5,20 @@
 //!   events trigger quiet macros alone.
 //! - `events_of` returns the events that a command raises; `raise` and `raise_all` run the macros of events, to their
 //!   end.
+//! - `Audio` has the audio commands that are done, for a host that sounds them.
 //! - `laws` has the theorems: the specified machine never gets stuck, and each run ends within the budgets of its events.
 //!
 //! docs/PROFILE.md, "Runs", "Steps", "Costs and budgets".
 #![tactic(auto)]
 
+mod audio;
 mod index;
 pub mod laws;
 mod quiet;
 mod raising;
 mod runs;
 
+pub use audio::{Audio, Signal};
 pub use index::Index;
 pub use raising::{active_mask, events_of};
 pub use runs::{raise, raise_all};

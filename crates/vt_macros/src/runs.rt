@@ -9,6 +9,7 @@ ghost use Rattle.vt_macros.specs.Machines.{fault, event_commands, joined_all, to
 ghost use Rattle.vt_effects.specs.Soundness.{shape_in};
 ghost use Rattle.vt_macros.specs.NestedRuns.{CanRun, HaveRun, commands_at, cost_on_store};
 
+use crate::audio::Audio;
 use crate::index::{Index, Span};
 use crate::raising::events_of;
 use vt_chains::Levels;
@@ -21,6 +22,7 @@ pub fn raise_all<S: Store>(
     index: &Index,
     store: &mut S,
     levels: &mut Levels,
+    audio: &mut Audio,
     raised: &[Raised],
 ) -> u32
     requires can { CanRun index.now (S.contents store.old) levels.old }
@@ -29,7 +31,7 @@ pub fn raise_all<S: Store>(
 {
     let mut steps = 0u32;
     for event in raised {
-        steps += raise(index, store, levels, event.id, event.event.number());
+        steps += raise(index, store, levels, audio, event.id, event.event.number());
     }
     steps
 }
@@ -40,6 +42,7 @@ pub fn raise<S: Store>(
     index: &Index,
     store: &mut S,
     levels: &mut Levels,
+    audio: &mut Audio,
     id: ObjectId,
     event: u8,
 ) -> u32
@@ -48,41 +51,60 @@ pub fn raise<S: Store>(
 {
     let mut steps = 0u32;
     for macro_id in index.macros_at(id, event) {
-        steps += run_macro(index, store, levels, *macro_id);
+        steps += run_macro(index, store, levels, audio, *macro_id);
     }
     steps
 }
 
 /// Runs the commands of a macro. Returns the number of steps.
 #[cycle(run)]
-fn run_macro<S: Store>(index: &Index, store: &mut S, levels: &mut Levels, id: u8) -> u32
+fn run_macro<S: Store>(
+    index: &Index,
+    store: &mut S,
+    levels: &mut Levels,
+    audio: &mut Audio,
+    id: u8,
+) -> u32
     requires { CanRun index.now (S.contents store.old) levels.old }
     ensures { HaveRun index.now (S.contents store.old) (commands (shape_in (S.contents store.old)) id) (cost (shape_in (S.contents store.old)) id) result (S.contents store.new) levels.new }
 {
     let mut steps = 0u32;
     for piece in index.pieces(id) {
-        steps += run_piece(index, store, levels, piece);
+        steps += run_piece(index, store, levels, audio, piece);
     }
     steps
 }
 
 /// Runs the macro command at a range of the macros' bytes. Returns the number of steps.
 #[cycle(run)]
-fn run_piece<S: Store>(index: &Index, store: &mut S, levels: &mut Levels, piece: &Span) -> u32
+fn run_piece<S: Store>(
+    index: &Index,
+    store: &mut S,
+    levels: &mut Levels,
+    audio: &mut Audio,
+    piece: &Span,
+) -> u32
     requires can { CanRun index.now (S.contents store.old) levels.old }
     requires fault { AllByRecursion (λ command. fault (shape_in (S.contents store.old)) command ≡ None) (commands_at index.now piece.now) }
     requires small { sum_by (cost_on_store (S.contents store.old)) (commands_at index.now piece.now) < 2 ^ 32 }
     ensures { HaveRun index.now (S.contents store.old) (commands_at index.now piece.now) (sum_by (cost_on_store (S.contents store.old)) (commands_at index.now piece.now)) result (S.contents store.new) levels.new }
 {
     match index.command(piece) {
-        Some(command) => take(index, store, levels, &command),
+        Some(command) => take(index, store, levels, audio, &command),
         None => 0,
     }
 }
 
-/// Does a command and runs the macros of its events. A refused command raises no event. Returns the number of steps.
+/// Does a command, notes it if it is an audio command, and runs the macros of its events. A refused command raises no
+/// event. Returns the number of steps.
 #[cycle(run)]
-fn take<S: Store>(index: &Index, store: &mut S, levels: &mut Levels, command: &Command<'_>) -> u32
+fn take<S: Store>(
+    index: &Index,
+    store: &mut S,
+    levels: &mut Levels,
+    audio: &mut Audio,
+    command: &Command<'_>,
+) -> u32
     requires can { CanRun index.now (S.contents store.old) levels.old }
     requires fault { fault (shape_in (S.contents store.old)) command.now ≡ None }
     requires small { cost_on_store (S.contents store.old) command.now < 2 ^ 32 }
@@ -90,7 +112,10 @@ fn take<S: Store>(index: &Index, store: &mut S, levels: &mut Levels, command: &C
 {
     let raised = events_of(store, command);
     match execute(store, levels, command) {
-        Ok(()) => raise_all(index, store, levels, &raised) + 1,
+        Ok(()) => {
+            audio.note(command);
+            raise_all(index, store, levels, audio, &raised) + 1
+        }
         Err(_error) => 1,
     }
 }

@@ -1,0 +1,97 @@
+//! The audio commands that a working set has done (docs/PROFILE.md, "Commands: all rows").
+
+ghost use Rattle.std.specs.Prelude.{◌≡◌};
+ghost use Rattle.vt_macros.specs.Audio.{noted, silence};
+
+use vt_objects::Command;
+
+/// An audio signal, as a Control Audio command asks for it.
+#[derive(Clone, Copy, PartialEq, Eq)]
+pub struct Signal {
+    /// How often it sounds.
+    pub activations: u8,
+    /// Hz.
+    pub frequency: u16,
+    /// The milliseconds that it sounds each time.
+    pub on: u16,
+    /// The milliseconds of silence after each time.
+    pub off: u16,
+}
+
+/// The audio commands that a working set has done: how many there were, and the last of each.
+#[derive(Clone, Copy, PartialEq, Eq)]
+pub struct Audio {
+    /// How many signals. After 2^32 - 1 comes 0.
+    pub signals: u32,
+    /// The last signal. All its numbers are 0 before the first.
+    pub signal: Signal,
+    /// How often the volume was set. After 2^32 - 1 comes 0.
+    pub volumes: u32,
+    /// The last volume in percent. 0 before the first.
+    pub volume: u8,
+}
+
+impl Audio {
+    /// No audio command is done.
+    pub fn new() -> Audio
+        ensures { result ≡ silence }
+    {
+        let signal = Signal {
+            activations: 0,
+            frequency: 0,
+            on: 0,
+            off: 0,
+        };
+        Audio {
+            signals: 0,
+            signal,
+            volumes: 0,
+            volume: 0,
+        }
+    }
+
+    /// Notes a command that is done. Only Control Audio and Set Audio Volume change anything.
+    pub fn note(&mut self, command: &Command<'_>)
+        ensures { self.new ≡ noted self.old command.now }
+    {
+        match *command {
+            Command::ControlAudio {
+                count,
+                frequency,
+                on,
+                off,
+            } => {
+                self.signals = self.signals.wrapping_add(1);
+                self.signal = Signal {
+                    activations: count,
+                    frequency,
+                    on,
+                    off,
+                };
+            }
+            Command::SetVolume { volume } => {
+                self.volumes = self.volumes.wrapping_add(1);
+                self.volume = volume;
+            }
+            Command::HideShow { .. }
+            | Command::EnableDisable { .. }
+            | Command::ChangeChildLocation { .. }
+            | Command::ChangeSize { .. }
+            | Command::ChangeBackgroundColour { .. }
+            | Command::ChangeNumericValue { .. }
+            | Command::ChangeEndPoint { .. }
+            | Command::ChangeFontAttributes { .. }
+            | Command::ChangeLineAttributes { .. }
+            | Command::ChangeFillAttributes { .. }
+            | Command::ChangeActiveMask { .. }
+            | Command::ChangeSoftKeyMask { .. }
+            | Command::ChangeAttribute { .. }
+            | Command::ChangePriority { .. }
+            | Command::ChangeListItem { .. }
+            | Command::DeletePool
+            | Command::ChangeStringValue { .. }
+            | Command::ChangeChildPosition { .. }
+            | Command::ExecuteMacro { .. } => {}
+        }
+    }
+}
