@@ -1,3 +1,4 @@
+pub mod Arrivals
 pub mod Messages
 pub mod Protocol
 pub mod SessionState

@@ -10,6 +10,7 @@ ghost use Rattle.vt_can.specs.transport.Receivers.{outcome, timely_outcome, Answ
 ghost use Rattle.vt_extended.specs.Wire.{etp_frame};
 ghost use Rattle.vt_extended.specs.Messages.{opens};
 ghost use Rattle.vt_extended.specs.Steps.{after_rts, after_part, step};
+ghost use Rattle.vt_extended.specs.Arrivals.{arrived_in};
 ghost use Rattle.vt_extended.specs.Protocol.{protocol};
 ghost use Rattle.vt_extended.specs.declared.messages.EtpFrame.TheVariants as declared;
 ghost use Rattle.vt_extended.specs.declared.messages.Part.TheVariants as parts;
@@ -117,6 +118,17 @@ impl Receiver {
         ensures { IsFirstTime (SomeOverdue self.now.sessions) result }
     {
         self.sessions.overdue_from()
+    }
+
+    /// Of a message of a parameter group that is arriving from a source, and begins with a byte: the number of its bytes so far, and its
+    /// size as announced. Both are 0 without such a message.
+    pub fn arrived(&self, source: u8, pgn: u32, first: u8) -> (usize, u32)
+        ensures { result ≡ arrived_in pgn first (finite.get self.now.sessions source) }
+    {
+        match self.sessions.get(source) {
+            Some(timed) => timed.session.arrived(pgn, first),
+            None => (0, 0),
+        }
     }
 
     /// Reserves the memory for `hear` of this frame, so that it is not refused, even after calls of

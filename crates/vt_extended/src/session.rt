@@ -4,6 +4,7 @@ ghost use Rattle.std.specs.Prelude.{◌≡◌, ◌≤◌, ℕ, max, true, Some, 
 ghost use Rattle.vt_can.specs.declared.transport.wire.Reason.TheVariants.{Disorder};
 ghost use Rattle.vt_can.specs.transport.Messages.{size_and_first_byte};
 ghost use Rattle.vt_can.specs.transport.Protocols.{outcome_of};
+ghost use Rattle.vt_extended.specs.Arrivals.{arrived_of};
 ghost use Rattle.vt_extended.specs.Messages.{opens};
 ghost use Rattle.vt_extended.specs.Steps.{fresh, is_open, is_next, after_part, after_offset, after_packet};
 ghost use Rattle.vt_extended.specs.declared.messages.Reply.TheVariants as replies;
@@ -55,6 +56,17 @@ impl Session {
             arrived: 0,
             edge: opening.edge_after(0),
             bytes,
+        }
+    }
+
+    /// The number of the bytes so far and the size of the message, if it is of a parameter group and begins with a byte, or else 0 and 0.
+    pub(crate) fn arrived(&self, pgn: u32, first: u8) -> (usize, u32)
+        ensures { result ≡ arrived_of pgn first self.now }
+    {
+        if self.opening.pgn == pgn && self.bytes.first() == Some(&first) {
+            (self.bytes.len(), self.opening.size)
+        } else {
+            (0, 0)
         }
     }
 

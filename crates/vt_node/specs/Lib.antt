@@ -1,5 +1,6 @@
 -- Definitions cited by the contracts of vt_node.
 pub mod AddressFunctions
+pub mod Arrivals
 pub mod Bus
 pub mod Messages
 pub mod Nodes

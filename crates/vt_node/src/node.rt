@@ -6,7 +6,7 @@ ghost use Rattle.vt_can.specs.Assigned as assigned;
 ghost use Rattle.vt_can.specs.frames.Frame.{source_of};
 ghost use Rattle.vt_can.specs.transport.Messages.{size_and_first_byte};
 ghost use Rattle.vt_can.specs.transport.Receivers.{HasCapacityFor};
-ghost use Rattle.vt_can.specs.transport.Sessions.{AreOfAddresses, NoneExpires, alive};
+ghost use Rattle.vt_can.specs.transport.Sessions.{AreOfAddresses, NoneExpires, alive, is_overdue};
 ghost use Rattle.vt_can.specs.transport.Steps.{stepped};
 ghost use Rattle.vt_names.specs.Claims.{IsRisingByName, heard, address_of, holder_of, answer};
 ghost use Rattle.vt_transport.specs.Protocol as tp;
@@ -15,6 +15,7 @@ ghost use Rattle.vt_transport.specs.Senders.{timeout_frame, has_size};
 ghost use Rattle.vt_extended.specs.Protocol as etp;
 ghost use Rattle.vt_extended.specs.Wire.{etp_frame};
 ghost use Rattle.vt_can.specs.transport.FirstTimes.{IsFirstTime};
+ghost use Rattle.vt_node.specs.Arrivals.{arrived_at};
 ghost use Rattle.vt_node.specs.Nodes.{HasOverdue, HasTaken, HasAnswered, HasExpired, abort_by, sender_answer, tp_taken, etp_taken};
 
 use crate::OutOfMemory;
@@ -171,6 +172,25 @@ impl Node {
             Ok(heard) => heard,
             Err(_) => unreachable!(),
         }
+    }
+
+    /// Of a message of a parameter group that is arriving from an address, and begins with a byte: the number of its bytes so far, and its
+    /// size as announced. Both are 0 without such a message. Of two, the one in the extended protocol counts.
+    pub fn arrived(&self, address: u8, pgn: u32, first: u8) -> (usize, u32)
+        ensures { result ≡ arrived_at pgn first (finite.get self.now.tp address) (finite.get self.now.etp address) }
+    {
+        let long = self.etp.arrived(address, pgn, first);
+        if long.1 == 0 {
+            return self.tp.arrived(address, pgn, first);
+        }
+        long
+    }
+
+    /// Whether the session in which a message is being sent to an address would be overdue at a time. False without such a session.
+    pub fn is_overdue_to(&self, address: u8, now: u64) -> bool
+        ensures { result ≡ is_overdue now (finite.get self.now.sending address) }
+    {
+        self.sender.is_overdue(address, now)
     }
 
     /// Whether a message is being sent to an address.

@@ -184,6 +184,13 @@ impl WatchedRegistry {
         self.watch.note_frame(address, now);
     }
 
+    /// Whether an address would be silent at a time of a frame line. docs/PROFILE.md, "Silence".
+    pub fn is_silent_at(&self, address: u8, now: u64) -> bool
+        ensures { result ≡ is_silent now (heard_of self.now.watch address) }
+    {
+        self.watch.is_silent(address, now)
+    }
+
     /// Whether some address waits for the time of the next frame line, from which its silence counts.
     pub fn awaits(&self) -> bool
         ensures { (result ≡ true) ↔ SomeAwaited (heard_of self.now.watch) }

@@ -3,4 +3,5 @@ pub mod CommandEffects
 pub mod CommandReplies
 pub mod Judgements
 pub mod MessageEffects
+pub mod UploadEnds
 pub mod Verdicts

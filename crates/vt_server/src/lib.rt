@@ -22,10 +22,13 @@ mod pools;
 mod sets;
 mod shown;
 mod terminal;
+mod upload_end;
 
 pub use input::Input;
 pub use output::{OperatorFault, Output};
+pub use sets::Progress;
 pub use terminal::{RunFault, Terminal};
+pub use upload_end::{BrokenRule, UploadEnd};
 pub use vt_machine::OperatorRefusal;
 pub use vt_node::Profile;
 

@@ -1,6 +1,6 @@
 //! The pool and the upload of each address.
 
-ghost use Rattle.std.specs.Prelude.{◌≡◌, ◌≤◌, ◌+◌, ◌++◌, ◌∷◌, ◌≢◌, ℕ, [], None, Some, true, false, length, drop, IfOk, IfSome, IfNone, IsSome, OnOk, OnErr};
+ghost use Rattle.std.specs.Prelude.{◌≡◌, ◌≤◌, ◌+◌, ◌++◌, ◌∷◌, ◌≢◌, ℕ, [], None, Some, true, false, ◌-◌, ◌^◌, min, length, drop, IfOk, IfSome, IfNone, IsSome, OnOk, OnErr};
 ghost use Rattle.std.specs.Option.{option_map};
 ghost use Rattle.vt_stores.specs.Stores.{map_of};
 ghost use Rattle.vt_server.specs.message.CommandEffects.{content_after, error_after};
@@ -180,6 +180,16 @@ impl PoolTable {
         transfer.feed(piece, from);
     }
 
+    /// The number of bytes of the upload of an address.
+    pub(crate) fn upload_len(&self, address: u8) -> usize
+        ensures { result ≡ min (length (content_of self.now address).transfer) (2 ^ 64 - 1) }
+    {
+        match &self.transfers[usize::from(address)] {
+            Some(transfer) => transfer.len(),
+            None => 0,
+        }
+    }
+
     /// Judges the upload of an address. Changes nothing.
     pub(crate) fn judge(&self, alloc: Global, address: u8) -> Result<Judgement, OutOfMemory>
         ensures { IfOk result (IsJudgement (content_of self.now address)) }
@@ -205,7 +215,7 @@ impl PoolTable {
                 self.replace(address, replacement);
                 ACCEPTED
             }
-            Judgement::Refused(reply) => {
+            Judgement::Refused { reply, .. } => {
                 self.transfers[usize::from(address)] = None;
                 reply
             }

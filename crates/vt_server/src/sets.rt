@@ -2,10 +2,25 @@
 
 ghost use Rattle.std.specs.Prelude.{◌≡◌, is_some, length, slice_get};
 ghost use Rattle.std.specs.Option.{option_copied};
+ghost use Rattle.vt_can.specs.transport.Sessions.{is_overdue};
+ghost use Rattle.vt_node.specs.Watches.{is_silent};
+ghost use Rattle.vt_server.specs.message.UploadEnds.{upload_end};
+ghost use Rattle.vt_server.specs.state.AddressStates.{progress_of};
 ghost use Rattle.vt_server.specs.States.{state_of};
 
 use crate::terminal::Terminal;
+use crate::upload_end::UploadEnd;
+use vt_can::assigned::{ECU_TO_VT, TRANSFER};
 use vt_names::Set;
+
+/// How much of an upload has come.
+#[derive(Clone, Copy, PartialEq, Eq)]
+pub struct Progress {
+    /// The bytes of the pool that have come.
+    pub came: usize,
+    /// The bytes of the pool that have come or are announced by a message that is arriving.
+    pub announced: usize,
+}
 
 impl Terminal {
     /// The number of working sets, with a pool or without.
@@ -27,6 +42,41 @@ impl Terminal {
         ensures { result ≡ is_some ((state_of self.now).places address).sending }
     {
         self.node.is_sending(address)
+    }
+
+    /// Whether the session in which a message is being sent to an address would be overdue at a time. False without such a session.
+    /// docs/PROFILE.md, "Timeouts".
+    pub fn is_overdue_to(&self, address: u8, time: u64) -> bool
+        ensures { result ≡ is_overdue time ((state_of self.now).places address).sending }
+    {
+        self.node.is_overdue_to(address, time)
+    }
+
+    /// Whether the set of an address would be silent at a time of a frame line. docs/PROFILE.md, "Silence".
+    pub fn is_silent_at(&self, address: u8, time: u64) -> bool
+        ensures { result ≡ is_silent time ((state_of self.now).places address).heard }
+    {
+        self.registry.is_silent_at(address, time)
+    }
+
+    /// How much of the upload of an address has come, with the message that is arriving.
+    pub fn progress(&self, address: u8) -> Progress
+        ensures { result ≡ progress_of ((state_of self.now).places address) }
+    {
+        let whole = self.contents.upload_len(address);
+        let (came, size) = self.node.arrived(address, ECU_TO_VT, TRANSFER);
+        Progress {
+            came: whole.saturating_add(came.saturating_sub(1)),
+            announced: whole.saturating_add((size as usize).saturating_sub(1)),
+        }
+    }
+
+    /// How the upload ended, if the last frame ended one. It says nothing where that frame ended none: then no reply to End of Object Pool
+    /// was sent.
+    pub fn upload_end(&self) -> Option<UploadEnd>
+        ensures { result ≡ upload_end self.now }
+    {
+        self.upload_end
     }
 
     /// The latest time so far, in microseconds.

@@ -8,6 +8,7 @@ ghost use Rattle.vt_stores.specs.Stores.{map_of};
 ghost use Rattle.vt_server.specs.state.AddressStates.{empty};
 ghost use Rattle.vt_server.specs.shown.Screens.{GainsScreenOf, KeepsScreen, redraws};
 ghost use Rattle.vt_server.specs.States.{state_of, TakesInput, TakesInputs};
+ghost use Rattle.vt_server.specs.message.UploadEnds.{TellsEndAfter, upload_end};
 ghost use Rattle.vt_server.specs.Steps.{preloading};
 
 use crate::OutOfMemory;
@@ -15,6 +16,7 @@ use crate::held_pool::HeldPool;
 use crate::input::Input;
 use crate::output::Output;
 use crate::pools::PoolTable;
+use crate::upload_end::UploadEnd;
 use std::alloc::Global;
 use thiserror::Error;
 use vt_layout::draw;
@@ -40,6 +42,8 @@ pub struct Terminal {
     pub(crate) redraws: bool,
     // The latest time so far, in microseconds.
     pub(crate) time: u64,
+    // How the upload ended that the last frame ended, if it ended one.
+    pub(crate) upload_end: Option<UploadEnd>,
 }
 
 // Written out and not derived, so that the drop of all fields is proved once, here, and not in each crate that drops a terminal.
@@ -56,6 +60,7 @@ impl Drop for Terminal {
             lost: _lost,
             redraws: _redraws,
             time: _time,
+            upload_end: _upload_end,
         } = self;
     }
 }
@@ -110,6 +115,7 @@ impl Terminal {
             lost: false,
             redraws: true,
             time: 0,
+            upload_end: None,
         }
     }
 
@@ -188,6 +194,7 @@ impl Terminal {
         ensures lost { (state_of self.old).lost ≡ true → IsOk result }
         // If `redraws` is false afterwards, the text of the screen is the same.
         ensures same { OnOk result (redraws self.new ≡ false → KeepsScreen (state_of self.old) (state_of self.new)) }
+        ensures told { OnOk result (TellsEndAfter (state_of self.old) input.now (upload_end self.new)) }
     {
         match input {
             Input::Frame { time, frame } => self.step_frame(*time, frame, outputs),

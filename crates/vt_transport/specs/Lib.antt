@@ -1,3 +1,4 @@
+pub mod Arrivals
 pub mod BothEnds
 pub mod Messages
 pub mod Protocol

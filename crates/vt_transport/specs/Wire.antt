@@ -1,5 +1,5 @@
 -- The bytes of the transport protocol's frames (docs/PROFILE.md, "Transport messages").
-use Rattle.std.specs.Prelude.{ℕ, ◌+◌, ◌-◌, ◌*◌, ◌/◌, ◌==◌, if◌then◌else◌, Option, List, ◌∷◌, ◌++◌, take, drop, slice_index, replicate}
+use Rattle.std.specs.Prelude.{ℕ, Bool, false, ◌+◌, ◌-◌, ◌*◌, ◌/◌, ◌==◌, if◌then◌else◌, Option, Some, List, ◌∷◌, ◌++◌, take, drop, slice_index, replicate}
 use Rattle.byteorder.specs.Endian.{little_number, little_bytes}
 use Rattle.vt_can.specs.declared.frames.frame.Frame.{Frame}
 use Rattle.vt_can.specs.Assigned.{ABORT, FILL, NO_LIMIT, TP_CM, TP_CTS, TP_DT, TP_END, TP_RTS}
@@ -26,6 +26,11 @@ connection_management bytes =
 -- a frame decoded for a node
 abbrev pub tp_frame : ℕ → Frame → Option TpFrame
 tp_frame = wire.frame_in TP_CM TP_DT connection_management (λ number bytes. Data number bytes)
+
+-- whether a frame says that the message of a parameter group has come as a whole
+abbrev pub ends_message : ℕ → Option TpFrame → Bool
+ends_message pgn (Some (EndOfMessage ended)) = ended == pgn
+ends_message pgn _ = false
 
 abbrev pub reply_bytes : Reply → List ℕ
 reply_bytes (ClearToSend count next pgn) = TP_CTS ∷ count ∷ next ∷ FILL ∷ FILL ∷ little_bytes 3 pgn

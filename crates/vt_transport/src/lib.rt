@@ -3,6 +3,7 @@
 //! - `Receiver` handles the frames of all sources, and answers each with `Heard`: nothing, a reply, or a whole
 //!   message with its `Bytes`.
 //! - `Sender` sends at most one message at a time to each destination. `SendFault` is the reason of a refusal.
+//! - `ends_message` tells whether a frame acknowledges the end of a message that was sent.
 //! - `laws` has theorems about the definitions in specs/.
 //!
 //! docs/PROFILE.md, "Transport", has the rules. Times are in microseconds.
@@ -19,6 +20,7 @@ mod wire;
 pub use receiver::Receiver;
 pub use sender::{SendFault, Sender};
 pub use vt_can::{Bytes, Heard};
+pub use wire::ends_message;
 
 /// A refused allocation.
 pub use std::alloc::AllocError as OutOfMemory;

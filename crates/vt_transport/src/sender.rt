@@ -116,6 +116,17 @@ impl Sender {
         self.sessions.overdue_from()
     }
 
+    /// Whether the session to a destination would be overdue at a time. False if no message is being sent there. docs/PROFILE.md,
+    /// "Timeouts".
+    pub fn is_overdue(&self, to: u8, now: u64) -> bool
+        ensures { result ≡ is_overdue now (finite.get self.now.sessions to) }
+    {
+        match self.sessions.get(to) {
+            Some(timed) => timed.is_overdue(now),
+            None => false,
+        }
+    }
+
     /// Whether a message is being sent to a destination.
     pub fn is_sending(&self, to: u8) -> bool
         ensures { result ≡ is_some (finite.get self.now.sessions to) }

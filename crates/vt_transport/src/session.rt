@@ -3,6 +3,7 @@
 ghost use Rattle.std.specs.Prelude.{◌≡◌, ◌≤◌, ℕ, max, true, Some, [], length, List, vec_len, vec_capacity};
 ghost use Rattle.vt_can.specs.transport.Messages.{size_and_first_byte};
 ghost use Rattle.vt_can.specs.transport.Protocols.{outcome_of};
+ghost use Rattle.vt_transport.specs.Arrivals.{arrived_of};
 ghost use Rattle.vt_transport.specs.Messages.{opens};
 ghost use Rattle.vt_transport.specs.Steps.{after_packet};
 
@@ -45,6 +46,17 @@ impl Session {
             opening,
             received: 0,
             bytes,
+        }
+    }
+
+    /// The number of the bytes so far and the size of the message, if it is of a parameter group and begins with a byte, or else 0 and 0.
+    pub(crate) fn arrived(&self, pgn: u32, first: u8) -> (usize, u32)
+        ensures { result ≡ arrived_of pgn first self.now }
+    {
+        if self.opening.pgn == pgn && self.bytes.first() == Some(&first) {
+            (self.bytes.len(), u32::from(self.opening.size))
+        } else {
+            (0, 0)
         }
     }
 

@@ -3,7 +3,7 @@
 ghost use Rattle.std.specs.Prelude.{◌≡◌, ◌≤◌, ◌∷◌, length};
 ghost use Rattle.vt_can.specs.Assigned.{TP_DT};
 ghost use Rattle.vt_can.specs.frames.Frame.{frame_of};
-ghost use Rattle.vt_transport.specs.Wire.{tp_frame, connection_management, reply_frame, reply_bytes, rts_frame};
+ghost use Rattle.vt_transport.specs.Wire.{ends_message, tp_frame, connection_management, reply_frame, reply_bytes, rts_frame};
 
 use crate::messages::{Opening, Reply, TpFrame};
 use byteorder::{ByteOrder, LittleEndian};
@@ -48,6 +48,16 @@ fn connection_management(bytes: &[u8]) -> TpFrame
         TP_END => TpFrame::EndOfMessage { pgn },
         ABORT => TpFrame::Aborted { pgn },
         _ => TpFrame::Other,
+    }
+}
+
+/// Whether a frame tells this node that its message of a parameter group has come as a whole (End of Message Acknowledgment).
+pub fn ends_message(own_address: u8, pgn: u32, frame: &Frame) -> bool
+    ensures { result ≡ ends_message pgn (tp_frame own_address frame.now) }
+{
+    match tp_frame(own_address, frame) {
+        Some(TpFrame::EndOfMessage { pgn: ended }) => ended == pgn,
+        _ => false,
     }
 }
 

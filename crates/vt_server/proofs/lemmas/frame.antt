@@ -4,3 +4,4 @@ pub mod FrameEffect
 pub mod FrameStep
 pub mod NoRefusalByFrame
 pub mod PreparationAfterTimeouts
+pub mod UploadEnds

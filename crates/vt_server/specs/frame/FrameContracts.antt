@@ -10,7 +10,7 @@ use Rattle.vt_transport.specs.Protocol as tp
 use Rattle.vt_transport.specs.Wire.{tp_frame}
 use Rattle.vt_extended.specs.Protocol as etp
 use Rattle.vt_extended.specs.Wire.{etp_frame}
-use Rattle.vt_server.specs.message.Judgements.{IsJudgement}
+use Rattle.vt_server.specs.message.Judgements.{IsJudgement, end_of}
 use Rattle.vt_server.specs.Judgements.{IsJudged, ends_transfer}
 use Rattle.vt_server.specs.message.MessageEffects.{TRANSFER, END_OF_POOL, asked}
 use Rattle.vt_server.specs.frame.HoldersBeforeClaim.{AreFormer}
@@ -31,6 +31,7 @@ use Rattle.vt_node.specs.declared.bus.FrameMeaning.{FrameMeaning}
 use Rattle.vt_node.specs.declared.bus.FrameMeaning.TheVariants as notices
 use Rattle.vt_server.specs.declared.frame.step.PreparedFrame.{PreparedFrame}
 use Rattle.vt_server.specs.declared.frame.step.PreparedFrame.TheVariants as readies
+use Rattle.vt_server.specs.declared.upload_end.UploadEnd.{UploadEnd}
 use Rattle.vt_server.specs.declared.output.Output.{Output}
 use Rattle.vt_server.specs.declared.terminal.Terminal.{Terminal}
 use Rattle.vt_server.specs.declared.message.upload.PreparedMessage.{PreparedMessage}
@@ -126,6 +127,11 @@ HasUpload t notice frame upload =
 
 abbrev pub FitsAfterTimeouts : State → Terminal → FrameMeaning → Frame → PreparedFrame → Type 0
 FitsAfterTimeouts s t notice frame ready = FitsFrame s t notice frame (HasUpload t notice frame) ready
+
+-- how an upload ends by the work done in advance
+abbrev pub end_prepared : PreparedFrame → Option UploadEnd
+end_prepared (readies.Prepared (uploads.End judgement)) = Some (end_of judgement)
+end_prepared ready = None
 
 -- ---- contracts of the calls
 

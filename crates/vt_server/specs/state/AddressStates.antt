@@ -1,12 +1,15 @@
 -- The state of an address beside its set: its pool and upload, its sessions, and the time of its last frame (docs/PROFILE.md,
 -- "What a set has", "Transport", "Silence").
-use Rattle.std.specs.Prelude.{ℕ, List, [], ◌++◌, Option, Some, None, unwrap_or}
+use Rattle.std.specs.Prelude.{ℕ, ◌+◌, ◌-◌, ◌^◌, min, List, [], ◌++◌, length, Option, Some, None, unwrap_or}
+use Rattle.vt_can.specs.Assigned.{ECU_TO_VT, TRANSFER}
 use Rattle.vt_can.specs.declared.transport.sessions.Timed.{Timed}
 use Rattle.vt_can.specs.transport.Messages.{Message}
 use Rattle.vt_can.specs.transport.Sessions.{untimed_session}
 use Rattle.vt_transport.specs.SessionState as tp
 use Rattle.vt_extended.specs.SessionState as etp
 use Rattle.vt_machine.specs.SetStates.{SetState}
+use Rattle.vt_node.specs.Arrivals.{arrived_at}
+use Rattle.vt_server.specs.declared.sets.Progress.{Progress}
 
 -- the content of an address, changed by messages from a set's master: its pool, and the bytes of its upload
 pub record SetPool : Type 0 where
@@ -54,3 +57,14 @@ untimed_place place = record place {
   sending = untimed_session place.sending;
   heard = None;
 }
+
+-- ---- the progress of an upload
+
+-- The bytes of the pool that have come, and those that have come or are announced: the whole pieces, and the message that is arriving without
+-- its first byte, which says that it is a piece.
+abbrev pub progress_by : ℕ → ℕ × ℕ → Progress
+progress_by whole arriving =
+    record { came = min (whole + (arriving.0 - 1)) (2 ^ 64 - 1); announced = min (whole + (arriving.1 - 1)) (2 ^ 64 - 1) }
+
+abbrev pub progress_of : AddressState → Progress
+progress_of place = progress_by (length place.content.transfer) (arrived_at ECU_TO_VT TRANSFER place.tp place.etp)

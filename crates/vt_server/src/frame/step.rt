@@ -5,11 +5,12 @@ ghost use Rattle.vt_can.specs.frames.Frame.{source_of};
 ghost use Rattle.vt_node.specs.Bus.{notice_of};
 ghost use Rattle.vt_server.specs.shown.ShownSet.{display};
 ghost use Rattle.vt_server.specs.shown.DisplayValues.{display_value};
-ghost use Rattle.vt_server.specs.frame.FrameContracts.{FitsBeforeTimeouts, FitsAfterTimeouts, IsNoClaim, HasCapacity, HasUpload, FinishesFrame, TakesFrame, TakesNotice};
+ghost use Rattle.vt_server.specs.frame.FrameContracts.{FitsBeforeTimeouts, FitsAfterTimeouts, IsNoClaim, HasCapacity, HasUpload, FinishesFrame, TakesFrame, TakesNotice, end_prepared};
 ghost use Rattle.vt_server.specs.Outputs.{outputs_of, HasSpare};
 ghost use Rattle.vt_server.specs.state.AddressViews as parts;
 ghost use Rattle.vt_server.specs.shown.Screens.{KeepsScreen, ShowsWhatIsLeft, TellsChanges, redraws};
 ghost use Rattle.vt_server.specs.States.{state_of, TakesInput};
+ghost use Rattle.vt_server.specs.message.UploadEnds.{TellsEnd, upload_end};
 ghost use Rattle.vt_server.specs.Steps as steps;
 ghost use Rattle.vt_server.specs.Terminals as spec;
 ghost use Rattle.vt_node.specs.declared.bus.FrameMeaning.TheVariants as notices;
@@ -21,6 +22,7 @@ use crate::message::upload::PreparedMessage;
 use crate::output::{Output, send};
 use crate::shown::ShownMasks;
 use crate::terminal::Terminal;
+use crate::upload_end::UploadEnd;
 use vt_can::Frame;
 use vt_can::assigned::NULL_ADDRESS;
 use vt_names::ClaimMeaning;
@@ -55,6 +57,7 @@ impl Terminal {
         // A terminal without its address asks for no memory.
         ensures lost { (state_of self.old).lost ≡ true → IsOk result }
         ensures same { OnOk result (redraws self.new ≡ false → KeepsScreen (state_of self.old) (state_of self.new)) }
+        ensures told { OnOk result (TellsEnd (state_of self.old) time frame.now (upload_end self.new)) }
     {
         if self.lost {
             self.redraws = false;
@@ -64,9 +67,11 @@ impl Terminal {
         let now = self.time.max(time);
         let notice = notice_of(self.node.own(), self.node.name(), frame);
         let ready = self.prepare(now, &notice, frame)?;
+        let end = end_of(&ready);
         let before = self.display();
         self.lapse(now, outputs);
         self.finish(&notice, frame, ready, &before, outputs);
+        self.upload_end = end;
         Ok(())
     }
 
@@ -241,5 +246,15 @@ impl Terminal {
         let _refused = self
             .registry
             .master(source, self.node.holder(source), count);
+    }
+}
+
+/// How an upload ends, if the frame ends one.
+fn end_of(ready: &PreparedFrame) -> Option<UploadEnd>
+    ensures { result ≡ end_prepared ready.now }
+{
+    match ready {
+        PreparedFrame::Prepared(PreparedMessage::End(judgement)) => Some(judgement.end()),
+        _ => None,
     }
 }

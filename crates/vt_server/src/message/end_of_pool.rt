@@ -4,11 +4,12 @@ ghost use Rattle.std.specs.Prelude.{◌≡◌, [], ◌∷◌, ◌++◌, None, So
 ghost use Rattle.std.specs.Option.{option_map};
 ghost use Rattle.vt_pool.specs.Pools.{PoolEntry, IsWantOfMemory};
 ghost use Rattle.vt_verify.specs.Rules as rules;
-ghost use Rattle.vt_server.specs.message.Judgements.{IsJudgement};
+ghost use Rattle.vt_server.specs.message.Judgements.{IsJudgement, end_of};
 ghost use Rattle.vt_server.specs.message.Verdicts as transfers;
 ghost use Rattle.vt_server.specs.message.Verdicts.{IsPool};
 
 use crate::OutOfMemory;
+use crate::upload_end::{BrokenRule, UploadEnd, first_of_circle};
 use byteorder::{ByteOrder, LittleEndian};
 use std::alloc::{AllocError, Global};
 use vt_can::assigned::END_OF_POOL;
@@ -24,8 +25,20 @@ pub(crate) enum Judgement {
     Accepted(Box<Live<SortedStore>>),
     /// The objects that replace some of the set's pool.
     Replaced(Replacement),
-    /// The reply that refuses the upload.
-    Refused([u8; 8]),
+    /// The reply that refuses the upload, and why.
+    Refused { reply: [u8; 8], end: UploadEnd },
+}
+
+impl Judgement {
+    /// How the upload ends by the judgement.
+    pub(crate) fn end(&self) -> UploadEnd
+        ensures { result ≡ end_of self.now }
+    {
+        match self {
+            Judgement::Accepted(_) | Judgement::Replaced(_) => UploadEnd::Accepted,
+            Judgement::Refused { end, .. } => *end,
+        }
+    }
 }
 
 /// The reply to an accepted upload.
@@ -43,7 +56,8 @@ pub(crate) fn judge(
         Ok(read) => read,
         Err(fault) => {
             let reply = fault_reply(fault)?;
-            return Ok(Judgement::Refused(reply));
+            let end = UploadEnd::Faulty(fault);
+            return Ok(Judgement::Refused { reply, end });
         }
     };
     match pool {
@@ -64,7 +78,8 @@ fn judge_first(alloc: Global, read: Pool<'_>) -> Result<Judgement, OutOfMemory>
         }
         Err(refusal) => {
             let reply = refusal_reply(&refusal)?;
-            Ok(Judgement::Refused(reply))
+            let end = UploadEnd::Refused(BrokenRule::of(&refusal));
+            Ok(Judgement::Refused { reply, end })
         }
     }
 }
@@ -88,7 +103,8 @@ fn judge_update(
         }
         Err(refusal) => {
             let reply = refusal_reply(&refusal)?;
-            Ok(Judgement::Refused(reply))
+            let end = UploadEnd::Refused(BrokenRule::of(&refusal));
+            Ok(Judgement::Refused { reply, end })
         }
     }
 }
@@ -125,19 +141,13 @@ fn refusal_reply(refusal: &Refusal) -> Result<[u8; 8], OutOfMemory>
             *id,
             4,
         ),
-        Refusal::MacroCircle { path } => refused(ObjectId::NULL, first_of(path.as_slice()), 4),
+        Refusal::MacroCircle { path } => refused(
+            ObjectId::NULL,
+            first_of_circle(path.as_slice()),
+            4,
+        ),
         _ => refused(ObjectId::NULL, ObjectId::NULL, 4),
     })
-}
-
-/// The first macro of a circle.
-fn first_of(path: &[u8]) -> ObjectId
-    ensures { result ≡ slice_index path.now 0 }
-{
-    match path.first() {
-        Some(id) => ObjectId::from_raw(u16::from(*id)),
-        None => ObjectId::from_raw(0),
-    }
 }
 
 fn refused(parent: ObjectId, object: ObjectId, code: u8) -> [u8; 8]

@@ -190,7 +190,7 @@ now-with content spare bytes uploads.Capacity is = absurd is
 now-with content spare bytes (uploads.Piece piece) is = is
 now-with content spare bytes (uploads.End judgement) is = is
 
-by-message : (n : FrameMeaning) (content : SetPool) (spare now own a : ℕ) (place : AddressState) (frame : Frame) (upload : PreparedMessage)
+pub by-message : (n : FrameMeaning) (content : SetPool) (spare now own a : ℕ) (place : AddressState) (frame : Frame) (upload : PreparedMessage)
     → FitsMeaning n content spare (came now own a place n frame).message upload → FitsCompleted content spare (came now own a place n frame).message upload
 by-message (notices.Claim name) content spare now own a place frame upload is = tt
 by-message notices.ClaimRequest content spare now own a place frame upload is = tt

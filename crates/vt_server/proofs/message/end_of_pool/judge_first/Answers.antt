@@ -2,6 +2,8 @@ use Rattle.std.proofs.Common.{subst, ap, ◌∙◌}
 use Rattle.vt_stores.specs.Stores.{map_of}
 use Rattle.vt_verify.specs.Rules.{IsVerified}
 use Rattle.vt_server.specs.message.Verdicts.{Accepts, Refuses}
+use Rattle.vt_server.specs.declared.upload_end.BrokenRule.{BrokenRule}
+use Rattle.vt_server.specs.declared.upload_end.UploadEnd.TheVariants as ends
 use Rattle.vt_server.proofs.message.end_of_pool.judge_first.Goals as goal
 
 pub returns-in_ok-pool-in-Ok : goal.returns-in_ok-pool-in-Ok
@@ -25,5 +27,5 @@ returns-in_ok-reply-in-Err c bytes is = record {
     refused = c.in-Err.ensures.refused;
     named = c.in_ok-reply-in-Err.ensures.named;
   };
-  carried_out = c.in_ok-reply-in-Err.ensures.reply;
+  carried_out = (c.in_ok-reply-in-Err.ensures.reply, ap (λ (rule : BrokenRule). ends.Refused rule) c.of.ensures);
 }

@@ -5,6 +5,8 @@ use Rattle.vt_chains.specs.Limits.{terminal}
 use Rattle.vt_verify.specs.Updates.{updated}
 use Rattle.vt_machine.specs.Replacements.{AreReplacements}
 use Rattle.vt_server.specs.message.Verdicts.{Accepts, Refuses}
+use Rattle.vt_server.specs.declared.upload_end.BrokenRule.{BrokenRule}
+use Rattle.vt_server.specs.declared.upload_end.UploadEnd.TheVariants as ends
 use Rattle.vt_server.proofs.message.end_of_pool.judge_update.Goals as goal
 
 pub returns-in-Some : goal.returns-in-Some
@@ -51,5 +53,5 @@ returns-in_ok-reply-in-Err c bytes is =
         refused = subst (λ (o : ObjectMap). IsRefused terminal (updated o pool) c.in-Err.refusal) store c.in-Err.ensures.refused;
         named = c.in_ok-reply-in-Err.ensures.named;
       };
-      carried_out = c.in_ok-reply-in-Err.ensures.reply;
+      carried_out = (c.in_ok-reply-in-Err.ensures.reply, ap (λ (rule : BrokenRule). ends.Refused rule) c.of.ensures);
     }

@@ -13,6 +13,6 @@ returns-in-Refused c =
     let inside = c.self.inside in
     let new = content_of record { pools = inside.pools; transfers = slice_set inside.transfers c.from.result None } in
     subst (λ j. IsEnded (content_of old) c.args.address j c.in-Refused.reply new) (sym c.in-Refused.is)
-    (ends-refused (content_of old) new c.args.address c.in-Refused.reply (subst (IsJudgement (content_of old c.args.address)) c.in-Refused.is c.requires)
+    (ends-refused (content_of old) new c.args.address c.in-Refused.reply _ (subst (IsJudgement (content_of old c.args.address)) c.in-Refused.is c.requires)
     (upload-written inside.pools inside.transfers c.args.address c.from.result None c.from.ensures (omega (arith, c.self.invariant.transfers_each))
     ∙ ap (λ (k : Kept). with_at c.args.address (record (content_of k c.args.address) { transfer = [] }) (content_of k)) c.self.view_is))

@@ -1,8 +1,13 @@
-use Rattle.std.proofs.Common.{◌++◌, sym, subst, ◌∙◌}
+use Rattle.std.proofs.Common.{◌≡◌, ◌++◌, Option, sym, ap, subst, true≢false, ◌∙◌}
+use Rattle.vt_names.specs.Claims.{Claimed}
 use Rattle.vt_can.specs.frames.Frame.{source_of}
 use Rattle.vt_node.specs.Bus.{notice_of}
 use Rattle.vt_server.specs.frame.TimeoutActs.{at_time, lapsed}
 use Rattle.vt_server.specs.Outputs.{outputs_of}
+use Rattle.vt_server.specs.message.UploadEnds.{TellsEndIn}
+use Rattle.vt_server.specs.declared.upload_end.UploadEnd.{UploadEnd}
+use Rattle.vt_server.proofs.lemmas.frame.UploadEnds.{end-told}
+use Rattle.vt_server.proofs.lemmas.steps.StepInvariants.{claims-lapsed}
 use Rattle.vt_server.specs.States.{state_of}
 use Rattle.vt_server.proofs.lemmas.frame.FrameStep.{takes-line, takes-lost}
 use Rattle.vt_server.proofs.lemmas.frame.PreparationAfterTimeouts.{ready-then, prepared-display, prepared-sent}
@@ -54,3 +59,21 @@ returns-clause-same c none =
     line-kept s (state_of t) (state_of c.lapse.new.self) (state_of v) now (prepared-shows s t now n frame ready prepared)
     c.lapse.ensures.state (c.finish.ensures.tells none)
     (subst ShownHasPool (sym heard.state) (hearing-pooled s lapsed-is (source_of frame) n frame heard.verdict))
+
+pub returns-then-self-clause-told : goal.returns-then-self-clause-told
+returns-then-self-clause-told c kept = absurd (true≢false (sym c.if-self.true ∙ kept))
+
+pub returns-clause-told : goal.returns-clause-told
+returns-clause-told c kept =
+    let s = state_of c.args.self.now in
+    let t = c.prepare.new.self in
+    let n = c.notice_of-notice.result in
+    let frame = c.args.frame.now in
+    let ready = c.in_ok-ready.ready in
+    let then = lapsed (at_time s c.args.time) in
+    let meaning : n ≡ notice_of then.claims.own then.claims.name frame =
+    (c.notice_of-notice.ensures ∙ (λ i. notice_of (c.own.ensures i) (c.name.ensures i) frame))
+    ∙ sym (ap (λ (k : Claimed). notice_of k.own k.name frame) (claims-lapsed (at_time s c.args.time))) in
+    let told = end-told then c.lapse.new.self n frame meaning ready
+    (ready-then s t c.args.time c.max-now.result n frame c.max-now.ensures c.lapse.new.self c.lapse.ensures.state c.lapse.ensures.lapsed ready c.in_ok-ready.ensures.ok) in
+    subst (λ (end : Option UploadEnd). TellsEndIn then frame end) (sym c.end_of-end.ensures) told
