@@ -412,6 +412,14 @@ public:
         return count == UINT64_MAX ? std::nullopt : std::optional(written<std::string>(count));
     }
 
+    // An object of the set at an address by itself as SVG, as an item of a list, the label of a key, or a Working Set with its designator.
+    // Empty if there is no such object.
+    [[nodiscard]] std::optional<std::string> part(std::uint8_t address, std::uint16_t id)
+    {
+        const std::uint64_t count = at_ ? vt_text_of_part(at_, address, id) : 0;
+        return count == UINT64_MAX ? std::nullopt : std::optional(written<std::string>(count));
+    }
+
     // The size of what `picture` draws, in pixels: none if there is no set with a pool.
     [[nodiscard]] std::optional<Extent> picture_size(std::uint8_t address, std::optional<std::uint16_t> mask = std::nullopt) const noexcept
     {

@@ -300,6 +300,7 @@ uint64_t vt_look(const struct vt_terminal *at);
 uint64_t vt_text_of_sets(struct vt_terminal *at);
 uint64_t vt_text_of_object(struct vt_terminal *at, uint32_t address, uint32_t id);
 uint64_t vt_text_of_picture(struct vt_terminal *at, uint32_t address, uint32_t mask);
+uint64_t vt_text_of_part(struct vt_terminal *at, uint32_t address, uint32_t id);
 uint64_t vt_text_of_elements(struct vt_terminal *at);
 uint64_t vt_ids_of_active(const struct vt_terminal *at, uint32_t address);
 uint64_t vt_id_at(const struct vt_terminal *at, uint32_t x, uint32_t y);
@@ -372,6 +373,15 @@ VT_INLINE uint64_t vt_object(struct vt_terminal *at, uint32_t address, uint32_t 
 VT_INLINE uint64_t vt_picture(struct vt_terminal *at, uint32_t address, uint32_t mask, uint8_t *buf, size_t room)
 {
     return vt_written(at, vt_text_of_picture(at, address, mask), buf, room);
+}
+
+/* Draws an object of the set at an address by itself as SVG: an item of a list, the label of a key, or a Working Set, whose picture is its
+ * designator, in the area of a key. The object is at the upper left corner of a picture that has its size, on no background, and a pointer is
+ * followed. Of a mask, too, the elements within it are drawn on its background, and of a Soft Key Mask its keys (docs/PROFILE.md, "The
+ * picture of one object"). Returns the number of bytes, 0 if there is no such object. */
+VT_INLINE uint64_t vt_part(struct vt_terminal *at, uint32_t address, uint32_t id, uint8_t *buf, size_t room)
+{
+    return vt_written(at, vt_text_of_part(at, address, id), buf, room);
 }
 
 /* The size of a picture, in pixels. */

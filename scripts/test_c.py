@@ -26,6 +26,7 @@ from c.live import test_live
 from c.looks import test_looks
 from c.memory import test_memory
 from c.misuse import test_misuse
+from c.parts import test_parts
 from c.programs import CHECKING, LIBRARY, Programs
 from c.readings import test_readings
 from c.repaints import test_repaints
@@ -44,6 +45,7 @@ def test_all(tests, folder, cases):
     test_replays(tests, programs, cases)
     test_generated(tests, programs)
     test_readings(tests, programs)
+    test_parts(tests, programs)
     test_repaints(tests, programs)
     test_display(tests, programs)
     test_looks(tests, programs)

@@ -35,6 +35,7 @@ LENDING = [
     ("vt_has_pool", "reading::has_pool", "TellsPool", ["u32"], "u64"),
     ("vt_text_of_object", "reading::object", "WritesObject", ["u32", "u32"], "u64"),
     ("vt_text_of_picture", "reading::picture", "Pictures", ["u32", "u32"], "u64"),
+    ("vt_text_of_part", "reading::part", "Parts", ["u32", "u32"], "u64"),
     ("vt_size_of_picture", "reading::size", "TellsSize", ["u32", "u32"], "u64"),
     ("vt_text_of_elements", "reading::shown_elements", "ListsElements", [], "u64"),
     ("vt_id_at", "reading::touch", "TellsTouched", ["u32", "u32"], "u64"),
@@ -44,7 +45,7 @@ LENDING = [
 ]
 
 # The relations of a module other than Calls.
-READINGS = ["Lists", "TellsActive", "TellsPool", "WritesObject", "Pictures", "TellsSize", "ListsElements", "TellsTouched"]
+READINGS = ["Lists", "TellsActive", "TellsPool", "WritesObject", "Pictures", "Parts", "TellsSize", "ListsElements", "TellsTouched"]
 DIALOGS = ["WritesLimits", "WritesValue", "TellsRaw"]
 
 # Exports with one or two numbers and a slice of bytes: the export, the function, its relation, the module of the relation, the slice in it,

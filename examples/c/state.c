@@ -1,5 +1,5 @@
 /* Tells what a display reads of a terminal: its working sets, what is active in the one at 80, each object of it as it is now, the
- * elements of the shown mask, and the picture of the active mask of the set at 80.
+ * elements of the shown mask, the picture of each object by itself, and the picture of the active mask of the set at 80.
  *
  *     state POOL [LOG]
  *
@@ -134,6 +134,23 @@ static bool tell_elements(struct vt_terminal *vt)
     return count != UINT64_MAX;
 }
 
+/* Tells each object by itself as SVG, which has no newline. */
+static bool tell_parts(struct vt_terminal *vt, uint8_t **buf, size_t *room)
+{
+    for (uint32_t id = 0; id < VT_NO_ID; id++) {
+        uint64_t count = vt_part(vt, OWNER, id, *buf, *room);
+        if (count > *room && (!grow(buf, room, count) || vt_part(vt, OWNER, id, *buf, *room) != count)) {
+            return false;
+        }
+        if (count > 0) {
+            printf("part %" PRIu32 " ", id);
+            fwrite(*buf, 1, (size_t)count, stdout);
+            printf("\n");
+        }
+    }
+    return true;
+}
+
 static bool tell_picture(struct vt_terminal *vt, uint8_t **buf, size_t *room)
 {
     uint64_t count = vt_picture(vt, OWNER, VT_NO_ID, NULL, 0);
@@ -153,7 +170,8 @@ static bool tell_all(struct vt_terminal *vt)
 
     if (told) {
         tell_active(vt);
-        told = tell_objects(vt, &buf, &room) && tell_elements(vt) && tell_picture(vt, &buf, &room);
+        told = tell_objects(vt, &buf, &room) && tell_elements(vt) && tell_parts(vt, &buf, &room) &&
+               tell_picture(vt, &buf, &room);
     }
     free(buf);
     return told && fflush(stdout) == 0 && !ferror(stdout);

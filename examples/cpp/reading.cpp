@@ -1,4 +1,5 @@
-// What a display reads of a terminal in C++: the sets, the elements of the shown mask, each object as it is now, and a picture.
+// What a display reads of a terminal in C++: the sets, the elements of the shown mask, each object as it is now and by itself, and
+// a picture.
 //
 //     g++ -std=c++17 -Iinclude examples/cpp/reading.cpp crates/vt_terminal/out/libvt_terminal.a -o reading && ./reading
 //
@@ -36,6 +37,15 @@ bool fits(segyolant::Terminal &terminal, const std::vector<segyolant::Element> &
     const std::vector<std::uint8_t> record = terminal.object(implement, one.id).value_or(std::vector<std::uint8_t>());
     return has_one_around == (one.depth > 0) && record.size() >= 3 && vt_record_length(record.data()) == record.size() &&
            vt_number(record.data(), VT_RECORD_ID, 2) == one.id && record[VT_RECORD_KIND] == one.kind;
+}
+
+// Whether the picture of an element by itself has its size, and the element at the upper left corner.
+bool stands_alone(segyolant::Terminal &terminal, const segyolant::Element &one)
+{
+    const std::string part = terminal.part(implement, one.id).value_or("");
+    const std::string size = "width=\"" + std::to_string(one.width) + "\" height=\"" + std::to_string(one.height) + "\"";
+    const std::string corner = "data-id=\"" + std::to_string(one.id) + "\" x=\"0\" y=\"0\"";
+    return part.find(size) < 60 && part.find(corner) != std::string::npos;
 }
 
 // Whether a touch in the middle of what is shown of a key or a button finds something to operate.
@@ -94,6 +104,9 @@ int main(int argc, char **argv)
         if (!fits(terminal, elements, k) || picture.find(id) == std::string::npos) {
             return failed("an element does not fit");
         }
+        if (!stands_alone(terminal, elements[k])) {
+            return failed("an element by itself has another place or size");
+        }
         if (!is_touched(terminal, elements[k])) {
             return failed("a key or a button is not found at its place");
         }
@@ -110,5 +123,5 @@ int main(int argc, char **argv)
     }
 
     // Before it has a pool, a set has no state, and outside of the mask nothing is touched.
-    return elements.empty() || terminal.active(0x81) || terminal.picture(0x81) != "" || terminal.touch(-1, 5) ? failed("too much is told") : 0;
+    return elements.empty() || terminal.active(0x81) || terminal.picture(0x81) != "" || terminal.part(0x81, 0) != "" || terminal.touch(-1, 5) ? failed("too much is told") : 0;
 }

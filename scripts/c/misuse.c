@@ -90,6 +90,9 @@ static void write_texts(struct vt_terminal *vt, const char *state, uint32_t addr
         check(id == INPUT ? (bytes > 0) == has_pool : may_be_there || bytes == 0, state, "vt_value_text");
         bytes = vt_picture(vt, address, id, buf, rooms[k]);
         check((bytes > 0) == has_pool, state, "vt_picture");
+        bytes = vt_part(vt, address, id, buf, rooms[k]);
+        check(may_be_there || bytes == 0, state, "vt_part of an object that is not there");
+        check((id != MASK && id != INPUT) || (bytes > 0) == has_pool, state, "vt_part of an object that is there");
         free(buf);
     }
 }

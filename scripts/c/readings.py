@@ -12,14 +12,19 @@ POOLS = ['pool.iop', 'sprayer.iop', 'kinds.iop']
 LOGS = [('pool.iop', 'hide.log'), ('sprayer.iop', 'sprayer.log'), ('sprayer.iop', 'seeder.log')]
 
 
-def told(programs, kind, *words):
-    """What state prints: the lines before the objects, the record of each object, and the picture."""
+def all_told(programs, kind, *words):
+    """What state prints: its lines before the picture, and the picture."""
     status, out, messages = run([programs.get(kind), *words], EXAMPLES)
     expect(status == 0, f'status {status}: {messages[-200:]!r}')
-    head, _, picture = out.partition(b'picture\n')
-    lines = head.decode().splitlines()
+    head, _, picture = out.partition(b'\npicture\n')
+    return head.decode().splitlines(), picture
+
+
+def told(programs, kind, *words):
+    """The lines of state that are not of single objects, the record of each object, and the picture."""
+    lines, picture = all_told(programs, kind, *words)
     records = {int(line.split()[1]): bytes.fromhex(line.split()[2]) for line in lines if line.startswith('object ')}
-    return [line for line in lines if not line.startswith('object ')], records, picture
+    return [line for line in lines if not line.startswith(('object ', 'part '))], records, picture
 
 
 def check_records(programs, kind, pool):

@@ -55,7 +55,7 @@ static void readings(void)
     uint32_t shown = (uint32_t)vt_shown(vt);
 
     result = vt_text_of_sets(vt) + vt_text_of_elements(vt) + vt_text_of_picture(vt, shown, VT_NO_ID);
-    result = vt_text_of_object(vt, shown, 1000) + vt_ids_of_active(vt, shown) + vt_id_at(vt, 1, 1);
+    result = vt_text_of_part(vt, shown, 1000) + vt_text_of_object(vt, shown, 1000) + vt_ids_of_active(vt, shown) + vt_id_at(vt, 1, 1);
 }
 
 static void tick(void)

@@ -75,6 +75,7 @@ extern "C" {
     fn vt_has_pool(at: *mut VtTerminal, address: u32) -> u64;
     fn vt_text_of_object(at: *mut VtTerminal, address: u32, id: u32) -> u64;
     fn vt_text_of_picture(at: *mut VtTerminal, address: u32, mask: u32) -> u64;
+    fn vt_text_of_part(at: *mut VtTerminal, address: u32, id: u32) -> u64;
     fn vt_size_of_picture(at: *const VtTerminal, address: u32, mask: u32) -> u64;
     fn vt_look(at: *mut VtTerminal) -> u64;
     fn vt_text_of_limits(at: *mut VtTerminal, address: u32, id: u32) -> u64;
@@ -296,6 +297,12 @@ impl Handle {
     pub(crate) fn picture(&mut self, address: u8, mask: u16) -> u64 {
         // SAFETY: `at` is a terminal, lent alone.
         unsafe { vt_text_of_picture(self.at.as_ptr(), u32::from(address), u32::from(mask)) }
+    }
+
+    /// Draws an object by itself as SVG and returns the number of bytes, or `u64::MAX`.
+    pub(crate) fn part(&mut self, address: u8, id: u16) -> u64 {
+        // SAFETY: `at` is a terminal, lent alone.
+        unsafe { vt_text_of_part(self.at.as_ptr(), u32::from(address), u32::from(id)) }
     }
 
     /// The width of a picture, and its height times 2^32; 0 without a set that has a pool.

@@ -179,6 +179,13 @@ impl Terminal {
         Ok(Some(text_of(self.written(count)?)).filter(|picture| !picture.is_empty()))
     }
 
+    /// An object of the set at an address by itself as SVG, as an item of a list, the label of a key, or a Working Set with its designator.
+    /// `None` if there is no such object. The only error is [`Error::OutOfMemory`].
+    pub fn part(&mut self, address: u8, id: u16) -> Result<Option<String>, Error> {
+        let count = self.handle.part(address, id);
+        Ok(Some(text_of(self.written(count)?)).filter(|part| !part.is_empty()))
+    }
+
     /// The width and the height of what [`picture`](Terminal::picture) draws, in pixels. `None` if there is no set with a pool.
     pub fn picture_size(&mut self, address: u8, mask: Option<u16>) -> Option<(u32, u32)> {
         let size = self.handle.picture_size(address, mask.unwrap_or(NO_ID));
@@ -409,6 +416,11 @@ mod tests {
         let picture = terminal.picture(0x80, None).unwrap().expect("a picture");
         assert!(picture.starts_with("<svg ") && picture.contains(r#"data-id="100""#));
         assert_eq!(terminal.picture(0x80, Some(1000)), Ok(Some(picture)));
+        let part = terminal.part(0x80, 100).unwrap().expect("a container");
+        assert!(part.contains(r#"width="50" height="20""#));
+        assert!(part.contains(r#"data-id="100" x="0" y="0""#));
+        assert_eq!(terminal.part(0x80, 101), Ok(None));
+        assert_eq!(terminal.part(0x81, 100), Ok(None));
         let elements = terminal.elements().unwrap();
         let places: Vec<_> = elements.iter().map(|e| (e.id, e.kind, e.x, e.y)).collect();
         assert_eq!(places, [(100, 3, 10, 5)]);

@@ -7,7 +7,6 @@ use Rattle.std.specs.FinMap as finite
 use Rattle.vt_kinds.specs.declared.entries.Child.{Child}
 use Rattle.vt_kinds.specs.Records.{Seen}
 use Rattle.vt_stores.specs.Stores.{ObjectMap}
-use Rattle.vt_shown.specs.ShownElements.{soft_keys}
 use Rattle.vt_needs.specs.declared.sizes.Sizes.{Sizes}
 use Rattle.std.specs.List.{flat_map}
 use Rattle.vt_svg.specs.declared.attribute.Attribute.{Attribute}
@@ -22,7 +21,7 @@ use Rattle.vt_picture.specs.declared.frame.Frame.{Frame}
 use Rattle.vt_picture.specs.declared.frame.Frame.TheVariants as frames
 use Rattle.vt_picture.specs.declared.walk.Tag.{Tag}
 use Rattle.vt_picture.specs.declared.walk.Tag.TheVariants.{Open, Close}
-use Rattle.vt_picture.specs.Documents.{IsPicture, background, beginning, gap, key_marks, keys_area, mask_and_keys, mask_area, mask_marks, mask_tags, picture_attributes, pictures, with_area}
+use Rattle.vt_picture.specs.Documents.{IsPicture, background, beginning, gap, key_marks, keys_area, mask_and_keys, mask_area, mask_marks, mask_tags, picture_attributes, picture_size, pictures, with_area}
 use Rattle.vt_picture.specs.Frames.{frame_of}
 use Rattle.vt_picture.specs.Marks.{Marks, Nothing, Mark, spots}
 use Rattle.vt_picture.specs.Pictures.{element_opening, most_bytes, element_attributes, with_tag, with_tags}
@@ -108,10 +107,10 @@ pub picture_closed : (sizes : Sizes) (store : ObjectMap) (mask : ℕ) (text : Li
     → (nodes : Nodes) × (text ≡ text_of nodes)
     × (spots_in (pos 0) (pos 0) nodes ≡ spots (pos 0) (pos 0) (mask_marks store mask) ++ spots (pos (sizes.mask.width + gap)) (pos 0) (key_marks sizes store mask))
 picture_closed sizes store mask text is =
-    let keys = length (soft_keys store mask) in
+    let size = picture_size sizes store mask in
     let paint = background (finite.get store mask) in
-    let first = opened elements.Svg (picture_attributes sizes keys) in
-    let start = beginning sizes keys paint in
+    let first = opened elements.Svg (picture_attributes size) in
+    let start = beginning size sizes.mask.width paint in
     let with_mask = with_area sizes store (mask_area sizes) (mask_tags store mask) start in
     let with_keys = mask_and_keys sizes store mask in
     let in_mask : ℤ → ℤ → List (ℕ × ℤ × ℤ) = λ x y. spots (x +ℤ left_of (mask_area sizes)) (y +ℤ top_of (mask_area sizes)) (mask_marks store mask) in
@@ -120,7 +119,7 @@ picture_closed sizes store mask text is =
     (one_more in_mask (λ x y. in_keys x y ++ []) start with_mask is.all (area_after sizes store (mask_area sizes) (mask_marks store mask) start refl)
     (one_more in_keys nowhere with_mask with_keys is.all (area_after sizes store (keys_area sizes) (key_marks sizes store mask) with_mask refl)
     (images_after store (pictures sizes store mask) with_keys is.all is.images))) in
-    let whole = around elements.Svg (picture_attributes sizes keys) (λ x y. nowhere x y ++ (in_mask x y ++ (in_keys x y ++ []))) [] is.all text inside is.whole in
+    let whole = around elements.Svg (picture_attributes size) (λ x y. nowhere x y ++ (in_mask x y ++ (in_keys x y ++ []))) [] is.all text inside is.whole in
     let of_mask = spots (pos 0) (pos 0) (mask_marks store mask) in
     let of_keys = spots (pos (sizes.mask.width + gap)) (pos 0) (key_marks sizes store mask) in
     let keys_left : pos 0 +ℤ pos (sizes.mask.width + gap) ≡ pos (sizes.mask.width + gap) = +ℤ_idl (pos (sizes.mask.width + gap)) in (

@@ -69,16 +69,17 @@ background (Some (objects.DataMask o)) = paints.Colour o.colour
 background (Some (objects.AlarmMask o)) = paints.Colour o.colour
 background _ = paints.None
 
-abbrev pub picture_attributes : Sizes → ℕ → List Attribute
-picture_attributes sizes keys =
-    attributes.Flag flags.NameSpace ∷ attributes.Width (width_of sizes keys) ∷ attributes.Height sizes.mask.height
-    ∷ attributes.Coordinates (width_of sizes keys) sizes.mask.height ∷ attributes.Flag flags.Font ∷ []
+-- what the tag of a picture of a width and a height says
+abbrev pub picture_attributes : ℕ × ℕ → List Attribute
+picture_attributes size =
+    attributes.Flag flags.NameSpace ∷ attributes.Width size.0 ∷ attributes.Height size.1 ∷ attributes.Coordinates size.0 size.1
+    ∷ attributes.Flag flags.Font ∷ []
 
--- the tag of a picture, and the background of its mask
-abbrev pub beginning : Sizes → ℕ → Paint → List ℕ
-beginning sizes keys paint =
-    opened elements.Svg (picture_attributes sizes keys)
-    ++ emptied elements.Rect (attributes.Width sizes.mask.width ∷ attributes.Height sizes.mask.height ∷ attributes.Fill paint ∷ [])
+-- the tag of a picture of a width and a height, and a background as high as the picture, at its left edge
+abbrev pub beginning : ℕ × ℕ → ℕ → Paint → List ℕ
+beginning size wide paint =
+    opened elements.Svg (picture_attributes size)
+    ++ emptied elements.Rect (attributes.Width wide ∷ attributes.Height size.1 ∷ attributes.Fill paint ∷ [])
 
 -- a text with elements within an area after it
 abbrev pub with_area : Sizes → ObjectMap → List Attribute → List Tag → List ℕ → List ℕ
@@ -109,14 +110,18 @@ abbrev pub mask_and_keys : Sizes → ObjectMap → ℕ → List ℕ
 mask_and_keys sizes store mask =
     with_area sizes store (keys_area sizes) (key_tags sizes store mask)
     (with_area sizes store (mask_area sizes) (mask_tags store mask)
-    (beginning sizes (length (soft_keys store mask)) (background (finite.get store mask))))
+    (beginning (picture_size sizes store mask) sizes.mask.width (background (finite.get store mask))))
 
 -- the pictures that are shown, each once
 abbrev pub pictures : Sizes → ObjectMap → ℕ → List ℕ
 pictures sizes store mask = with_pictures store (with_pictures store [] (mask_tags store mask)) (key_tags sizes store mask)
 
--- the mask and its keys, and the pictures to which their elements refer
-pub record IsPicture (sizes : Sizes) (store : ObjectMap) (mask : ℕ) (text : List ℕ) : Type 0 where
+-- A text goes on after what is drawn of a picture: with the images of these Picture objects, and then its end.
+pub record IsEnded (store : ObjectMap) (pictures drawn text : List ℕ) : Type 0 where
   pub all : List ℕ
-  pub images : AppendsImages store (pictures sizes store mask) (mask_and_keys sizes store mask) all
+  pub images : AppendsImages store pictures drawn all
   pub whole : text ≡ all ++ closed elements.Svg
+
+-- the mask and its keys, and the pictures to which their elements refer
+abbrev pub IsPicture : Sizes → ObjectMap → ℕ → List ℕ → Type 0
+IsPicture sizes store mask text = IsEnded store (pictures sizes store mask) (mask_and_keys sizes store mask) text

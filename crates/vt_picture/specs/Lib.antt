@@ -4,5 +4,6 @@ pub mod Frames
 pub mod Listings
 pub mod Marks
 pub mod NearPlaces
+pub mod Parts
 pub mod Pictures
 pub mod Tags

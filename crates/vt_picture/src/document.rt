@@ -26,7 +26,7 @@ use vt_svg::{Attribute, Element, Flag, Paint, close, empty, open};
 pub(crate) const MOST_INCLUSIONS: u8 = TERMINAL_LIMITS.inclusions;
 
 /// The most elements of a picture.
-const MOST_ELEMENTS: u16 = 2000;
+pub(crate) const MOST_ELEMENTS: u16 = 2000;
 
 /// The pixels between a mask and its keys, and between keys.
 pub(crate) const GAP: u64 = 8;
@@ -51,17 +51,31 @@ pub fn draw<S: Store>(
     let keys = soft_keys(store, mask);
     let places = key_places(alloc, sizes, keys)?;
     let in_mask = walk_mask(alloc, store, mask)?;
-    let in_keys = walk_keys(alloc, store, places.as_slice(), in_mask.left)?;
+    let in_keys = walk_all(alloc, store, places.as_slice(), in_mask.left)?;
     let mut text = Vec::new(alloc);
-    begin_picture(&mut text, sizes, keys.len(), background(store, mask))?;
+    let size = picture_size(store, sizes, mask);
+    let wide = u32::from(sizes.mask.width);
+    begin_picture(&mut text, size, wide, background(store, mask))?;
     draw_mask(&mut text, store, sizes, in_mask.tags.as_slice())?;
     draw_keys(&mut text, store, sizes, in_keys.tags.as_slice())?;
     let mut pictures = Vec::new(alloc);
     add_pictures(&mut pictures, store, in_mask.tags.as_slice())?;
     add_pictures(&mut pictures, store, in_keys.tags.as_slice())?;
-    draw_images(alloc, &mut text, store, pictures.as_slice())?;
-    close(&mut text, Element::Svg)?;
+    end_picture(alloc, &mut text, store, pictures.as_slice())?;
     Ok(text)
+}
+
+/// Appends the Picture objects to which the elements of a picture refer, and the end of the picture.
+pub(crate) fn end_picture<S: Store>(
+    alloc: Global,
+    text: &mut Vec<u8>,
+    store: &S,
+    pictures: &[ObjectId],
+) -> Result<(), AllocError>
+    ensures { OnOk result (documents.IsEnded (S.contents store.now) pictures.now text.old.items text.new.items) }
+{
+    draw_images(alloc, text, store, pictures)?;
+    close(text, Element::Svg)
 }
 
 /// Walks through the elements within a mask.
@@ -87,20 +101,20 @@ fn walk_inside<S: Store>(store: &S, mask: ObjectId, walk: &mut Walk) -> Result<(
     }
 }
 
-/// Walks through keys and the elements within them, of which some still fit.
-fn walk_keys<S: Store>(
+/// Walks through the elements of entries, of which some still fit.
+pub(crate) fn walk_all<S: Store>(
     alloc: Global,
     store: &S,
-    places: &[Child],
+    entries: &[Child],
     left: u16,
 ) -> Result<Walk, AllocError>
-    ensures { IfOk result (λ walk. walk.tags.items ≡ tags_of (cut left (marks terminal.inclusions (S.contents store.now) places.now))) }
+    ensures { IfOk result (λ walk. walk.tags.items ≡ tags_of (cut left (marks terminal.inclusions (S.contents store.now) entries.now))) }
 {
     let mut walk = Walk {
         tags: Vec::new(alloc),
         left,
     };
-    walk_entries(store, MOST_INCLUSIONS, places, &mut walk)?;
+    walk_entries(store, MOST_INCLUSIONS, entries, &mut walk)?;
     Ok(walk)
 }
 
@@ -183,25 +197,33 @@ fn background<S: Store>(store: &S, mask: ObjectId) -> Paint
     ensures { result ≡ documents.background (finite.get (S.contents store.now) mask) }
 {
     match store.get(mask) {
-        Some(Object::WorkingSet(o)) => Paint::Colour(o.colour),
-        Some(Object::DataMask(o)) => Paint::Colour(o.colour),
-        Some(Object::AlarmMask(o)) => Paint::Colour(o.colour),
+        Some(object) => background_of(object),
+        None => Paint::None,
+    }
+}
+
+/// The background of an object: that of a Working Set or a mask.
+pub(crate) fn background_of(object: &Object<Vec<u8>>) -> Paint
+    ensures { result ≡ documents.background (Some (seen object.now)) }
+{
+    match object {
+        Object::WorkingSet(o) => Paint::Colour(o.colour),
+        Object::DataMask(o) => Paint::Colour(o.colour),
+        Object::AlarmMask(o) => Paint::Colour(o.colour),
         _ => Paint::None,
     }
 }
 
-/// Appends the beginning of a picture: its tag, and the background of its mask.
-fn begin_picture(
+/// Appends the beginning of a picture of a size: its tag, and a background as high as the picture, at its left edge.
+pub(crate) fn begin_picture(
     text: &mut Vec<u8>,
-    sizes: Sizes,
-    keys: usize,
+    size: (u32, u32),
+    wide: u32,
     background: Paint,
 ) -> Result<(), AllocError>
-    requires { keys ≤ 65535 }
-    ensures { OnOk result (text.new.items ≡ text.old.items ++ documents.beginning sizes keys background) }
+    ensures { OnOk result (text.new.items ≡ text.old.items ++ documents.beginning size wide background) }
 {
-    let width = width_of(sizes, keys);
-    let height = u32::from(sizes.mask.height);
+    let (width, height) = size;
     open(
         text,
         Element::Svg,
@@ -217,7 +239,7 @@ fn begin_picture(
         text,
         Element::Rect,
         &[
-            Attribute::Width(u32::from(sizes.mask.width)),
+            Attribute::Width(wide),
             Attribute::Height(height),
             Attribute::Fill(background),
         ],

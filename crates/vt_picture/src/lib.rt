@@ -2,6 +2,7 @@
 //!
 //! - `draw` returns the picture of a mask with its soft keys: each element in its area, with its own shapes and the elements
 //!   within it. `picture_size` tells how large it is.
+//! - `draw_part` returns the picture of one object by itself, in the same form.
 //! - `list_elements` lists the same elements with their places, and `touched` finds the one at a place.
 //!
 //! The laws about the definitions are in the crate vt_picture_laws. docs/PROFILE.md, "Pictures", says how each kind looks.
@@ -11,10 +12,12 @@ mod document;
 mod elements;
 mod frame;
 mod listing;
+mod part;
 mod walk;
 
 pub use document::{draw, picture_size};
 pub use listing::{Bounds, Element, Position, list_elements, touched};
+pub use part::draw_part;
 
 /// A refused allocation.
 pub use std::alloc::AllocError as OutOfMemory;

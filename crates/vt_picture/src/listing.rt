@@ -159,7 +159,7 @@ fn less(a: i32, b: i32) -> i32
 }
 
 /// The width of a frame.
-fn width_in(frame: Frame) -> u32
+pub(crate) fn width_in(frame: Frame) -> u32
     ensures { result ≡ listings.width_in frame }
 {
     match frame {
@@ -170,7 +170,7 @@ fn width_in(frame: Frame) -> u32
 }
 
 /// The height of a frame.
-fn height_in(frame: Frame) -> u32
+pub(crate) fn height_in(frame: Frame) -> u32
     ensures { result ≡ listings.height_in frame }
 {
     match frame {

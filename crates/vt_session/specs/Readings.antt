@@ -16,6 +16,7 @@ use Rattle.vt_needs.specs.declared.sizes.Sizes.{Sizes}
 use Rattle.vt_picture.specs.declared.listing.Element.{Element}
 use Rattle.vt_picture.specs.Documents.{IsPicture, picture_size}
 use Rattle.vt_picture.specs.Listings.{elements_of, touched}
+use Rattle.vt_picture.specs.Parts.{IsPart}
 use Rattle.vt_server.specs.shown.Screens.{redraws}
 use Rattle.vt_server.specs.Terminals.{State, pool_at, pool_of}
 use Rattle.vt_session.specs.declared.session.Session.{Session}
@@ -110,6 +111,22 @@ IsPictureIn (Some set) profile mask text = IsPicture (sizes_of profile) set.obje
 abbrev pub Pictures : Session → ℕ → ℕ → Session → ℕ → Type 0
 Pictures before address mask after count =
     Writes (IsPictureIn (pool_by (state before) address) (state before).profile mask) before after count
+
+-- the ID of an object, where the number is one
+abbrev pub id_in : ℕ → Option ℕ
+id_in number = if nat_lt number null_id then Some number else None
+
+abbrev pub IsPartBy : Sizes → ObjectMap → Option ℕ → List ℕ → Type 0
+IsPartBy sizes store None text = text ≡ []
+IsPartBy sizes store (Some id) text = IsPart sizes store id text
+
+-- the picture of an object of a set by itself; nothing where there is no set with a pool or no such object
+abbrev pub IsPartIn : Option SetState → Profile → ℕ → List ℕ → Type 0
+IsPartIn None profile id text = text ≡ []
+IsPartIn (Some set) profile id text = IsPartBy (sizes_of profile) set.objects (id_in id) text
+
+abbrev pub Parts : Session → ℕ → ℕ → Session → ℕ → Type 0
+Parts before address id after count = Writes (IsPartIn (pool_by (state before) address) (state before).profile id) before after count
 
 abbrev pub size_number : ℕ × ℕ → ℕ
 size_number size = size.1 * 2 ^ 32 + size.0

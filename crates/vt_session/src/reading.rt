@@ -8,7 +8,7 @@ ghost use Rattle.byteorder.specs.Endian.{little_bytes};
 ghost use Rattle.vt_kinds.specs.Ids.{null_id};
 ghost use Rattle.vt_server.specs.States.{state_of};
 ghost use Rattle.vt_server.specs.Terminals.{pool_at};
-ghost use Rattle.vt_session.specs.Readings.{IsPictureIn, Lists, ListsElements, Pictures, TellsActive, TellsPool, TellsSize, TellsTouched, WritesObject, active_of, element_bytes, elements_shown, four_ids, head_bytes, mask_in, numbers_of, pool_by, record_in, set_bytes, size_in, sizes_of, touched_of};
+ghost use Rattle.vt_session.specs.Readings.{IsPartIn, IsPictureIn, Lists, ListsElements, Parts, Pictures, TellsActive, TellsPool, TellsSize, TellsTouched, WritesObject, active_of, element_bytes, elements_shown, four_ids, head_bytes, mask_in, numbers_of, pool_by, record_in, set_bytes, size_in, sizes_of, touched_of};
 
 use crate::session::Session;
 use std::alloc::{AllocError, Global};
@@ -17,7 +17,7 @@ use vt_names::Set;
 use vt_needs::{Area, Sizes};
 use vt_node::Profile;
 use vt_objects::{ObjectId, SortedStore};
-use vt_picture::{Element, draw, list_elements, picture_size, touched};
+use vt_picture::{Element, draw, draw_part, list_elements, picture_size, touched};
 use vt_server::Terminal;
 use vt_writing::write_object;
 
@@ -178,6 +178,33 @@ fn picture_at(
         sizes_of(terminal.profile()),
         mask_in(live, mask),
     )
+}
+
+/// Draws an object of the set at an address by itself as SVG. Without such an object the text is empty.
+pub fn part(session: &mut Session, address: u32, id: u32) -> u64
+    ensures { Parts session.old address id session.new result }
+{
+    session.text.clear();
+    let alloc = *session.text.allocator();
+    match part_at(alloc, &session.terminal, address, id) {
+        Ok(text) => {
+            session.text = text;
+            session.text.len() as u64
+        }
+        Err(_) => u64::MAX,
+    }
+}
+
+fn part_at(alloc: Global, terminal: &Terminal, address: u32, id: u32) -> Result<Vec<u8>, AllocError>
+    ensures { IfOk result (λ text. IsPartIn (pool_by (state_of terminal.now) address) (state_of terminal.now).profile id text.items) }
+{
+    let Some(live) = pool_at(terminal, address) else {
+        return Ok(Vec::new(alloc));
+    };
+    let Some(id) = object_id(id) else {
+        return Ok(Vec::new(alloc));
+    };
+    draw_part(alloc, live.store(), sizes_of(terminal.profile()), id)
 }
 
 /// The size of the picture of a mask, chosen as for `picture`: its width, and its height times 2^32. It is 0 without a set that has a pool.

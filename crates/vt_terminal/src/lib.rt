@@ -12,7 +12,7 @@ ghost use Rattle.vt_session.specs.contracts.session.Session.{the_row};
 ghost use Rattle.vt_session.specs.Calls.{Acts, Claims, Draws, Hears, Nexts, TellsCount, TellsData, TellsDeadline, TellsId, TellsLooks, TellsLost, TellsRedraws, TellsShown, SendsStatus, TellsWord, Texts, Ticks};
 ghost use Rattle.vt_session.specs.Dialogs.{TellsRaw, WritesLimits, WritesValue};
 ghost use Rattle.vt_session.specs.Preloads.{Preloads};
-ghost use Rattle.vt_session.specs.Readings.{Lists, ListsElements, Pictures, TellsActive, TellsPool, TellsSize, TellsTouched, WritesObject};
+ghost use Rattle.vt_session.specs.Readings.{Lists, ListsElements, Parts, Pictures, TellsActive, TellsPool, TellsSize, TellsTouched, WritesObject};
 ghost use Rattle.vt_session.specs.Sessions.{Begins};
 
 use std::alloc::Global;
@@ -309,6 +309,17 @@ pub unsafe extern "C" fn vt_text_of_picture(at: *mut VtTerminal, address: u32, m
     ensures* { ∃ₛ (λ (after : Session). sem 𝓛 (lies_at the_row full_share at after) ∗ ⌜ Pictures before address mask after result ⌝) }
 {
     reading::picture(unsafe { &mut *(at as *mut Session) }, address, mask)
+}
+
+/// Draws an object of the set at an address by itself as SVG in the terminal's text, and returns the number of its bytes, or 2^64 - 1 if
+/// memory was refused.
+#[unsafe(no_mangle)]
+pub unsafe extern "C" fn vt_text_of_part(at: *mut VtTerminal, address: u32, id: u32) -> u64
+    ghost before: { Session }
+    requires* { sem 𝓛 (lies_at the_row full_share at before) }
+    ensures* { ∃ₛ (λ (after : Session). sem 𝓛 (lies_at the_row full_share at after) ∗ ⌜ Parts before address id after result ⌝) }
+{
+    reading::part(unsafe { &mut *(at as *mut Session) }, address, id)
 }
 
 /// The size of the picture that `vt_text_of_picture` draws: its width in pixels, and its height times 2^32. 0 without a set that has a
