@@ -477,6 +477,17 @@ public:
         return is ? std::optional<std::uint32_t>(raw) : std::nullopt;
     }
 
+    // ---- words
+
+    // What a frame says in words, for a log window, as `80 to 26: Hide/Show Object: Container 100, hide`. The objects are named as the
+    // terminal has them now: tell a frame before it is heard, or when it comes as an output. Empty for an identifier above 1FFFFFFF or
+    // more than 8 bytes. None if the library was refused memory; the string itself may throw std::bad_alloc.
+    [[nodiscard]] std::optional<std::string> words(const Frame &frame)
+    {
+        const std::uint64_t count = at_ ? vt_words(at_, frame.id, frame.bytes.data(), frame.count, nullptr, 0) : 0;
+        return count == UINT64_MAX ? std::nullopt : std::optional(written<std::string>(count));
+    }
+
     // ---- what a host asks
 
     // The address of the shown working set, if one is shown.

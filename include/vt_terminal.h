@@ -56,6 +56,19 @@ static inline void vt_write_word(uint8_t *at, uint64_t word)
     at[7] = (uint8_t)(word >> 56);
 }
 
+/* The first bytes of some data as a number, at most eight, the first lowest. */
+static inline uint64_t vt_bits_of(const uint8_t *data, size_t count)
+{
+    uint64_t bits = 0;
+    if (count == 8) {
+        return vt_word_of(data);
+    }
+    for (size_t i = 0; i < count && i < 8; i++) {
+        bits |= (uint64_t)data[i] << 8 * i;
+    }
+    return bits;
+}
+
 /* The results of calls that can be refused. After all but VT_DONE the terminal is unchanged but for the text written last, with one
  * exception: after VT_NO_MEMORY of vt_act or vt_text the time may have moved on, as by vt_tick, and outputs of that may wait. */
 enum vt_result {
@@ -145,14 +158,7 @@ enum vt_result vt_hear_bits(struct vt_terminal *at, uint64_t time, uint32_t id, 
  * 1FFFFFFF or more bytes. */
 VT_INLINE enum vt_result vt_hear(struct vt_terminal *at, uint64_t time, uint32_t id, const uint8_t *data, size_t count)
 {
-    uint64_t bits = 0;
-    if (count == 8) {
-        return vt_hear_bits(at, time, id, 8, vt_word_of(data));
-    }
-    for (size_t i = 0; i < count && i < 8; i++) {
-        bits |= (uint64_t)data[i] << 8 * i;
-    }
-    return vt_hear_bits(at, time, id, count > 8 ? 9 : (uint32_t)count, bits);
+    return vt_hear_bits(at, time, id, count > 8 ? 9 : (uint32_t)count, vt_bits_of(data, count));
 }
 
 /* The time alone: sessions time out, and silent sets are closed. Call it at vt_deadline, or some times a second. */
@@ -538,6 +544,19 @@ VT_INLINE enum vt_result vt_raw(const struct vt_terminal *at, uint32_t address, 
     }
     *raw = (uint32_t)found;
     return VT_DONE;
+}
+
+/* ---- words */
+
+/* The call behind vt_words: the data bytes are in `bits`, the first lowest. */
+uint64_t vt_text_of_words(struct vt_terminal *at, uint32_t id, uint32_t count, uint64_t bits);
+
+/* What a frame says in words, for a log window, as `80 to 26: Hide/Show Object: Container 100, hide`: in ASCII, on one line without its end.
+ * The objects are named as the terminal has them now, so tell a frame before it is heard, or once it is taken as an output. Returns the
+ * number of bytes, 0 for an identifier above 1FFFFFFF or more than eight bytes. Outputs may wait. */
+VT_INLINE uint64_t vt_words(struct vt_terminal *at, uint32_t id, const uint8_t *data, size_t count, uint8_t *buf, size_t room)
+{
+    return vt_written(at, vt_text_of_words(at, id, count > 8 ? 9 : (uint32_t)count, vt_bits_of(data, count)), buf, room);
 }
 
 /* ---- what a host asks */

@@ -36,6 +36,7 @@ from c.shared import test_shared
 from c.stacks import test_stacks
 from c.symbols import test_symbols
 from c.times import test_times
+from c.words import test_words
 
 
 def test_all(tests, folder, cases):
@@ -56,6 +57,7 @@ def test_all(tests, folder, cases):
     test_other_languages(tests, folder)
     test_shared(tests, folder)
     test_dialogs(tests)
+    test_words(tests, programs)
 
 
 def main():

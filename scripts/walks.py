@@ -42,11 +42,13 @@ LENDING = [
     ("vt_text_of_limits", "dialog::limits", "WritesLimits", ["u32", "u32"], "u64"),
     ("vt_text_of_value", "dialog::value_text", "WritesValue", ["u32", "u32"], "u64"),
     ("vt_raw_of", "dialog::raw", "TellsRaw", ["u32", "u32", "u32", "u64", "u32"], "u64"),
+    ("vt_text_of_words", "words::words", "WritesWords", ["u32", "u32", "u64"], "u64"),
 ]
 
 # The relations of a module other than Calls.
 READINGS = ["Lists", "TellsActive", "TellsPool", "WritesObject", "Pictures", "Parts", "TellsSize", "ListsElements", "TellsTouched"]
 DIALOGS = ["WritesLimits", "WritesValue", "TellsRaw"]
+WORDS = ["WritesWords"]
 
 # Exports with one or two numbers and a slice of bytes: the export, the function, its relation, the module of the relation, the slice in it,
 # and the types of the numbers.
@@ -73,7 +75,8 @@ def part(name, index):
 
 def module_of(relation):
     """The module of definitions that has a relation."""
-    return "Readings" if relation in READINGS else "Dialogs" if relation in DIALOGS else "Calls"
+    modules = [("Readings", READINGS), ("Dialogs", DIALOGS), ("Words", WORDS)]
+    return next((name for name, relations in modules if relation in relations), "Calls")
 
 
 def lending(export, callee, relation, args, result):

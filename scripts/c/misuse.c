@@ -105,6 +105,8 @@ static void write_lists(struct vt_terminal *vt, const char *state)
         struct vt_set *sets = rooms[k] == 0 ? NULL : malloc(rooms[k] * sizeof *sets);
         struct vt_element *elements = rooms[k] == 0 ? NULL : malloc(rooms[k] * sizeof *elements);
         check(vt_screen(vt, buf, rooms[k]) > 0, state, "vt_screen");
+        check(vt_words(vt, 0x14E72680, NULL, 0, buf, rooms[k]) > 0, state, "vt_words");
+        check(vt_words(vt, 0x20000000, NULL, 0, buf, rooms[k]) == 0, state, "vt_words of no frame");
         check(vt_sets(vt, sets, rooms[k]) <= 254, state, "vt_sets");
         check((vt_elements(vt, elements, rooms[k]) > 0) == (vt_shown(vt) != 254), state, "vt_elements");
         free(buf);

@@ -18,6 +18,7 @@ LIVE = ['live.c', 'bus.c', *HOST]
 STATE = ['state.c', 'files.c', *HOST]
 PAIR = [f'{ROOT}/scripts/c/pair.c', 'files.c', *HOST]
 LOOKS = [f'{ROOT}/scripts/c/looks.c', 'files.c', *HOST]
+WORDS = [f'{ROOT}/scripts/c/words.c', 'files.c', *HOST]
 
 
 def compiled(folder, name, sources, *flags, compiler='gcc', library=LIBRARY, libraries=()):
@@ -51,6 +52,8 @@ class Programs:
             'state-sanitized': ([*STATE, 'heap.c'], ['-O1', *SANITIZERS]),
             'looks': ([*LOOKS, 'heap.c'], ['-O2']),
             'looks-sanitized': ([*LOOKS, 'heap.c'], ['-O1', *SANITIZERS]),
+            'words': ([*WORDS, 'heap.c'], ['-O2']),
+            'words-sanitized': ([*WORDS, 'heap.c'], ['-O1', *SANITIZERS]),
             'looks-by-redraws': ([*LOOKS, 'heap.c'], ['-O2', '-DBY_REDRAWS']),
             'misuse': ([f'{ROOT}/scripts/c/misuse.c', 'files.c', 'heap.c'], ['-O1', *SANITIZERS]),
             'misuse-short': ([f'{ROOT}/scripts/c/misuse.c', 'files.c', 'heap.c'], ['-O1', '-g', '-DFRAMES=10000']),

@@ -58,6 +58,12 @@ static void readings(void)
     result = vt_text_of_part(vt, shown, 1000) + vt_text_of_object(vt, shown, 1000) + vt_ids_of_active(vt, shown) + vt_id_at(vt, 1, 1);
 }
 
+/* Tells a frame of the log in words. */
+static void words(void)
+{
+    result = vt_words(vt, line.frame.id, line.frame.data, line.frame.count, NULL, 0);
+}
+
 static void tick(void)
 {
     result = vt_tick(vt, vt_deadline(vt));
@@ -115,6 +121,7 @@ struct depths {
     size_t act;
     size_t screen;
     size_t readings;
+    size_t words;
 };
 
 /* Takes a line of the log, and keeps the greatest depths. */
@@ -122,6 +129,7 @@ static void take_line(struct span text, struct depths *most)
 {
     line = read_line(text);
     if (line.kind == LINE_FRAME) {
+        keep_most(&most->words, depth_of(words));
         keep_most(&most->hear, depth_of(hear));
     } else if (line.kind == LINE_OPERATOR) {
         keep_most(&most->act, depth_of(act));
@@ -143,12 +151,12 @@ static void take_line(struct span text, struct depths *most)
 static void take_log(FILE *log)
 {
     static char text[8192];
-    struct depths most = {0, 0, depth_of(screen), depth_of(readings)};
+    struct depths most = {0, 0, depth_of(screen), depth_of(readings), 0};
     while (fgets(text, sizeof text, log) != NULL) {
         struct span span = {text, strcspn(text, "\n")};
         take_line(span, &most);
     }
-    printf("hear %zu\nact %zu\nscreen %zu\nreadings %zu\n", most.hear, most.act, most.screen, most.readings);
+    printf("hear %zu\nact %zu\nscreen %zu\nreadings %zu\nwords %zu\n", most.hear, most.act, most.screen, most.readings, most.words);
 }
 
 static bool read_pool(const char *path, const char *address)
@@ -163,12 +171,12 @@ static bool read_pool(const char *path, const char *address)
     return true;
 }
 
-int main(int count, char **words)
+int main(int count, char **arguments)
 {
-    FILE *log = count >= 2 ? fopen(words[1], "r") : NULL;
+    FILE *log = count >= 2 ? fopen(arguments[1], "r") : NULL;
     stack = mmap(NULL, STACK, PROT_READ | PROT_WRITE, MAP_PRIVATE | MAP_ANONYMOUS, -1, 0);
     vt = aligned_alloc(16, (vt_size() + 15) & ~(size_t)15);
-    if (log == NULL || stack == MAP_FAILED || vt == NULL || (count == 4 && !read_pool(words[2], words[3]))) {
+    if (log == NULL || stack == MAP_FAILED || vt == NULL || (count == 4 && !read_pool(arguments[2], arguments[3]))) {
         return 2;
     }
     printf("init %zu\n", depth_of(init));

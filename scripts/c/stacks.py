@@ -3,8 +3,8 @@ from c.logs import deep_log, deep_pool, timeouts_log, upload_log
 from c.programs import EXAMPLES, run
 from c.results import expect, read
 
-# The most bytes of the stack: of making, preloading and ending a terminal, of what a display reads, and of an input.
-STACKS = {'init': 16384, 'preload': 16384, 'done': 16384, 'screen': 16384, 'readings': 16384, 'hear': 98304, 'act': 98304, 'tick': 98304}
+# The most bytes of the stack: of making, preloading and ending a terminal, of what a display or a log window reads, and of an input.
+STACKS = {'init': 16384, 'preload': 16384, 'done': 16384, 'screen': 16384, 'readings': 16384, 'words': 16384, 'hear': 98304, 'act': 98304, 'tick': 98304}
 
 
 def measure(program, folder, text, pool=None):

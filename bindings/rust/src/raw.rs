@@ -88,6 +88,7 @@ extern "C" {
         digits: u64,
         decimals: u32,
     ) -> u64;
+    fn vt_text_of_words(at: *mut VtTerminal, id: u32, count: u32, bits: u64) -> u64;
     fn vt_shown(at: *mut VtTerminal) -> u32;
     fn vt_lost(at: *mut VtTerminal) -> u32;
     fn vt_deadline(at: *mut VtTerminal) -> u64;
@@ -321,6 +322,12 @@ impl Handle {
     pub(crate) fn value_text(&mut self, address: u8, id: u16) -> u64 {
         // SAFETY: `at` is a terminal, lent alone.
         unsafe { vt_text_of_value(self.at.as_ptr(), u32::from(address), u32::from(id)) }
+    }
+
+    /// Writes what a frame says in words and returns the number of bytes, or `u64::MAX`.
+    pub(crate) fn words(&mut self, id: u32, count: u32, bits: u64) -> u64 {
+        // SAFETY: `at` is a terminal, lent alone.
+        unsafe { vt_text_of_words(self.at.as_ptr(), id, count, bits) }
     }
 
     /// The raw value of a typed number, or `u64::MAX`.

@@ -249,6 +249,17 @@ impl Terminal {
         u32::try_from(raw).ok()
     }
 
+    // ---- words
+
+    /// What a frame says in words, for a log window, as `80 to 26: Hide/Show Object: Container 100, hide`. The objects are named as
+    /// the terminal has them now: tell a frame before it is heard, or when it comes as an output. The only error is
+    /// [`Error::OutOfMemory`].
+    pub fn words(&mut self, frame: &Frame) -> Result<String, Error> {
+        let count = frame.data().len() as u32;
+        let count = self.handle.words(frame.id(), count, frame.bits());
+        self.written(count).map(text_of)
+    }
+
     // ---- what a host asks
 
     /// The address of the shown working set, if one is shown.
@@ -429,6 +440,26 @@ mod tests {
         // A container is nothing to touch.
         assert_eq!(terminal.touch(20, 10), Ok(None));
         assert_eq!(terminal.touch(-1, 10), Ok(None));
+    }
+
+    #[test]
+    fn frames_are_told_in_words() {
+        let mut terminal = terminal();
+        let hide = Frame::new(0x14E7_2680, &[0xA0, 100, 0, 0, 0xFF, 0xFF, 0xFF, 0xFF]).unwrap();
+        let words = "80 to 26: Hide/Show Object: object 100, hide";
+        assert_eq!(terminal.words(&hide).unwrap(), words);
+        terminal.preload(0x80, &pool()).unwrap();
+        let words = "80 to 26: Hide/Show Object: Container 100, hide";
+        assert_eq!(terminal.words(&hide).unwrap(), words);
+        match all(terminal.hear(1, &hide))[..] {
+            [Output::Frame(answer)] => assert_eq!(
+                terminal.words(&answer).unwrap(),
+                "26 to 80: Hide/Show Object: done"
+            ),
+            ref other => panic!("{other:?}"),
+        }
+        let empty = Frame::new(0x18FF_FF80, &[]).unwrap();
+        assert!(terminal.words(&empty).unwrap().starts_with("80 to all: "));
     }
 
     #[test]

@@ -11,8 +11,8 @@ use vt_can::assigned::{
 use vt_commands_text::Objects;
 use vt_findings_text::Names;
 use vt_frames_text::{
-    ClaimSentence, EtpControl, GroupRequest, HexBytes, MasterSentence, MemberSentence, Packet,
-    ParameterGroup, TpControl,
+    ClaimSentence, Destination, EtpControl, GroupRequest, HexByte, HexBytes, MasterSentence,
+    MemberSentence, Packet, ParameterGroup, TpControl,
 };
 use vt_server::Terminal;
 
@@ -57,6 +57,19 @@ impl fmt::Display for Sentence<'_> {
                 write!(f, "{message}")
             }
         }
+    }
+}
+
+/// A sentence behind the addresses of its frame, as `80 to 26: End of Object Pool`.
+#[derive(Clone, Copy, Drop)]
+pub struct AddressedSentence<'a>(pub Sentence<'a>);
+
+impl fmt::Display for AddressedSentence<'_> {
+    fn fmt<W: fmt::Write>(&self, f: &mut fmt::Formatter<W>) -> fmt::Result {
+        let id = self.0.frame.id;
+        let source = HexByte(id.source());
+        let destination = Destination(id.destination());
+        write!(f, "{source} to {destination}: {}", self.0)
     }
 }
 

@@ -8,3 +8,4 @@ pub mod Preloads
 pub mod Readings
 pub mod Sessions
 pub mod Statuses
+pub mod Words

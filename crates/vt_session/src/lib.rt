@@ -7,6 +7,7 @@
 //! - `screen`: the screen's text, and what a host asks of the terminal.
 //! - `reading`: what a display reads: the working sets, their objects and their pictures.
 //! - `dialog`: what a dialog for an input reads: its limits, its text, and the raw value of a typed number.
+//! - `words`: what a frame says in words.
 //! - `status`: what the calls return.
 //!
 //! After a call that returns another status than `DONE` the terminal is unchanged.
@@ -19,5 +20,6 @@ pub mod reading;
 pub mod screen;
 pub mod session;
 pub mod status;
+pub mod words;
 
 pub use session::Session;

@@ -284,7 +284,7 @@ pub(crate) fn closed(session: &Session) -> Option<u32>
 }
 
 /// A frame with an identifier and the first bytes of a number.
-fn frame_input(time: u64, id: u32, count: u32, bits: u64) -> Option<Input<'static>>
+pub(crate) fn frame_input(time: u64, id: u32, count: u32, bits: u64) -> Option<Input<'static>>
     ensures { result ≡ frame_input time id count bits }
 {
     if count > 8 {

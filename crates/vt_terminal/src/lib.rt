@@ -14,10 +14,11 @@ ghost use Rattle.vt_session.specs.Dialogs.{TellsRaw, WritesLimits, WritesValue};
 ghost use Rattle.vt_session.specs.Preloads.{Preloads};
 ghost use Rattle.vt_session.specs.Readings.{Lists, ListsElements, Parts, Pictures, TellsActive, TellsPool, TellsSize, TellsTouched, WritesObject};
 ghost use Rattle.vt_session.specs.Sessions.{Begins};
+ghost use Rattle.vt_session.specs.Words.{WritesWords};
 
 use std::alloc::Global;
 use vt_session::session::Session;
-use vt_session::{dialog, outputs, preload, reading, screen, session};
+use vt_session::{dialog, outputs, preload, reading, screen, session, words};
 
 /// A terminal behind a pointer.
 #[repr(C)]
@@ -399,6 +400,22 @@ pub unsafe extern "C" fn vt_raw_of(
         digits,
         decimals,
     )
+}
+
+/// Writes what a frame says in words as the terminal's text, and returns the number of its bytes, or 2^64 - 1 if memory was refused. `bits`
+/// has the data bytes, the first lowest. Without such a frame the text is empty.
+#[unsafe(no_mangle)]
+pub unsafe extern "C" fn vt_text_of_words(
+    at: *mut VtTerminal,
+    id: u32,
+    count: u32,
+    bits: u64,
+) -> u64
+    ghost before: { Session }
+    requires* { sem 𝓛 (lies_at the_row full_share at before) }
+    ensures* { ∃ₛ (λ (after : Session). sem 𝓛 (lies_at the_row full_share at after) ∗ ⌜ WritesWords before id count bits after result ⌝) }
+{
+    words::words(unsafe { &mut *(at as *mut Session) }, id, count, bits)
 }
 
 /// Enters a text of the operator into an object at a time in microseconds, and returns a status.

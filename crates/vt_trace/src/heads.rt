@@ -9,9 +9,9 @@ use std::alloc::AllocError;
 use std::fmt::{self, Write};
 use vt_can::{Action, Skipped};
 use vt_findings_text::Names;
-use vt_frames_text::{Destination, HexByte, QuotedText};
+use vt_frames_text::QuotedText;
 use vt_listen::SentMessage;
-use vt_messages_text::{MessageSentence, Sentence};
+use vt_messages_text::{AddressedSentence, MessageSentence, Sentence};
 use vt_objects::{ObjectId, push_number};
 
 /// The microseconds of a second.
@@ -61,19 +61,6 @@ impl fmt::Display for FrameHead<'_> {
             names: sentence.names,
         };
         write!(f, ", whole message: {message}")
-    }
-}
-
-/// A sentence behind the addresses of its frame, as `80 to 26: End of Object Pool`.
-#[derive(Clone, Copy, Drop)]
-pub(crate) struct AddressedSentence<'a>(pub(crate) Sentence<'a>);
-
-impl fmt::Display for AddressedSentence<'_> {
-    fn fmt<W: fmt::Write>(&self, f: &mut fmt::Formatter<W>) -> fmt::Result {
-        let id = self.0.frame.id;
-        let source = HexByte(id.source());
-        let destination = Destination(id.destination());
-        write!(f, "{source} to {destination}: {}", self.0)
     }
 }
 

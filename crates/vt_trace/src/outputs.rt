@@ -4,14 +4,13 @@ ghost use Rattle.std.specs.Prelude.{OnOk};
 ghost use Rattle.vt_trace.specs.Lines.{Gains};
 ghost use Rattle.vt_trace.specs.Traces.{AreOutputLines, IsOutputLine};
 
-use crate::heads::AddressedSentence;
 use crate::lines::put_line;
 use std::alloc::AllocError;
 use std::fmt::Write;
 use vt_can::write_frame;
 use vt_findings_text::Names;
 use vt_logs::refusal_name;
-use vt_messages_text::Sentence;
+use vt_messages_text::{AddressedSentence, Sentence};
 use vt_server::{Output, Terminal};
 
 /// Appends the lines of a terminal's outputs, in their order. `words` is a buffer.
