@@ -137,8 +137,60 @@ inline const char *name_of(Refusal refusal) noexcept
     return "";
 }
 
-// An output: a frame to send on the bus, or a refusal to show to the operator.
-using Output = std::variant<Frame, Refusal>;
+// What an event tells (docs/EMBEDDING.md, "Events").
+enum class EventKind : std::uint32_t {
+    set_came = 1,      // A set registered.
+    set_silent = 2,    // A set fell silent; it is closed and its pool is gone.
+    set_closed = 3,    // A set is closed because another NAME holds its address; its pool is gone.
+    pool_accepted = 4, // The first pool of a set is accepted.
+    pool_updated = 5,  // An update of a set's pool is accepted.
+    pool_faulty = 6,   // An upload is refused for a record: `first` is the number of the fault, `second` its offset in the upload.
+    pool_refused = 7,  // An upload is refused by a rule: low(first) is its number, high(first) the offset of a command in its macro,
+                       // low(second) the object, high(second) the one to which it refers; 65535 for none.
+    pool_deleted = 8,  // The implement deleted its pool.
+    uploaded = 9,      // Another 1,024 bytes of an upload have come: `first` so far, `second` so far and announced.
+    text_aborted = 10, // A message to the implement, as a text of the operator, did not reach it as a whole.
+    shown = 11,        // Another mask is shown: `first` is the mask, `second` its soft key mask; the address is 254 if no set is shown.
+    alarm = 12,        // An alarm mask is shown: `first` is the mask, low(second) its priority, high(second) its acoustic signal.
+    alarm_over = 13,   // No alarm mask is shown any more; the address is that of the last one.
+    signal = 14,       // Control Audio: low(first) is how often, high(first) Hz; low(second) and high(second) are ms on and off.
+    volume = 15,       // Set Audio Volume: `first` is the percent.
+    address_lost = 16, // Another node took the terminal's address, which the event tells; nothing is sent any more.
+};
+
+// Something that happened, with the address of its working set and two numbers, 0 where the kind has none.
+struct Event {
+    EventKind kind = EventKind::set_came;
+    std::uint8_t address = 0;
+    std::uint32_t first = 0;
+    std::uint32_t second = 0;
+};
+
+// Two events are equal if they tell the same.
+inline bool operator==(const Event &left, const Event &right) noexcept
+{
+    return left.kind == right.kind && left.address == right.address && left.first == right.first && left.second == right.second;
+}
+
+inline bool operator!=(const Event &left, const Event &right) noexcept
+{
+    return !(left == right);
+}
+
+// The halves of a number of an event.
+constexpr std::uint16_t low(std::uint32_t number) noexcept
+{
+    return static_cast<std::uint16_t>(number & 0xFFFFu);
+}
+
+constexpr std::uint16_t high(std::uint32_t number) noexcept
+{
+    return static_cast<std::uint16_t>(number >> 16);
+}
+
+// An output: a frame to send on the bus, a refusal to show to the operator, or an event. The events of an input come behind its frames and
+// refusals.
+using Output = std::variant<Frame, Refusal, Event>;
 
 // The result of an input with its outputs, in the order in which they are to be sent.
 struct [[nodiscard]] Reply {
@@ -609,6 +661,10 @@ private:
     {
         if (out.kind == VT_REFUSED) {
             return static_cast<Refusal>(out.id);
+        }
+        if (out.kind == VT_EVENT) {
+            const vt_event event = vt_event_of(&out);
+            return Event{static_cast<EventKind>(event.kind), static_cast<std::uint8_t>(event.address), event.first, event.second};
         }
         Frame frame;
         frame.id = out.id;

@@ -207,6 +207,7 @@ enum vt_output {
     VT_NONE = 0,
     VT_FRAME = 1,
     VT_REFUSED = 2,
+    VT_EVENT = 3,
     VT_OUTPUT_BITS = 0x7FFFFFFF /* none of the kinds: it makes the type 32 bits wide */
 };
 
@@ -223,20 +224,56 @@ enum vt_refusal {
     VT_NO_SET = 9
 };
 
+/* What an event tells (docs/EMBEDDING.md, "Events"). Each is about the working set at an address, but for VT_SHOWN and VT_ADDRESS_LOST. Its two
+ * numbers are 0 where nothing else is said; VT_LOW and VT_HIGH are the halves of one. */
+enum vt_event_kind {
+    VT_SET_CAME = 1,       /* a set registered (vt_sets has its NAME) */
+    VT_SET_SILENT = 2,     /* a set fell silent; it is closed and its pool is gone */
+    VT_SET_CLOSED = 3,     /* a set is closed because another NAME holds its address; its pool is gone */
+    VT_POOL_ACCEPTED = 4,  /* the first pool of a set is accepted */
+    VT_POOL_UPDATED = 5,   /* an update of a set's pool is accepted */
+    VT_POOL_FAULTY = 6,    /* an upload is refused for a record: first the number of the fault, second its offset in the upload */
+    VT_POOL_REFUSED = 7,   /* an upload is refused by a rule: VT_LOW(first) its number, VT_HIGH(first) the offset of a command in its macro;
+                            * VT_LOW(second) the object, VT_HIGH(second) the one to which it refers, each VT_NO_ID where there is none */
+    VT_POOL_DELETED = 8,   /* the implement deleted its pool */
+    VT_UPLOADED = 9,       /* another 1,024 bytes of an upload have come: first the bytes so far, second those so far and announced */
+    VT_TEXT_ABORTED = 10,  /* a message to the implement, as a text of the operator, did not reach it as a whole */
+    VT_SHOWN = 11,         /* another mask is shown: the address of its set, 254 for none; first the mask, second its soft key mask */
+    VT_ALARM = 12,         /* an alarm mask is shown: first the mask, VT_LOW(second) its priority, VT_HIGH(second) its acoustic signal */
+    VT_ALARM_OVER = 13,    /* no alarm mask is shown any more; the address is that of the last one */
+    VT_SIGNAL = 14,        /* Control Audio: VT_LOW(first) how often, VT_HIGH(first) Hz; VT_LOW(second) on, VT_HIGH(second) off, in ms */
+    VT_VOLUME = 15,        /* Set Audio Volume: first the percent */
+    VT_ADDRESS_LOST = 16,  /* another node took the terminal's address, which it tells; nothing is sent any more */
+    VT_EVENT_BITS = 0x7FFFFFFF /* none of the events: it makes the type 32 bits wide */
+};
+
+/* The halves of a number of 32 bits. */
+#define VT_LOW(number) ((uint32_t)(number) & 0xFFFFu)
+#define VT_HIGH(number) ((uint32_t)(number) >> 16)
+
 /* The calls behind vt_take. vt_next takes the next output and returns its kind. The others tell of the output taken last: the identifier of
- * the frame, or the number of the refusal; the number of data bytes; the data bytes, the first lowest. All are 0 after VT_NONE, and after an input, a claim or a status until the next
- * output is taken. */
+ * the frame, the number of the refusal, or the kind of the event; the number of data bytes, or the address of the event; the data bytes, the
+ * first lowest, or the numbers of the event. All are 0 after VT_NONE, and after an input, a claim or a status until the next output is
+ * taken. */
 enum vt_output vt_next(struct vt_terminal *at);
 uint32_t vt_output_id(const struct vt_terminal *at);
 uint32_t vt_output_count(const struct vt_terminal *at);
 uint64_t vt_output_data(const struct vt_terminal *at);
 
-/* An output: a frame to send, or a refusal to show to the operator. */
+/* An output: a frame to send, a refusal to show to the operator, or an event. The events of an input come behind its frames and refusals. */
 struct vt_out {
     enum vt_output kind;
-    uint32_t id;     /* the identifier of a frame; an enum vt_refusal */
-    uint32_t count;  /* the number of data bytes of a frame */
-    uint8_t data[8]; /* the data bytes, and 0 for each past the count */
+    uint32_t id;     /* the identifier of a frame; an enum vt_refusal; an enum vt_event_kind */
+    uint32_t count;  /* the number of data bytes of a frame; the address of an event */
+    uint8_t data[8]; /* the data bytes, and 0 for each past the count; the numbers of an event */
+};
+
+/* An event. */
+struct vt_event {
+    enum vt_event_kind kind;
+    uint32_t address;
+    uint32_t first;
+    uint32_t second;
 };
 
 /* Takes the next output, and returns its kind. Inputs, claims, statuses and preloads are refused with VT_WAITING until it has returned
@@ -248,6 +285,14 @@ VT_INLINE enum vt_output vt_take(struct vt_terminal *at, struct vt_out *out)
     out->count = vt_output_count(at);
     vt_write_word(out->data, vt_output_data(at));
     return out->kind;
+}
+
+/* The event that vt_take gave with VT_EVENT. */
+VT_INLINE struct vt_event vt_event_of(const struct vt_out *out)
+{
+    uint64_t numbers = vt_word_of(out->data);
+    struct vt_event event = {(enum vt_event_kind)out->id, out->count, (uint32_t)numbers, (uint32_t)(numbers >> 32)};
+    return event;
 }
 
 /* ---- texts */

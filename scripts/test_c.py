@@ -20,6 +20,7 @@ sys.dont_write_bytecode = True
 
 from c.dialogs import test_dialogs
 from c.display import test_display
+from c.events import test_events
 from c.generated import test_generated
 from c.languages import test_other_languages
 from c.live import test_live
@@ -45,6 +46,7 @@ def test_all(tests, folder, cases):
     test_times(tests, programs)
     test_replays(tests, programs, cases)
     test_generated(tests, programs)
+    test_events(tests, programs)
     test_readings(tests, programs)
     test_parts(tests, programs)
     test_repaints(tests, programs)

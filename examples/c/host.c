@@ -140,6 +140,15 @@ const char *host_refusal(const struct vt_out *out)
     return names[out->id - 1];
 }
 
+void print_event(const struct vt_out *out, FILE *file)
+{
+    static const char *const names[] = {"SetCame",    "SetSilent",   "SetClosed", "PoolAccepted", "PoolUpdated", "PoolFaulty",
+                                        "PoolRefused", "PoolDeleted", "Uploaded",  "TextAborted",  "Shown",       "Alarm",
+                                        "AlarmOver",  "Signal",      "Volume",    "AddressLost"};
+    struct vt_event event = vt_event_of(out);
+    fprintf(file, "%s %02X %u %u\n", names[event.kind - 1], (unsigned)event.address, (unsigned)event.first, (unsigned)event.second);
+}
+
 void print_frame(const struct vt_out *out, FILE *file)
 {
     fprintf(file, "%08X#", (unsigned)out->id);

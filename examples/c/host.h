@@ -40,6 +40,9 @@ enum vt_result host_status(struct host *host);
 /* The number and the name of a refusal. */
 const char *host_refusal(const struct vt_out *out);
 
+/* Prints an event as `KIND AA FIRST SECOND` and a newline: its name, the address in hex, and its two numbers. */
+void print_event(const struct vt_out *out, FILE *file);
+
 /* Draws the screen, and tells whether its text is another than the one drawn before. */
 enum draw host_draw(struct host *host);
 

@@ -76,7 +76,7 @@ static void take_outputs(struct live *live)
     while (vt_take(live->host.vt, &out) != VT_NONE) {
         if (out.kind == VT_REFUSED) {
             fprintf(live->people, "operator %s\n", host_refusal(&out));
-        } else {
+        } else if (out.kind == VT_FRAME) {
             send_frame(live, &out);
         }
     }

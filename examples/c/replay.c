@@ -1,9 +1,10 @@
 /* Replays a log to a terminal, and prints what the terminal answers and shows.
  *
- *     replay LOG [--own AA] [--name N] [--pool FILE --owner AA]
+ *     replay LOG [--own AA] [--name N] [--pool FILE --owner AA] [--events]
  *
  * It prints what vt_replay prints for the same words (docs/PROFILE.md, "The program"), without the line of a pool's fault or refusal,
- * and has its statuses: 0 done, 1 a fault, 2 the words.
+ * and has its statuses: 0 done, 1 a fault, 2 the words. With --events it also prints the events of each line, behind its
+ * outputs: `event 4 SetCame 80 0 0`, the line's number, the kind, the address in hex and the two numbers.
  */
 #define _GNU_SOURCE
 #include "files.h"
@@ -25,6 +26,7 @@ struct words {
     const char *name;
     const char *pool;
     const char *owner;
+    bool events;
 };
 
 struct options {
@@ -33,6 +35,7 @@ struct options {
     uint32_t own;
     uint32_t owner;
     uint64_t name;
+    bool events;
 };
 
 struct counts {
@@ -52,7 +55,7 @@ static int fault(const char *about, const char *what)
 
 static int bad_words(const char *what)
 {
-    fprintf(stderr, "replay: %s\nusage: replay LOG [--own AA] [--name N] [--pool FILE --owner AA]\n", what);
+    fprintf(stderr, "replay: %s\nusage: replay LOG [--own AA] [--name N] [--pool FILE --owner AA] [--events]\n", what);
     return STATUS_WORDS;
 }
 
@@ -112,6 +115,8 @@ static bool read_words(struct words *words, int count, char **all)
                 return false;
             }
             words->log = all[at];
+        } else if (strcmp(all[at], "--events") == 0) {
+            words->events = true;
         } else if (!read_option(words, count, all, &at)) {
             return false;
         }
@@ -128,7 +133,7 @@ static struct span span_of(const char *text)
 /* Reads the values of the options. Returns null, or what is wrong. */
 static const char *read_values(const struct words *words, struct options *options)
 {
-    struct options standard = {words->log, words->pool, 0x26, 0, 0x20001D0000000001};
+    struct options standard = {words->log, words->pool, 0x26, 0, 0x20001D0000000001, words->events};
     *options = standard;
     if (words->own != NULL && !read_address(span_of(words->own), 0xFD, &options->own)) {
         return "--own takes two hex digits up to FD";
@@ -155,18 +160,22 @@ struct replay {
     struct counts counts;
     char pending[LONGEST]; /* the bytes of a line whose newline is still to come */
     size_t pending_count;
+    bool events;       /* whether events are printed */
     const char *fault; /* what ended the replay early, or null */
 };
 
-/* Prints the outputs of the last input. */
-static void print_outputs(struct host *host)
+/* Prints the outputs of the last input, and its events with the number of the line, if they are asked for. */
+static void print_outputs(struct replay *replay)
 {
     struct vt_out out;
-    while (vt_take(host->vt, &out) != VT_NONE) {
+    while (vt_take(replay->host.vt, &out) != VT_NONE) {
         if (out.kind == VT_REFUSED) {
             printf("operator %s\n", host_refusal(&out));
-        } else {
+        } else if (out.kind == VT_FRAME) {
             print_frame(&out, stdout);
+        } else if (replay->events) {
+            printf("event %" PRIu64 " ", replay->counts.lines);
+            print_event(&out, stdout);
         }
     }
 }
@@ -191,7 +200,7 @@ static bool end_input(struct replay *replay, enum vt_result result)
         replay->fault = result == VT_NO_MEMORY ? "the memory for an input was refused" : "an input was refused";
         return false;
     }
-    print_outputs(&replay->host);
+    print_outputs(replay);
     return !vt_redraws(replay->host.vt) || print_screen(replay);
 }
 
@@ -330,7 +339,7 @@ static int replay_on(struct replay *replay, const struct options *options)
 
 int main(int count, char **all)
 {
-    struct words words = {NULL, NULL, NULL, NULL, NULL};
+    struct words words = {NULL, NULL, NULL, NULL, NULL, false};
     struct options options;
     if (!read_words(&words, count, all)) {
         return bad_words("the words are not understood");
@@ -343,6 +352,7 @@ int main(int count, char **all)
     if (!host_begin(&replay.host, options.own, options.name)) {
         return fault("the terminal", "its memory was refused");
     }
+    replay.events = options.events;
     int status = replay_on(&replay, &options);
     host_end(&replay.host);
     return status;

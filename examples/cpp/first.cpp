@@ -64,8 +64,8 @@ bool print(const Reply &reply)
                 std::printf("%02X", static_cast<unsigned>(frame->bytes[k]));
             }
             std::printf("\n");
-        } else {
-            std::printf("operator %s\n", segyolant::name_of(std::get<segyolant::Refusal>(output)));
+        } else if (const auto *refusal = std::get_if<segyolant::Refusal>(&output)) {
+            std::printf("operator %s\n", segyolant::name_of(*refusal));
         }
     }
     return true;

@@ -65,7 +65,7 @@ static void print_outputs(struct host *host)
     while (vt_take(host->vt, &out) != VT_NONE) {
         if (out.kind == VT_REFUSED) {
             printf("operator %s\n", host_refusal(&out));
-        } else {
+        } else if (out.kind == VT_FRAME) {
             print_frame(&out, stdout);
         }
     }

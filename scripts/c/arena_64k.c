@@ -14,6 +14,9 @@ static void print_outputs(void)
 {
     struct vt_out out;
     while (vt_take(vt, &out) != VT_NONE) {
+        if (out.kind != VT_FRAME) {
+            continue;
+        }
         printf("  %08X#", (unsigned)out.id);
         for (uint32_t i = 0; i < out.count; i++) {
             printf("%02X", out.data[i]);

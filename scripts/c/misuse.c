@@ -60,7 +60,7 @@ static void end(struct vt_terminal *vt)
     free(vt);
 }
 
-/* Takes all outputs, and returns their number. */
+/* Takes all outputs, and returns the number of those that are no events. */
 static unsigned take(struct vt_terminal *vt)
 {
     struct vt_out out;
@@ -68,8 +68,10 @@ static unsigned take(struct vt_terminal *vt)
 
     while (vt_take(vt, &out) != VT_NONE) {
         bool is_frame = out.kind == VT_FRAME && out.id <= 0x1FFFFFFF && out.count <= 8;
-        check(is_frame || (out.kind == VT_REFUSED && out.id >= VT_NOT_SHOWN && out.id <= VT_NO_SET), "outputs", "an output is no output");
-        count++;
+        bool is_refusal = out.kind == VT_REFUSED && out.id >= VT_NOT_SHOWN && out.id <= VT_NO_SET;
+        bool is_event = out.kind == VT_EVENT && out.id >= VT_SET_CAME && out.id <= VT_ADDRESS_LOST && out.count <= 255;
+        check(is_frame || is_refusal || is_event, "outputs", "an output is no output");
+        count += !is_event;
     }
     return count;
 }

@@ -31,7 +31,7 @@ static void print_outputs(struct host *host, FILE *file)
     while (vt_take(host->vt, &out) != VT_NONE) {
         if (out.kind == VT_REFUSED) {
             fprintf(file, "operator %s\n", host_refusal(&out));
-        } else {
+        } else if (out.kind == VT_FRAME) {
             print_frame(&out, file);
         }
     }

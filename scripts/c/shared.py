@@ -24,7 +24,7 @@ def check_shared():
     made(MAKER)
     exported = {line.split()[-1] for line in made(['nm', '-D', '--defined-only', SHARED]).splitlines()}
     texts = [re.sub(r'/\*.*?\*/', '', read(f'{HEADERS}/{name}').decode(), flags=re.S) for name in ('vt_terminal.h', 'vt_check.h')]
-    declared = set(re.findall(r'^(?:VT_INLINE )?(?:size_t|void|enum vt_result|enum vt_output|uint32_t|uint64_t) (vt_\w+)\(', '\n'.join(texts), re.M))
+    declared = set(re.findall(r'^(?:VT_INLINE )?(?:size_t|void|enum vt_result|enum vt_output|uint32_t|uint64_t|struct vt_event) (vt_\w+)\(', '\n'.join(texts), re.M))
     expect(exported == declared, f'only exported: {sorted(exported - declared)}, only declared: {sorted(declared - exported)}')
     dynamic = made(['readelf', '-d', SHARED])
     expect(re.findall(r'NEEDED.*\[(.*)\]', dynamic) == ['libc.so.6'] and 'TEXTREL' not in dynamic, dynamic)

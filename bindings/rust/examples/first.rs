@@ -22,6 +22,7 @@ fn print(outputs: Outputs<'_>) {
         match output {
             Output::Frame(frame) => println!("{frame}"),
             Output::Refused(refusal) => println!("operator: {refusal}"),
+            Output::Event(_) => {}
         }
     }
 }

@@ -15,6 +15,7 @@
 //!     match output {
 //!         Output::Frame(frame) => assert_eq!(frame.to_string(), "18EEFF26#01000000001D0020"),
 //!         Output::Refused(refusal) => println!("not possible: {refusal}"),
+//!         Output::Event(event) => println!("{event:?}"),
 //!     }
 //! }
 //! assert_eq!(terminal.screen()?, "screen none\n");
@@ -34,6 +35,7 @@
 
 mod element;
 mod error;
+mod event;
 mod frame;
 mod limits;
 mod output;
@@ -45,6 +47,7 @@ mod terminal;
 
 pub use element::{Bounds, Element};
 pub use error::Error;
+pub use event::Event;
 pub use frame::Frame;
 pub use limits::Limits;
 pub use output::{Output, Outputs, Refusal};

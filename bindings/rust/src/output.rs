@@ -1,5 +1,5 @@
 use crate::raw::{Handle, Taken};
-use crate::Frame;
+use crate::{Event, Frame};
 use std::fmt;
 use std::iter::FusedIterator;
 
@@ -10,6 +10,8 @@ pub enum Output {
     Frame(Frame),
     /// A refusal to show to the operator.
     Refused(Refusal),
+    /// Something that happened. The events of an input come behind its frames and refusals.
+    Event(Event),
 }
 
 /// Why an action of the operator was refused (docs/PROFILE.md, "Refusals"). Such an action changed nothing and sent nothing.
@@ -78,7 +80,8 @@ impl fmt::Display for Refusal {
     }
 }
 
-/// The outputs of one input, at most 1,024, or 2,048 of an action at a time, in the order in which they are to be sent. It allocates nothing.
+/// The outputs of one input, at most 1,024 frames and refusals, or 2,048 of an action at a time, in the order in which they are to be sent, and
+/// then its events. It allocates nothing.
 ///
 /// Those that are not taken are lost with it.
 #[must_use = "the frames are to be sent, and those not taken are lost"]
@@ -100,6 +103,16 @@ impl Iterator for Outputs<'_> {
         self.handle.next().map(|taken| match taken {
             Taken::Frame { id, count, bits } => Output::Frame(Frame::sent(id, count, bits)),
             Taken::Refused(number) => Output::Refused(Refusal::of_number(number)),
+            Taken::Event {
+                kind,
+                address,
+                numbers,
+            } => Output::Event(Event::of_numbers(
+                kind,
+                address as u8,
+                numbers as u32,
+                (numbers >> 32) as u32,
+            )),
         })
     }
 }

@@ -26,6 +26,7 @@ pub(crate) enum Action {
 pub(crate) enum Taken {
     Frame { id: u32, count: u32, bits: u64 },
     Refused(u32),
+    Event { kind: u32, address: u32, numbers: u64 },
 }
 
 #[repr(C)]
@@ -225,7 +226,12 @@ impl Handle {
                     count: vt_output_count(at),
                     bits: vt_output_data(at),
                 }),
-                _ => Some(Taken::Refused(vt_output_id(at))),
+                2 => Some(Taken::Refused(vt_output_id(at))),
+                _ => Some(Taken::Event {
+                    kind: vt_output_id(at),
+                    address: vt_output_count(at),
+                    numbers: vt_output_data(at),
+                }),
             }
         }
     }

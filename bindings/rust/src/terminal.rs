@@ -342,7 +342,7 @@ fn text_of(bytes: Vec<u8>) -> String {
 #[cfg(test)]
 mod tests {
     use super::*;
-    use crate::{Output, Refusal};
+    use crate::{Event, Output, Refusal};
 
     const NAME: u64 = 0x2000_1D00_0000_0001;
 
@@ -355,8 +355,18 @@ mod tests {
         Terminal::new(0x26, NAME).expect("a terminal")
     }
 
+    /// The frames and refusals.
     fn all(outputs: Result<Outputs<'_>, Error>) -> Vec<Output> {
-        outputs.expect("memory").collect()
+        let sent = |output: &Output| !matches!(output, Output::Event(_));
+        outputs.expect("memory").filter(sent).collect()
+    }
+
+    fn events(outputs: Result<Outputs<'_>, Error>) -> Vec<Event> {
+        let told = |output| match output {
+            Output::Event(event) => Some(event),
+            _ => None,
+        };
+        outputs.expect("memory").filter_map(told).collect()
     }
 
     #[test]
@@ -491,6 +501,46 @@ mod tests {
         assert_eq!(all(terminal.tick(3_000_501)).len(), 1);
         assert_eq!(terminal.shown(), None);
         assert_eq!(terminal.deadline(), None);
+    }
+
+    #[test]
+    fn events_are_told() {
+        let mut terminal = terminal();
+        terminal.preload(0x80, &pool()).unwrap();
+        assert_eq!(events(terminal.tick(500)), []);
+        let nothing = Event::Shown {
+            address: None,
+            mask: None,
+            soft_keys: None,
+        };
+        assert_eq!(
+            events(terminal.tick(3_000_501)),
+            [Event::SetSilent { address: 0x80 }, nothing]
+        );
+        let claim = Frame::new(0x18EE_FF80, &[2; 8]).unwrap();
+        let master = Frame::new(0x1CFE_0D80, &[1; 8]).unwrap();
+        assert_eq!(events(terminal.hear(3_000_600, &claim)), []);
+        assert_eq!(
+            events(terminal.hear(3_000_700, &master)),
+            [Event::SetCame { address: 0x80 }]
+        );
+        let end = Frame::new(0x14E7_2680, &[0x12, 0xFF, 0xFF, 0xFF, 0xFF, 0xFF, 0xFF, 0xFF]).unwrap();
+        assert_eq!(
+            events(terminal.hear(3_000_800, &end)),
+            [Event::PoolRefused {
+                address: 0x80,
+                rule: 1,
+                at: 0,
+                object: None,
+                other: None,
+            }]
+        );
+        let lower = Frame::new(0x18EE_FF26, &[0; 8]).unwrap();
+        assert_eq!(
+            events(terminal.hear(3_000_900, &lower)),
+            [Event::AddressLost { address: 0x26 }]
+        );
+        assert_eq!(events(terminal.hear(4_000_900, &lower)), []);
     }
 
     #[test]

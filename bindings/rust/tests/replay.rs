@@ -77,6 +77,7 @@ fn replay(log: &str, terminal: &mut Terminal) -> String {
                 Output::Refused(refusal) => {
                     writeln!(text, "operator {} {refusal:?}", refusal.number()).unwrap()
                 }
+                Output::Event(_) => {}
             }
         }
         let new = terminal.screen().expect("memory");

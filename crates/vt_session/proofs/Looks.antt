@@ -7,7 +7,7 @@ use Rattle.vt_can.specs.frames.Frame.{source_of}
 use Rattle.vt_machine.specs.SetStates.{SetState}
 use Rattle.vt_stores.specs.Stores.{ObjectMap}
 use Rattle.vt_server.specs.declared.input.Input.{Input}
-use Rattle.vt_server.specs.declared.input.Input.TheVariants.{Frame}
+use Rattle.vt_server.specs.declared.input.Input.TheVariants.{Frame, Operator}
 use Rattle.vt_server.specs.declared.output.Output.{Output}
 use Rattle.vt_server.specs.Judgements.{AreEventsOf}
 use Rattle.vt_server.specs.frame.Deadlines.{echo}
@@ -17,7 +17,8 @@ use Rattle.vt_server.specs.Steps.{JudgedInput, FrameAt, ActionAt, after_all, ste
 use Rattle.vt_server.specs.Terminals.{State, pool_at, pool_of}
 use Rattle.vt_laws.specs.RunsOfSteps.{OthersKeepObjects, objects_in}
 use Rattle.vt_laws.specs.Ticks.{ProfilesAreKept}
-use Rattle.vt_session.specs.Looks.{IsFrameFrom, IsUntouched, KeepsPicture, objects_shown}
+use Rattle.vt_session.specs.Inputs.{frame_of}
+use Rattle.vt_session.specs.Looks.{IsUntouched, KeepsPicture, objects_shown}
 
 -- ---- the objects of the shown set
 
@@ -79,23 +80,13 @@ picture_kept law profiles old new time frame source before after from taken unto
 
 -- ---- what is noted
 
--- the source of an echo
-pub echoed : (own : ℕ) → own < 2 ^ 8 → source_of (echo own) ≡ own
-echoed own fits = omega (arith, fits)
-
--- a list of one input
-only : (input : Input) (rest inputs : List Input) → inputs ≡ input ∷ rest → length inputs ≡ 1 → inputs ≡ input ∷ []
-only input [] inputs is one = is
-only input (other ∷ rest) inputs is one =
-    let two : length (input ∷ (other ∷ rest)) ≡ 1 = sym (ap (λ (l : List Input). length l) is) ∙ one in
-    absurd (omega (arith, two))
-
 -- an input that was noted to leave the picture
-pub by_note : OthersKeepObjects → ProfilesAreKept → (old new : State) (inputs : List Input) (was source : Option ℕ) (before after : List Output)
-    → was ≡ old.shown → IfSome source (λ s. IsFrameFrom s inputs) → length inputs ≡ 1 → TakesInputs old inputs new before after
+pub by_note : OthersKeepObjects → ProfilesAreKept → (old new : State) (input : Input) (was source : Option ℕ) (before after : List Output)
+    → was ≡ old.shown → source ≡ option_map source_of (frame_of input) → TakesInputs old (input ∷ []) new before after
     → IsSomeAnd source (λ s. IsUntouched was new s) → KeepsPicture old new
-by_note law profiles old new inputs was None before after is first one taken noted = absurd noted
-by_note law profiles old new inputs was (Some source) before after is first one taken noted =
-    picture_kept law profiles old new first.time first.frame source before after first.from
-    (subst (λ (given : List Input). TakesInputs old given new before after) (only (Frame first.time first.frame) first.rest inputs first.first one) taken)
+by_note law profiles old new input was None before after is from taken noted = absurd noted
+by_note law profiles old new (Operator action) was (Some source) before after is from taken noted = absurd cc
+by_note law profiles old new (Frame time frame) was (Some source) before after is from taken noted =
+    let source_is : source_of frame ≡ source = cc in
+    picture_kept law profiles old new time frame source before after source_is taken
     (subst (λ (shown : Option ℕ). IsUntouched shown new source) is noted)

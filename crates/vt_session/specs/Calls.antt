@@ -4,13 +4,12 @@ use Rattle.std.specs.Prelude.{◌≡◌, ◌⊎◌, ℕ, ◌-◌, ◌^◌, Bool,
 use Rattle.vt_can.specs.Assigned.{NULL_ADDRESS}
 use Rattle.vt_can.specs.transport.FirstTimes.{IsFirstTime}
 use Rattle.vt_node.specs.Messages.{claim_from}
-use Rattle.vt_server.specs.declared.output.Output.{Output}
 use Rattle.vt_server.specs.frame.Deadlines.{IsDue}
 use Rattle.vt_server.specs.shown.Screens.{IsScreenOf, redraws}
 use Rattle.vt_server.specs.shown.ShownSet.{display, status_frame}
 use Rattle.vt_session.specs.declared.session.Session.{Session}
 use Rattle.vt_session.specs.Inputs.{action_input, frame_input, text_input, tick_input}
-use Rattle.vt_session.specs.Outputs.{kind_of, id_of, count_of, data_of, word_at}
+use Rattle.vt_session.specs.Outputs.{Item, kind_of, id_of, count_of, data_of, word_at}
 use Rattle.vt_session.specs.Sessions.{Answers, AnswersWhen, SendsBy, Stays, closed, latest, state, waiting}
 
 -- ---- inputs
@@ -37,10 +36,10 @@ SendsStatus before after status = SendsBy (closed before) before (status_frame (
 
 -- ---- outputs
 
--- The next output is taken, if one waits.
-abbrev pub NextsBy : List Output → Session → Session → ℕ → Type 0
+-- The next output or event is taken, if one waits.
+abbrev pub NextsBy : List Item → Session → Session → ℕ → Type 0
 NextsBy [] before after kind = (kind ≡ 0) × ((waiting after ≡ []) × (latest after ≡ None))
-NextsBy (output ∷ rest) before after kind = (kind ≡ kind_of output) × ((waiting after ≡ rest) × (latest after ≡ Some output))
+NextsBy (item ∷ rest) before after kind = (kind ≡ kind_of item) × ((waiting after ≡ rest) × (latest after ≡ Some item))
 
 pub record Nexts (before after : Session) (kind : ℕ) : Type 0 where
   pub taken : NextsBy (waiting before) before after kind

@@ -2,6 +2,7 @@
 use Rattle.std.specs.Prelude.{ℕ, ◌==◌, ◌&&◌, ◌^◌, nat_le, nat_lt, if◌then◌else◌, List, [], ◌∷◌, take, Option, Some, None}
 use Rattle.std.specs.Borrow.{Bor}
 use Rattle.byteorder.specs.Endian.{little_bytes}
+use Rattle.vt_can.specs.declared.frames.frame.Frame.{Frame as CanFrame}
 use Rattle.vt_can.specs.declared.lines.line.Action.{Action}
 use Rattle.vt_can.specs.declared.lines.line.Action.TheVariants.{Press, Release, Select, Number, Text, Set}
 use Rattle.vt_server.specs.declared.input.Input.{Input}
@@ -48,3 +49,13 @@ action_input kind id number = operator_input (if nat_lt id (2 ^ 16) then action_
 -- a text for the object of an ID of 16 bits
 abbrev pub text_input : ℕ → Bor (List ℕ) → Option Input
 text_input id text = operator_input (if nat_lt id (2 ^ 16) then Some (Text id text) else None)
+
+-- ---- the moment of an input
+
+abbrev pub time_of : Input → Option ℕ
+time_of (Frame time frame) = Some time
+time_of (Operator action) = None
+
+abbrev pub frame_of : Input → Option CanFrame
+frame_of (Frame time frame) = Some frame
+frame_of (Operator action) = None

@@ -1,11 +1,7 @@
 -- Whether the picture of a terminal may have changed (docs/EMBEDDING.md, "When to paint").
 use Rattle.std.specs.Option.{option_map}
 use Rattle.std.specs.Prelude.{◌≡◌, ◌≢◌, ◌⊎◌, ℕ, ◌+◌, ◌%◌, ◌^◌, true, List, ◌∷◌, Option, is_some, IfSome}
-use Rattle.vt_can.specs.declared.frames.frame.Frame.{Frame as CanFrame}
-use Rattle.vt_can.specs.frames.Frame.{source_of}
 use Rattle.vt_stores.specs.Stores.{ObjectMap}
-use Rattle.vt_server.specs.declared.input.Input.{Input}
-use Rattle.vt_server.specs.declared.input.Input.TheVariants.{Frame}
 use Rattle.vt_server.specs.Terminals.{State, pool_at, pool_of}
 
 -- the objects of the shown set
@@ -25,14 +21,6 @@ next_look n = (n + 1) % 2 ^ 64
 -- The count of looks stays, and then something holds, or it goes on by one.
 abbrev pub LooksOn : ℕ → ℕ → Type 0 → Type 0
 LooksOn old new Holds = ((new ≡ old) × Holds) ⊎ (new ≡ next_look old)
-
--- the first input is a frame from a source
-pub record IsFrameFrom (source : ℕ) (inputs : List Input) : Type 0 where
-  pub time : ℕ
-  pub frame : CanFrame
-  pub rest : List Input
-  pub first : inputs ≡ Frame time frame ∷ rest
-  pub from : source_of frame ≡ source
 
 -- The set that was shown is still shown, has a pool, and is not at the address of a source.
 pub record IsUntouched (was : Option ℕ) (s : State) (source : ℕ) : Type 0 where

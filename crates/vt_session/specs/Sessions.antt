@@ -1,18 +1,22 @@
 -- A session: a terminal, the outputs that wait to be taken, and the text written last (docs/EMBEDDING.md, "Inputs").
 use Rattle.std.specs.List.{slice_get}
-use Rattle.std.specs.Prelude.{◌≡◌, ◌⊎◌, ℕ, ◌==◌, ◌-◌, ◌/◌, ◌%◌, ◌^◌, Bool, true, false, nat_le, nat_lt, if◌then◌else◌, List, [], ◌∷◌, length, drop, take, Option, Some, None}
+use Rattle.std.specs.Prelude.{◌≡◌, ◌⊎◌, ℕ, ◌==◌, ◌+◌, ◌-◌, ◌/◌, ◌%◌, ◌^◌, Bool, true, false, nat_le, nat_lt, if◌then◌else◌, List, [], ◌∷◌, ◌++◌, map, length, drop, take, Option, Some, None}
 use Rattle.vt_can.specs.declared.frames.frame.Frame.{Frame}
 use Rattle.vt_node.specs.declared.profile.Profile.{Profile}
 use Rattle.vt_server.specs.declared.input.Input.{Input}
 use Rattle.vt_server.specs.declared.output.Output.{Output}
 use Rattle.vt_server.specs.declared.output.Output.TheVariants as output
+use Rattle.vt_server.specs.message.UploadEnds.{TellsEndAfter, upload_end}
 use Rattle.vt_server.specs.shown.Screens.{KeepsScreen, redraws}
 use Rattle.vt_server.specs.state.AddressStates.{empty}
 use Rattle.vt_server.specs.States.{state_of, TakesInputs}
 use Rattle.vt_server.specs.Terminals.{State}
 use Rattle.vt_laws.specs.Headline.{Pools, ArePoolsInForce, KeepsPromise}
 use Rattle.vt_session.specs.declared.session.Session.{Session}
-use Rattle.vt_session.specs.Inputs.{tick_at}
+use Rattle.vt_host_events.specs.Events.{IsObserving, TellsEvents}
+use Rattle.vt_host_events.specs.declared.observer.Observer.{Observer}
+use Rattle.vt_session.specs.Inputs.{frame_of, tick_at, time_of}
+use Rattle.vt_session.specs.Outputs.{Item, Sent, Told}
 use Rattle.vt_session.specs.Looks.{KeepsPicture, LooksOn}
 use Rattle.vt_session.specs.Statuses.{DONE, NO_MEMORY, NO_SUCH, WAITING, NOT_BEGUN}
 
@@ -20,18 +24,24 @@ use Rattle.vt_session.specs.Statuses.{DONE, NO_MEMORY, NO_SUCH, WAITING, NOT_BEG
 abbrev pub state : Session → State
 state session = state_of session.terminal
 
--- the outputs that wait to be taken
-abbrev pub waiting : Session → List Output
-waiting session = drop session.next session.outputs.items
+-- the outputs of the last input, and behind them its events
+abbrev pub items : Session → List Item
+items session = map Sent session.outputs.items ++ map Told session.observer.events.items
 
--- the output taken last, of which the calls of outputs tell
-abbrev pub latest : Session → Option Output
-latest session = if session.next == 0 then None else slice_get session.outputs.items (session.next - 1)
+-- the outputs and events that wait to be taken
+abbrev pub waiting : Session → List Item
+waiting session = drop session.next (items session)
+
+-- the one taken last, of which the calls of outputs tell
+abbrev pub latest : Session → Option Item
+latest session = if session.next == 0 then None else slice_get (items session) (session.next - 1)
 
 -- Why a session takes no input, if it takes none: its own address is none that a node may have, or outputs wait.
 abbrev pub closed : Session → Option ℕ
 closed session =
-    if session.begun then (if nat_lt session.next (length session.outputs.items) then Some WAITING else None) else Some NOT_BEGUN
+    if session.begun
+    then (if nat_lt session.next (length session.outputs.items + length session.observer.events.items) then Some WAITING else None)
+    else Some NOT_BEGUN
 
 -- ---- the begin
 
@@ -93,7 +103,7 @@ pub record Remains (before after : Session) : Type 0 where
 
 -- A frame waits to be taken, unless the terminal lost its address or memory was refused. A lost terminal needs no memory.
 pub record Sends (before : Session) (frame : Frame) (after : Session) (status : ℕ) : Type 0 where
-  pub sent : ((status ≡ DONE) × (waiting after ≡ (if (state before).lost then [] else output.Frame frame ∷ []))) ⊎ ((status ≡ NO_MEMORY) × (waiting after ≡ []))
+  pub sent : ((status ≡ DONE) × (waiting after ≡ (if (state before).lost then [] else Sent (output.Frame frame) ∷ []))) ⊎ ((status ≡ NO_MEMORY) × (waiting after ≡ []))
   pub lost : (state before).lost ≡ true → status ≡ DONE
   pub stays : Stays before after
 
@@ -103,11 +113,25 @@ SendsBy (Some refusal) before frame after status = (status ≡ refusal) × (afte
 
 -- ---- inputs
 
+-- The events of inputs are told, of which the first one is at a time and may be a frame, from what an observer saw before them. Of a frame alone
+-- it is told rightly how the upload ended that it ended.
+pub record TellsOf (before : Session) (first : Input) (inputs : List Input) (after : Session) : Type 0 where
+  pub seen : Observer
+  pub observed : IsObserving (state before) (time_of first) (frame_of first) seen
+  pub told : TellsEvents seen (frame_of first) after.outputs.items after.terminal after.observer
+  pub end : inputs ≡ first ∷ [] → TellsEndAfter (state before) first (upload_end after.terminal)
+
+abbrev pub Tells : Session → List Input → Session → Type 0
+Tells before [] after = ⊥
+Tells before (first ∷ inputs) after = TellsOf before first (first ∷ inputs) after
+
 -- The terminal has taken inputs, and keeps the promise of the headline: for any pools in force before, each run of macros ends within
--- the budgets of the report, the pools in force are those accepted last, and no drawing sticks.
+-- the budgets of the report, the pools in force are those accepted last, and no drawing sticks. All outputs wait, and the events behind them.
 pub record HasTaken (before : Session) (inputs : List Input) (after : Session) : Type 0 where
-  pub steps : TakesInputs (state before) inputs (state after) [] (waiting after)
-  pub promise : (pools : Pools) → ArePoolsInForce pools (state before) → KeepsPromise pools (state before) inputs (state after) [] (waiting after)
+  pub steps : TakesInputs (state before) inputs (state after) [] after.outputs.items
+  pub promise : (pools : Pools) → ArePoolsInForce pools (state before) → KeepsPromise pools (state before) inputs (state after) [] after.outputs.items
+  pub events : Tells before inputs after
+  pub all_wait : after.next ≡ 0
   pub screen : redraws after.terminal ≡ false → KeepsScreen (state before) (state after)
   pub look : LooksOn before.looks after.looks (KeepsPicture (state before) (state after))
   pub begun : after.begun ≡ before.begun

@@ -1,77 +1,120 @@
-//! The outputs that wait to be taken, and what the terminal sends by itself.
+//! The outputs and events that wait to be taken, and what the terminal sends by itself.
 
-ghost use Rattle.std.specs.Prelude.{◌≡◌, None, drop, get_or};
+ghost use Rattle.std.specs.List.{slice_get};
+ghost use Rattle.std.specs.Option.{option_map};
+ghost use Rattle.std.specs.Prelude.{◌≡◌, ◌+◌, ◌<◌, [], None, true, drop, get_or, is_some, length};
 ghost use Rattle.vt_session.specs.Calls.{Claims, Nexts, TellsCount, TellsData, TellsId, SendsStatus};
+ghost use Rattle.vt_session.specs.Items.{item_value};
 ghost use Rattle.vt_session.specs.Outputs.{fault_number, kind_of, word_at};
-ghost use Rattle.vt_session.specs.Sessions.{Sends, closed, latest};
-ghost use Rattle.std.specs.Option.{option_copied};
+ghost use Rattle.vt_session.specs.Sessions.{Sends, closed, items, latest, waiting};
 
+use crate::events::{address_of_event, kind_of_event, numbers_of_event};
 use crate::session::{Session, closed};
 use crate::status::{DONE, NO_MEMORY};
 use vt_can::Frame;
+use vt_host_events::HostEvent;
 use vt_server::{OperatorFault, OperatorRefusal, Output};
 
-/// Takes the next output: 0 if none waits, 1 for a frame, 2 for a refusal to the operator.
+/// Takes the next output or event: 0 if none waits, 1 for a frame, 2 for a refusal to the operator, 3 for an event.
 pub fn next(session: &mut Session) -> u32
     ensures { Nexts session.old session.new result }
 {
-    if session.next >= session.outputs.len() {
-        session.outputs.clear();
-        session.next = 0;
-        return 0;
-    }
-    let kind = kind_of(&session.outputs[session.next]);
+    let Some(kind) = kind_at(session, session.next) else {
+        return next_of_none(session);
+    };
     session.next += 1;
     kind
 }
 
-fn kind_of(output: &Output) -> u32
-    ensures { result ≡ kind_of output.now }
+/// Forgets the outputs and the events, of which none waits.
+fn next_of_none(session: &mut Session) -> u32
+    requires { waiting session.old ≡ [] }
+    ensures { Nexts session.old session.new result }
 {
-    match output {
-        Output::Frame(_) => 1,
-        Output::Refused(_) => 2,
+    session.outputs.clear();
+    session.observer.events.clear();
+    session.next = 0;
+    0
+}
+
+/// What a host takes: an output of the terminal, or an event.
+#[derive(Clone, Copy)]
+enum Item<'a> {
+    Sent(&'a Output),
+    Told(HostEvent),
+}
+
+/// The output or event at an index.
+fn item_at(session: &Session, index: usize) -> Option<Item<'_>>
+    ensures item { option_map item_value result ≡ slice_get (items session.now) index }
+    ensures within { is_some result ≡ true → index < length session.now.outputs.items + length session.now.observer.events.items }
+{
+    let count = session.outputs.len();
+    if index < count {
+        return Some(Item::Sent(&session.outputs[index]));
+    }
+    match session.observer.events.get(index - count) {
+        Some(event) => Some(Item::Told(*event)),
+        None => None,
     }
 }
 
-/// The output taken last.
-fn latest(session: &Session) -> Option<&Output>
-    ensures { option_copied result ≡ latest session.now }
+/// The kind of the output or event at an index.
+fn kind_at(session: &Session, index: usize) -> Option<u32>
+    ensures kind { result ≡ option_map kind_of (slice_get (items session.now) index) }
+    ensures within { is_some result ≡ true → index < length session.now.outputs.items + length session.now.observer.events.items }
+{
+    match item_at(session, index) {
+        Some(Item::Sent(Output::Frame(_))) => Some(1),
+        Some(Item::Sent(Output::Refused(_))) => Some(2),
+        Some(Item::Told(_)) => Some(3),
+        None => None,
+    }
+}
+
+/// The output or event taken last.
+fn latest(session: &Session) -> Option<Item<'_>>
+    ensures { option_map item_value result ≡ latest session.now }
 {
     if session.next == 0 {
         return None;
     }
-    session.outputs.get(session.next - 1)
+    item_at(session, session.next - 1)
 }
 
-/// The identifier of the frame taken last, or the number of the refusal.
+/// The identifier of the frame taken last, the number of the refusal, or the kind of the event.
 pub fn output_id(session: &mut Session) -> u32
     ensures { TellsId session.old session.new result }
 {
     match latest(session) {
-        Some(Output::Frame(frame)) => frame.id.raw(),
-        Some(Output::Refused(fault)) => fault_number(*fault),
+        Some(Item::Sent(Output::Frame(frame))) => frame.id.raw(),
+        Some(Item::Sent(Output::Refused(fault))) => fault_number(*fault),
+        Some(Item::Told(event)) => kind_of_event(event),
         None => 0,
     }
 }
 
-/// The number of data bytes of the frame taken last.
+/// The number of data bytes of the frame taken last, or the address of the event.
 pub fn output_count(session: &mut Session) -> u32
     ensures { TellsCount session.old session.new result }
 {
     match latest(session) {
-        Some(Output::Frame(frame)) => frame.bytes.len() as u32,
-        _ => 0,
+        Some(Item::Sent(Output::Frame(frame))) => frame.bytes.len() as u32,
+        Some(Item::Sent(Output::Refused(_))) => 0,
+        Some(Item::Told(event)) => u32::from(address_of_event(event)),
+        None => 0,
     }
 }
 
-/// The data bytes of the frame taken last, from the lowest byte on.
+/// The data bytes of the frame taken last, from the lowest byte on, or the two numbers of the event, the first lowest.
 pub fn output_data(session: &mut Session) -> u64
     ensures { TellsData session.old session.new result }
 {
     match latest(session) {
-        Some(Output::Frame(frame)) => word_at(frame.bytes.as_slice(), 0),
-        _ => 0,
+        Some(Item::Sent(Output::Frame(frame))) => word_at(frame.bytes.as_slice(), 0),
+        Some(Item::Sent(Output::Refused(_))) => 0,
+        Some(Item::Told(event)) => numbers_of_event(event),
+        None => 0,
     }
 }
 
@@ -150,6 +193,7 @@ fn send(session: &mut Session, frame: Frame) -> u32
     ensures { Sends session.old frame session.new result }
 {
     session.outputs.clear();
+    session.observer.events.clear();
     session.next = 0;
     if session.terminal.is_lost() {
         return DONE;

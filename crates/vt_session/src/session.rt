@@ -1,17 +1,21 @@
 //! A terminal with the outputs that wait to be taken and the text written last, and the inputs that it takes.
 
-ghost use Rattle.std.specs.Prelude.{◌≡◌, [], length, true, IfSome, IsSomeAnd};
+ghost use Rattle.std.specs.Prelude.{◌≡◌, [], ◌∷◌, true, false, IsSomeAnd};
+ghost use Rattle.std.specs.Option.{option_map};
+ghost use Rattle.vt_can.specs.frames.Frame.{source_of};
+ghost use Rattle.vt_host_events.specs.Events.{HasRoom, TellsEvents};
 ghost use Rattle.vt_session.specs.Calls.{Acts, Hears, Texts, Ticks};
-ghost use Rattle.vt_session.specs.Inputs.{action_input, frame_input, text_input, ticks};
+ghost use Rattle.vt_session.specs.Inputs.{action_input, frame_input, frame_of, text_input, time_of};
 ghost use Rattle.vt_server.specs.States.{state_of};
-ghost use Rattle.vt_session.specs.Looks.{IsFrameFrom, IsUntouched, LooksOn, next_look};
-ghost use Rattle.vt_session.specs.Sessions.{Answers, AnswersAt, AnswersWhen, Begins, Takes, TakesBoth, closed, profile_of};
+ghost use Rattle.vt_session.specs.Looks.{IsUntouched, LooksOn, next_look};
+ghost use Rattle.vt_session.specs.Sessions.{Answers, AnswersAt, AnswersWhen, Begins, Takes, TakesBoth, closed, input_at, profile_of};
 
 use crate::status::{DONE, NO_MEMORY, NO_SUCH, NOT_BEGUN, WAITING};
 use arrayvec::ArrayVec;
 use byteorder::{ByteOrder, LittleEndian};
 use std::alloc::Global;
 use vt_can::{Action, CanId, Frame};
+use vt_host_events::Observer;
 use vt_names::Name;
 use vt_node::echo;
 use vt_server::{Input, Output, Profile, Terminal};
@@ -23,8 +27,9 @@ pub const LATEST: u64 = u64::MAX;
 #[derive(Drop)]
 pub struct Session {
     pub(crate) terminal: Terminal,
-    // The outputs of the last input. Those from the index `next` on wait to be taken.
+    // The outputs of the last input, and behind them its events. Those from the index `next` on wait to be taken.
     pub(crate) outputs: Vec<Output>,
+    pub(crate) observer: Observer,
     pub(crate) next: usize,
     // The text written last: of the screen, or of what a display read.
     pub(crate) text: Vec<u8>,
@@ -53,6 +58,7 @@ pub fn begin(
     Session {
         terminal: Terminal::new_with(alloc, address, Name::from_raw(name), profile),
         outputs: Vec::new(alloc),
+        observer: Observer::new(alloc),
         next: 0,
         text: Vec::new(alloc),
         looks: 0,
@@ -105,7 +111,8 @@ pub fn tick(session: &mut Session, time: u64) -> u32
     }
     session.outputs.clear();
     session.next = 0;
-    take_tick(session, time)
+    let frame = echo(session.terminal.own());
+    take_one(session, &Input::Frame { time, frame })
 }
 
 /// Does an action of the operator at a time, or at the latest time so far where it is `LATEST`.
@@ -134,7 +141,7 @@ fn take(session: &mut Session, input: Option<Input<'_>>) -> u32
     };
     session.outputs.clear();
     session.next = 0;
-    take_one(session, &[input])
+    take_one(session, &input)
 }
 
 /// Takes an input at a time, or at the latest time so far, if it is one.
@@ -160,45 +167,57 @@ fn take_at(session: &mut Session, time: u64, input: Option<Input<'_>>) -> u32
     };
     session.outputs.clear();
     session.next = 0;
-    let frame = echo(session.terminal.own());
-    take_both(session, &[Input::Frame { time, frame }, input])
+    take_both(session, time, input)
 }
 
 /// Takes one input. No output waits. The machine does not stick at it.
-fn take_one(session: &mut Session, inputs: &[Input<'_>]) -> u32
+fn take_one(session: &mut Session, input: &Input<'_>) -> u32
     requires none { session.old.outputs.items ≡ [] }
     requires first { session.old.next ≡ 0 }
-    requires one { length inputs.now ≡ 1 }
-    ensures { Takes session.old inputs.now session.new result }
+    ensures { Takes session.old (input.now ∷ []) session.new result }
 {
     vt_laws::the_machine_never_sticks();
     vt_laws::others_keep_objects();
     vt_laws::profiles_are_kept();
     let was = session.terminal.shown();
-    let source = source_in(inputs);
-    match session.terminal.run(inputs, &mut session.outputs) {
+    let (time, frame) = moment_of(input);
+    match session.observer.look(&session.terminal, time, frame) {
+        Ok(()) => {}
+        Err(_) => return NO_MEMORY,
+    }
+    match session.terminal.step(input, &mut session.outputs) {
         Ok(()) => {
-            note_look(session, was, source);
+            tell(session, frame);
+            note_look(session, was, source_of(input));
             DONE
         }
         Err(_) => NO_MEMORY,
     }
 }
 
-/// Takes two inputs, one after the other. No output waits. The machine does not stick at them.
-fn take_both(session: &mut Session, inputs: &[Input<'_>]) -> u32
+/// Moves the time on, and then takes an input. No output waits. The machine does not stick at them.
+fn take_both(session: &mut Session, time: u64, input: Input<'_>) -> u32
     requires none { session.old.outputs.items ≡ [] }
     requires first { session.old.next ≡ 0 }
-    requires two { length inputs.now ≡ 2 }
-    ensures { TakesBoth session.old inputs.now session.new result }
+    ensures { TakesBoth session.old (input_at session.old time input.entry) session.new result }
 {
     vt_laws::the_machine_never_sticks();
-    match session.terminal.run(inputs, &mut session.outputs) {
+    vt_laws::echoes_are_ticks();
+    let frame = echo(session.terminal.own());
+    let inputs = [Input::Frame { time, frame }, input];
+    let (time, frame) = moment_of(&inputs[0]);
+    match session.observer.look(&session.terminal, time, frame) {
+        Ok(()) => {}
+        Err(_) => return NO_MEMORY,
+    }
+    match session.terminal.run(&inputs, &mut session.outputs) {
         Ok(()) => {
+            tell(session, frame);
             note_change(session);
             DONE
         }
         Err(fault) if fault.at > 0 => {
+            tell(session, frame);
             note_change(session);
             NO_MEMORY
         }
@@ -206,33 +225,36 @@ fn take_both(session: &mut Session, inputs: &[Input<'_>]) -> u32
     }
 }
 
-/// Takes a tick. No output waits. The machine does not stick at it.
-fn take_tick(session: &mut Session, time: u64) -> u32
-    requires none { session.old.outputs.items ≡ [] }
-    requires first { session.old.next ≡ 0 }
-    ensures { Takes session.old (ticks session.old time) session.new result }
+/// Tells the events of what was taken, of which the first is a frame or an action.
+fn tell(session: &mut Session, frame: Option<&Frame>)
+    requires room { session.old.observer.is_lost ≡ false → HasRoom session.old.observer }
+    requires none { session.old.observer.events.items ≡ [] }
+    ensures told { TellsEvents session.old.observer (option_map (λ f. f.now) frame.entry) session.old.outputs.items session.old.terminal session.new.observer }
+    ensures rest { session.new ≡ record session.old { observer = session.new.observer } }
 {
-    vt_laws::the_machine_never_sticks();
-    vt_laws::others_keep_objects();
-    vt_laws::profiles_are_kept();
-    let was = session.terminal.shown();
-    let own = session.terminal.own();
-    match session.terminal.tick(time, &mut session.outputs) {
-        Ok(()) => {
-            note_look(session, was, Some(own));
-            DONE
-        }
-        Err(_) => NO_MEMORY,
+    session
+        .observer
+        .tell(&session.terminal, frame, &session.outputs);
+}
+
+/// The time and the frame of an input, if it is a frame.
+fn moment_of<'a>(input: &'a Input<'_>) -> (Option<u64>, Option<&'a Frame>)
+    ensures time { result.0 ≡ time_of input.now }
+    ensures frame { option_map (λ f. f.now) result.1 ≡ frame_of input.now }
+{
+    match input {
+        Input::Frame { time, frame } => (Some(*time), Some(frame)),
+        Input::Operator(_) => (None, None),
     }
 }
 
-/// The source of the first input, if that is a frame.
-fn source_in(inputs: &[Input<'_>]) -> Option<u8>
-    ensures { IfSome result (λ source. IsFrameFrom source inputs.now) }
+/// The source of an input, if it is a frame.
+fn source_of(input: &Input<'_>) -> Option<u8>
+    ensures { result ≡ option_map source_of (frame_of input.now) }
 {
-    match inputs.first() {
-        Some(Input::Frame { frame, .. }) => Some(frame.id.source()),
-        _ => None,
+    match input {
+        Input::Frame { frame, .. } => Some(frame.id.source()),
+        Input::Operator(_) => None,
     }
 }
 
@@ -277,7 +299,7 @@ pub(crate) fn closed(session: &Session) -> Option<u32>
     if !session.begun {
         return Some(NOT_BEGUN);
     }
-    if session.next < session.outputs.len() {
+    if session.next < session.outputs.len() + session.observer.events.len() {
         return Some(WAITING);
     }
     None

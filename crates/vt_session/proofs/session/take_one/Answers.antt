@@ -1,58 +1,55 @@
-use Rattle.std.proofs.Common.{◌≡◌, ℕ, List, [], inl, inr, drop, refl, sym, ap, subst, ◌∙◌, arith}
+use Rattle.std.proofs.Common.{◌≡◌, ℕ, List, [], ◌∷◌, inl, inr, refl, sym, ap, subst, ◌∙◌}
 use Rattle.std.specs.Prelude.{IsSomeAnd}
-use Rattle.std.proofs.lemmas.Bool.{false≢true}
 use Rattle.vt_server.specs.declared.output.Output.{Output}
-use Rattle.vt_server.specs.States.{state_of, TakesInputs}
 use Rattle.vt_server.specs.declared.terminal.Terminal.{Terminal}
+use Rattle.vt_server.specs.States.{state_of, TakesInput, TakesInputs}
 use Rattle.vt_session.specs.declared.session.Session.{Session}
-use Rattle.vt_session.specs.Looks.{IsUntouched}
+use Rattle.vt_session.specs.Looks.{IsUntouched, next_look}
 use Rattle.vt_session.specs.Sessions.{HasTaken}
 use Rattle.vt_session.proofs.Looks.{by_note}
-use Rattle.vt_session.proofs.Queue.{from_first, none_taken}
+use Rattle.vt_session.proofs.Takings.{observed_by, one_taken, told_by}
 use Rattle.vt_session.proofs.session.take_one.Goals as goal
 
-pub returns-in-Ok : goal.returns-in-Ok
-returns-in-Ok c =
-    let old = state_of c.args.session.now.terminal in
-    let new = state_of c.run.new.self in
-    let inputs = c.args.inputs.now in
-    let all = from_first c.run.new.outputs.items c.args.session.now.next c.requires.first in
-    let steps : TakesInputs old inputs new [] (drop c.args.session.now.next c.run.new.outputs.items) =
-    subst (λ (sent : List Output). TakesInputs old inputs new [] sent) all
-    (subst (λ (before : List Output). TakesInputs old inputs new before c.run.new.outputs.items) c.requires.none c.in-Ok.ensures.ok) in
-    let after : Session = record c.args.session.now { terminal = c.run.new.self; outputs = c.run.new.outputs; looks = c.note_look.new.session.looks } in
-    let here : c.note_look.new.session.terminal ≡ c.run.new.self = ap (λ (s : Session). s.terminal) c.note_look.ensures.rest in
-    let taken : HasTaken c.args.session.now inputs after = record {
+pub returns-in-Ok-step : goal.returns-in-Ok-step
+returns-in-Ok-step c =
+    let before = c.args.session.now in
+    let old = state_of before.terminal in
+    let new = state_of c.step.new.self in
+    let input = c.args.input.now in
+    let sent = c.step.new.outputs.items in
+    let steps : TakesInputs old (input ∷ []) new [] sent =
+    one_taken old new input [] sent (subst (λ (waiting : List Output). TakesInput old input new waiting sent) c.requires.none c.in-Ok-step.ensures.ok) in
+    let after : Session = record before {
+      terminal = c.step.new.self;
+      outputs = c.step.new.outputs;
+      observer = c.tell.new.session.observer;
+      looks = c.note_look.new.session.looks;
+    } in
+    let is : c.note_look.new.session ≡ after =
+    c.note_look.ensures.rest ∙ ap (λ (s : Session). record s { looks = c.note_look.new.session.looks }) c.tell.ensures.rest in
+    let here : c.note_look.new.session.terminal ≡ c.step.new.self = ap (λ (s : Session). s.terminal) is in
+    let looked : c.tell.new.session.looks ≡ before.looks = ap (λ (s : Session). s.looks) c.tell.ensures.rest in
+    let taken : HasTaken before (input ∷ []) after = record {
       steps = steps;
-      promise = λ pools force. c.the_machine_never_sticks.ensures.inputs pools old inputs new [] _ force steps;
-      screen = c.run.ensures.same;
+      promise = λ pools force. c.the_machine_never_sticks.ensures.inputs pools old (input ∷ []) new [] _ force steps;
+      events = record {
+        seen = c.look.new.self;
+        observed = observed_by old input c.moment_of-time.result.0 _ c.look.new.self c.moment_of-time.ensures.time c.moment_of-time.ensures.frame c.in-Ok.ensures.ok;
+        told = told_by input _ c.look.new.self sent c.step.new.self c.tell.new.session.observer c.moment_of-time.ensures.frame c.tell.ensures.told;
+        end = λ one. c.in-Ok-step.ensures.told;
+      };
+      all_wait = c.requires.first;
+      screen = c.in-Ok-step.ensures.same;
       look = elim c.note_look.ensures.look [
         | inl (same, noted) ↦ inl (
-          same,
-          by_note c.others_keep_objects.ensures c.profiles_are_kept.ensures old new inputs c.shown-was.result c.source_in-source.result [] _
-              c.shown-was.ensures c.source_in-source.ensures c.requires.one steps
-              (subst (λ (t : Terminal). IsSomeAnd c.source_in-source.result (λ s. IsUntouched c.shown-was.result (state_of t) s)) here noted),
+          same ∙ looked,
+          by_note c.others_keep_objects.ensures c.profiles_are_kept.ensures old new input c.shown-was.result c.source_of.result [] _
+              c.shown-was.ensures c.source_of.ensures steps
+              (subst (λ (t : Terminal). IsSomeAnd c.source_of.result (λ s. IsUntouched c.shown-was.result (state_of t) s)) here noted),
         )
-        | inr next ↦ inr next
+        | inr next ↦ inr (next ∙ ap next_look looked)
       ];
       begun = refl;
       text = refl;
     } in
-    inl (refl, subst (λ (s : Session). HasTaken c.args.session.now inputs s) (sym c.note_look.ensures.rest) taken)
-
-pub returns-in-Err : goal.returns-in-Err
-returns-in-Err c =
-    let none = none_taken (state_of c.args.session.now.terminal) (state_of c.run.new.self) c.args.inputs.now c.in-Err.field-0.at _ _ c.in-Err.ensures.within c.requires.one c.in-Err.ensures.fault in
-    let first : c.in-Err.field-0.at ≡ 0 = omega (arith, c.in-Err.ensures.within, c.requires.one) in
-    inr (
-      refl,
-      record {
-        not_lost = λ is. false≢true (c.in-Err.ensures.lost is);
-        state = none.0;
-        redraws = c.in-Err.ensures.err_redraws first;
-        waiting = ap (λ (n : ℕ). drop n c.run.new.outputs.items) c.requires.first ∙ none.1 ∙ c.requires.none;
-        look = refl;
-        begun = refl;
-        text = refl;
-      },
-    )
+    inl (refl, subst (λ (s : Session). HasTaken before (input ∷ []) s) (sym is) taken)

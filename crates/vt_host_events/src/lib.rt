@@ -1,0 +1,22 @@
+//! What a host is told after an input of its terminal: the sets that came and went, the ends of uploads, what is shown, alarms, sounds, and
+//! texts that an implement did not get (ISO 11783-6).
+//!
+//! - A `HostEvent` is one thing that is told.
+//! - An `Observer` looks at a terminal before an input, and tells its events after it.
+//!
+//! The events of an input follow from the terminal before it, the input, what was sent, and the terminal after it. docs/PROFILE.md, "Events for
+//! a host", has them all.
+#![tactic(auto)]
+
+mod event;
+mod lists;
+mod observer;
+mod seen;
+mod sounds;
+mod telling;
+
+pub use event::{Alarm, Display, HostEvent};
+pub use observer::Observer;
+
+/// A refused allocation.
+pub use std::alloc::AllocError as OutOfMemory;
