@@ -1,15 +1,12 @@
 -- The marks of shown objects stay those of the objects shown while a store looks the same.
-use Rattle.std.proofs.Common.{◌≡◌, ◌<◌, ◌≤◌, ◌⊎◌, inl, inr, ◌+◌, ◌-◌, ℕ, zero, suc, Bool, true, false, not, ◌&&◌, List, [], ◌∷◌, ◌++◌, length, get_or, take, Option, Some, Result, Ok, Err, refl, sym, ap, subst, ◌∙◌, arith}
+use Rattle.std.proofs.Common.{◌≡◌, ◌<◌, ◌≤◌, ◌⊎◌, inl, inr, ℕ, zero, suc, Bool, true, false, not, ◌&&◌, List, [], ◌∷◌, ◌++◌, length, get_or, take, Some, Result, Ok, Err, refl, sym, ap, subst, ◌∙◌, arith}
 use Rattle.std.proofs.Math.Seq.{take-append_seam}
 use Rattle.std.specs.Option.{option_map}
 use Rattle.std.specs.FinMap as finite
 use Rattle.vt_kinds.specs.declared.kind.Kind.TheVariants as kinds
-use Rattle.vt_kinds.specs.Records.{Seen}
 use Rattle.vt_commands.specs.declared.command.Command.{Command}
-use Rattle.vt_commands.specs.declared.raising.Raised.{Raised}
 use Rattle.vt_stores.specs.Stores.{ObjectMap, IsPlace}
 use Rattle.vt_chains.specs.Depths.{ids_of, IsIdAt}
-use Rattle.vt_chains.specs.declared.levels.Levels.{Levels}
 use Rattle.vt_chains.proofs.IdIndices.{stands_of, within}
 use Rattle.vt_shown.proofs.Searches.{clear_mark}
 use Rattle.vt_shown.specs.ShownElements.{IsShown}

@@ -169,10 +169,11 @@ input_again old new None same = refl
 input_again old new (Some id) same = ap (λ (k : Option Kind). cond (same_kind (kind_in old id) k) (Some id) None) (sym (kind_stays new old id same))
 
 pub renewed_is : (state : SetState) (new : ObjectMap) (input : Option ℕ) → shape_in new ≡ shape_in state.objects → holds_key state.objects state.key ≡ true
-    → input ≡ kept_input state.objects state.objects state.input → record { objects = new; key = state.key; input = input } ≡ renewed state new
+    → input ≡ kept_input state.objects state.objects state.input → record { objects = new; key = state.key; input = input; audio = state.audio } ≡ renewed state new
 renewed_is state new input same held is =
     λ i. record {
       objects = new;
       key = sym (key_again state.objects new state.key same held) i;
       input = (is ∙ input_again state.objects new state.input same) i;
+      audio = state.audio;
     }

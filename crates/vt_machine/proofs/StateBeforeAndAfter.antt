@@ -1,5 +1,5 @@
 -- The state of a working set before and after each call.
-use Rattle.std.proofs.Common.{◌≡◌, ◌≤◌, ◌<◌, ◌+◌, ◌-◌, ◌*◌, ℕ, zero, suc, Bool, cond, List, [], ◌∷◌, map, length, slice_get, slice_index_or, true, false, Option, Some, None, Ok, refl, sym, ap, subst, ◌∙◌, arith, append-nil}
+use Rattle.std.proofs.Common.{◌≡◌, ◌≤◌, ◌<◌, ◌+◌, ◌-◌, ◌*◌, ℕ, zero, suc, Bool, cond, List, [], ◌∷◌, map, length, slice_get, slice_index_or, true, false, Option, Some, None, Result, Ok, Err, refl, sym, ap, subst, ◌∙◌, arith, append-nil}
 use Rattle.std.proofs.lemmas.List.Sums.{sum_by-cons}
 use Rattle.std.proofs.lemmas.Cmp.{nat_cmp_total}
 use Rattle.std.specs.List.{AllByRecursion}
@@ -25,14 +25,17 @@ use Rattle.vt_verify.specs.Triggers.{listing_of}
 use Rattle.vt_verify.proofs.lemmas.references.IncludedObjectsExist.{closed_store}
 use Rattle.vt_chains.proofs.IdIndices.{found_at}
 use Rattle.vt_stores.proofs.ObjectShapes.{kind_found, seen_kind}
+use Rattle.vt_macros.specs.declared.audio.Audio.{Audio}
 use Rattle.vt_macros.specs.declared.index.Index.{Index}
+use Rattle.vt_macros.specs.Audio.{noted}
+use Rattle.vt_macros.specs.AudioOfRuns.{audio_after, audio_of_run}
 use Rattle.vt_chains.specs.declared.levels.Levels.{Levels}
 use Rattle.vt_machine.specs.declared.live.HeldKey.{HeldKey}
 use Rattle.vt_chains.specs.Certificates.{AreLevels}
 use Rattle.vt_effects.specs.Changes.{HasResult}
 use Rattle.vt_effects.specs.Effects.{kind_in, effect, after}
 use Rattle.vt_macros.specs.Indexes.{IsIndexOf}
-use Rattle.vt_machine.specs.SetStates.{SetState, HasRun, IsDone, is_key, holds_key, same_kind, kept_key}
+use Rattle.vt_machine.specs.SetStates.{SetState, HasRun, IsDone, audio_by, is_key, holds_key, same_kind, kept_key}
 use Rattle.vt_machine.specs.OperatorActions.{HasActed, key_message}
 use Rattle.vt_macros.specs.Machines.{fault, events_of, joined_all, total_budget, run}
 use Rattle.vt_effects.specs.Soundness.{shape_in}
@@ -85,9 +88,9 @@ stored_runs m pool index levels is stored acceptable totals indexed levelled =
 
 -- ---- runs
 
-pub has_run : (index : Index) (old : ObjectMap) (front : List Command) (most steps : ℕ) (new : ObjectMap) (levels : Levels) → HaveRun index old front most steps new levels
-    → HasRun old front most steps new
-has_run index old front most steps new levels ran =
+pub has_run : (index : Index) (old : ObjectMap) (audio : Audio) (front : List Command) (most steps : ℕ) (new : ObjectMap) (new_audio : Audio) (levels : Levels)
+    → HaveRun index old audio front most steps new new_audio levels → HasRun old front most steps new
+has_run index old audio front most steps new new_audio levels ran =
     let le = ran.within in
     record {
       ended = ap (λ (n : ℕ). run n old front) (omega (arith, le)) ∙ ap (run (steps + (most - steps)) old) (sym (append-nil front))
@@ -96,6 +99,19 @@ has_run index old front most steps new levels ran =
       sound = ran.can.sound;
       shape = ran.shape;
     }
+
+audio_none : (n : ℕ) (audio : Audio) (m : ObjectMap) → audio_after n audio m [] ≡ audio
+unfolding audio_after
+audio_none zero audio m = refl
+audio_none (suc n) audio m = refl
+
+-- the audio commands after a run
+pub has_sounded : (index : Index) (old : ObjectMap) (audio : Audio) (front : List Command) (most steps : ℕ) (new : ObjectMap) (new_audio : Audio) (levels : Levels)
+    → HaveRun index old audio front most steps new new_audio levels → new_audio ≡ audio_after most audio old front
+has_sounded index old audio front most steps new new_audio levels ran =
+    let le = ran.within in
+    sym (ap (λ (n : ℕ). audio_after n audio old front) (omega (arith, le)) ∙ ap (audio_after (steps + (most - steps)) audio old) (sym (append-nil front))
+    ∙ ran.sounds [] (most - steps) ∙ audio_none (most - steps) new_audio new)
 
 -- ---- commands
 
@@ -110,17 +126,34 @@ events_within shape (r ∷ raised) within =
 pub events_small : (index : Index) (m : ObjectMap) (levels : Levels) (raised : List Raised) → CanRun index m levels → length raised ≤ 3 → total_budget (shape_in m) raised < 4294967296
 events_small index m levels raised can few = let le = events_within (shape_in m) raised can.within in omega (arith, le, few)
 
-pub is_done : (index : Index) (m new last : ObjectMap) (levels then : Levels) (command : Command) (raised : List Raised) (k : ℕ) → raised ≡ events_of m command
+pub is_done : (index : Index) (m new last : ObjectMap) (audio last_audio : Audio) (levels then : Levels) (command : Command) (raised : List Raised) (k : ℕ) → raised ≡ events_of m command
     → HasResult (Ok tt) (effect m command) → new ≡ after m command
-    → HaveRun index new (joined_all (shape_in new) raised) (total_budget (shape_in new) raised) k last then → IsDone m command (k + 1) last
-is_done index m new last levels then command raised k of ok is ran = record {
+    → HaveRun index new audio (joined_all (shape_in new) raised) (total_budget (shape_in new) raised) k last last_audio then → IsDone m command (k + 1) last
+is_done index m new last audio last_audio levels then command raised k of ok is ran = record {
   middle = new;
   done = answered (effect m command) m ok ∙ ap Ok (sym is);
   run_steps = k;
   steps_are = refl;
-  has_run = has_run index new (joined_all (shape_in new) (events_of m command)) (total_budget (shape_in new) (events_of m command)) k last then
-      (subst (λ (r : List Raised). HaveRun index new (joined_all (shape_in new) r) (total_budget (shape_in new) r) k last then) of ran);
+  has_run = has_run index new audio (joined_all (shape_in new) (events_of m command)) (total_budget (shape_in new) (events_of m command)) k last last_audio then
+      (subst (λ (r : List Raised). HaveRun index new audio (joined_all (shape_in new) r) (total_budget (shape_in new) r) k last last_audio then) of ran);
 }
+
+pub done_audio : (index : Index) (m new last : ObjectMap) (audio now last_audio : Audio) (then : Levels) (command : Command) (raised : List Raised) (k : ℕ)
+    → now ≡ noted audio command → raised ≡ events_of m command → HasResult (Ok tt) (effect m command) → new ≡ after m command
+    → HaveRun index new now (joined_all (shape_in new) raised) (total_budget (shape_in new) raised) k last last_audio then
+    → last_audio ≡ audio_by audio command (events_of m command) (effect m command)
+done_audio index m new last audio now last_audio then command raised k noted_is of ok is ran =
+    has_sounded index new now (joined_all (shape_in new) raised) (total_budget (shape_in new) raised) k last last_audio then ran
+    ∙ ap (λ (a : Audio). audio_of_run a new raised) noted_is ∙ ap (audio_of_run (noted audio command) new) of
+    ∙ ap (audio_by audio command (events_of m command)) (sym (answered (effect m command) m ok ∙ ap Ok (sym is)))
+
+pub refused_audio : (m : ObjectMap) (audio : Audio) (command : Command) (bits : ℕ) → HasResult (Err bits) (effect m command)
+    → audio ≡ audio_by audio command (events_of m command) (effect m command)
+refused_audio m audio command bits refused = by (effect m command) refused
+  where
+    by : (r : Result ObjectMap ℕ) → HasResult (Err bits) r → audio ≡ audio_by audio command (events_of m command) r
+    by (Ok x) is = absurd is
+    by (Err other) is = refl
 
 -- ---- the working set
 
@@ -198,14 +231,16 @@ marks_stay old new marks same are = are ∙ sym (ap length (ids_by new old same)
 
 -- ---- events
 
-pub has_acted : (index : Index) (state new : SetState) (raised : List Raised) (k : ℕ) (m last : ObjectMap) (then : Levels) → m ≡ state.objects → last ≡ new.objects
-    → new.key ≡ state.key → new.input ≡ state.input
-    → HaveRun index m (joined_all (shape_in m) raised) (total_budget (shape_in m) raised) k last then → HasActed state raised k new
-has_acted index state new raised k m last then is last_is key input ran =
+pub has_acted : (index : Index) (state new : SetState) (raised : List Raised) (k : ℕ) (m last : ObjectMap) (audio : Audio) (then : Levels) → m ≡ state.objects → last ≡ new.objects
+    → new.key ≡ state.key → new.input ≡ state.input → audio ≡ state.audio
+    → HaveRun index m audio (joined_all (shape_in m) raised) (total_budget (shape_in m) raised) k last new.audio then → HasActed state raised k new
+has_acted index state new raised k m last audio then is last_is key input audio_is ran =
     record {
       has_run = subst (λ (n : ObjectMap). HasRun state.objects (joined_all (shape_in state.objects) raised) (total_budget (shape_in state.objects) raised) k n) last_is
           (subst (λ (o : ObjectMap). HasRun o (joined_all (shape_in o) raised) (total_budget (shape_in o) raised) k last) is
-          (has_run index m (joined_all (shape_in m) raised) (total_budget (shape_in m) raised) k last then ran));
+          (has_run index m audio (joined_all (shape_in m) raised) (total_budget (shape_in m) raised) k last new.audio then ran));
       key = key;
       input = input;
+      audio = has_sounded index m audio (joined_all (shape_in m) raised) (total_budget (shape_in m) raised) k last new.audio then ran
+          ∙ ap (λ (o : ObjectMap). audio_of_run audio o raised) is ∙ ap (λ (a : Audio). audio_of_run a state.objects raised) audio_is;
     }

@@ -14,6 +14,7 @@ use Rattle.vt_machine.specs.declared.operator.Acted.{Acted}
 use Rattle.vt_machine.specs.declared.operator.OperatorRefusal.{OperatorRefusal}
 use Rattle.vt_machine.specs.declared.operator.OperatorRefusal.TheVariants as refusals
 use Rattle.vt_machine.specs.SetStates.{SetState, HasRun, active_in}
+use Rattle.vt_macros.specs.AudioOfRuns.{audio_of_run}
 use Rattle.vt_macros.specs.Machines.{joined_all, total_budget}
 use Rattle.vt_effects.specs.Soundness.{shape_in}
 use Rattle.vt_shown.specs.ShownElements.{IsShown}
@@ -100,6 +101,7 @@ pub record HasActed (start : SetState) (raised : List Raised) (steps : ℕ) (new
   pub has_run : HasRun start.objects (joined_all (shape_in start.objects) raised) (total_budget (shape_in start.objects) raised) steps new.objects
   pub key : new.key ≡ start.key
   pub input : new.input ≡ start.input
+  pub audio : new.audio ≡ audio_of_run start.audio start.objects raised
 
 abbrev pub ComesTo : SetState → ActionResult → Result Acted OperatorRefusal → SetState → Type 0
 ComesTo old (Refused refusal) (Err answered) new = (answered ≡ refusal) × (new ≡ old)

@@ -1,12 +1,17 @@
--- A working set with its objects, its held key and its selected input, and the effects of calls on it (docs/PROFILE.md,
--- "Runs", "Steps").
+-- A working set with its objects, its held key, its selected input and its audio commands, and the effects of calls on it
+-- (docs/PROFILE.md, "Runs", "Steps").
 use denote.RattleType.{RattleType}
 use Rattle.std.specs.Prelude.{◌≡◌, ◌≤◌, ◌+◌, ◌-◌, ℕ, Bool, true, false, ◌==◌, if◌then◌else◌, List, [], ◌∷◌, Option, Some, None, Result, Ok, Err, refl, length}
 use Rattle.std.specs.Coded.{Coded, code_by, coded×, coded_option, coded_ℕ}
 use Rattle.std.specs.FinMap as map
 use Rattle.vt_kinds.specs.contracts.macro_bytes.MacroBytes as macro_bytes
 use Rattle.vt_kinds.specs.contracts.object.Object as object
+use Rattle.vt_macros.specs.contracts.audio.Audio as audio
 use Rattle.vt_commands.specs.declared.command.Command.{Command}
+use Rattle.vt_commands.specs.declared.raising.Raised.{Raised}
+use Rattle.vt_macros.specs.declared.audio.Audio.{Audio}
+use Rattle.vt_macros.specs.Audio.{noted, silence}
+use Rattle.vt_macros.specs.AudioOfRuns.{audio_of_run}
 use Rattle.vt_kinds.specs.declared.kind.Kind.{Kind}
 use Rattle.vt_kinds.specs.declared.kind.Kind.TheVariants as kinds
 use Rattle.vt_kinds.specs.Ids.{null_id}
@@ -26,26 +31,35 @@ use Rattle.vt_macros.specs.Machines.{Ended, mask_of, run, joined_all, total_budg
 use Rattle.vt_effects.specs.Soundness.{shape_in}
 use Rattle.vt_effects.specs.Soundness.{IsSound}
 
--- a working set's objects, the held key with the mask of its press, and the selected input
+-- a working set's objects, the held key with the mask of its press, the selected input, and the audio commands that are done
 pub record SetState : Type 0 where
   pub objects : ObjectMap
   pub key : Option HeldKey
   pub input : Option ℕ
+  pub audio : Audio
 
 abbrev pub seen_row : RattleType
 seen_row = object.the_row (macro_bytes.the_row bytes_row (record { items = λ v. v.items })) (record { items = λ v. v })
 
 abbrev pub state_code : Coded SetState
 state_code =
-    code_by (ObjectMap × (Option HeldKey × Option ℕ))
-    (coded× (map.code coded_ℕ seen_row.coded) (coded× (coded_option held_key.the_row.coded) (coded_option coded_ℕ)))
-    (λ s. (s.objects, (s.key, s.input)))
-    (λ p. record { objects = p.0; key = p.1.0; input = p.1.1 })
+    code_by (ObjectMap × (Option HeldKey × (Option ℕ × Audio)))
+    (coded× (map.code coded_ℕ seen_row.coded) (coded× (coded_option held_key.the_row.coded) (coded× (coded_option coded_ℕ) audio.the_row.coded)))
+    (λ s. (s.objects, (s.key, (s.input, s.audio))))
+    (λ p. record { objects = p.0; key = p.1.0; input = p.1.1.0; audio = p.1.1.1 })
     (λ _. refl)
+
+-- a pool that has just come: no key is held, no input is selected, and no audio command is done
+abbrev pub fresh_set : ObjectMap → SetState
+fresh_set objects = record { objects = objects; key = None; input = None; audio = silence }
 
 -- the state with its objects replaced
 abbrev pub with_objects : SetState → ObjectMap → SetState
 with_objects state new = record state { objects = new }
+
+-- the state with the objects and the audio commands that macros leave
+abbrev pub after_run : SetState → ObjectMap → Audio → SetState
+after_run state new audio = record state { objects = new; audio = audio }
 
 -- the held object is a Key or a Button
 abbrev pub is_key : Option Kind → Bool
@@ -112,6 +126,14 @@ abbrev pub Applied : ObjectMap → Command → Outcome → ObjectMap → Type 0
 Applied old command (Done steps) new = IsDone old command steps new
 Applied old command (Refused bits) new = IsCommandRefused old command bits new
 
+-- The audio commands after a command: if it is done, with itself and those of the macros of its events; if it is refused, as before.
+abbrev pub audio_by : Audio → Command → List Raised → Result ObjectMap ℕ → Audio
+audio_by audio command raised (Ok middle) = audio_of_run (noted audio command) middle raised
+audio_by audio command raised (Err bits) = audio
+
+abbrev pub audio_after_command : Command → SetState → Audio
+audio_after_command command state = audio_by state.audio command (events_of state.objects command) (effect state.objects command)
+
 -- ---- updates
 
 -- both objects exist and are of the same kind
@@ -131,9 +153,14 @@ abbrev pub kept_input : ObjectMap → ObjectMap → Option ℕ → Option ℕ
 kept_input old new None = None
 kept_input old new (Some input) = if is_kept old new input then Some input else None
 
--- the working set with its objects updated
+-- the working set with its objects updated; its audio commands stay
 abbrev pub renewed : SetState → ObjectMap → SetState
-renewed state new = record { objects = new; key = kept_key state.objects new state.key; input = kept_input state.objects new state.input }
+renewed state new = record {
+  objects = new;
+  key = kept_key state.objects new state.key;
+  input = kept_input state.objects new state.input;
+  audio = state.audio;
+}
 
 -- ---- the marks of shown objects
 

@@ -1,6 +1,6 @@
 //! A running working set with its object pool and event machine.
 
-ghost use Rattle.std.specs.Prelude.{◌≡◌, ◌≤◌, ◌⊎◌, ℕ, [], ◌∷◌, Some, None, IfOk, true, false, length};
+ghost use Rattle.std.specs.Prelude.{◌≡◌, ◌≤◌, ◌⊎◌, ℕ, [], ◌∷◌, Some, IfOk, true, false, length};
 ghost use Rattle.std.specs.Option.{option_map};
 ghost use Rattle.std.specs.FinMap as finite;
 ghost use Rattle.vt_kinds.specs.declared.kind.Kind.TheVariants as kinds;
@@ -11,6 +11,7 @@ ghost use Rattle.vt_verify.specs.Budgets.{budget};
 ghost use Rattle.vt_verify.specs.Rules.{working_sets};
 ghost use Rattle.vt_verify.specs.Triggers.{listing};
 ghost use Rattle.vt_effects.specs.Effects.{kind_in};
+ghost use Rattle.vt_macros.specs.AudioOfRuns.{audio_after};
 ghost use Rattle.vt_macros.specs.Machines.{event_commands};
 ghost use Rattle.vt_effects.specs.Soundness.{shape_in};
 ghost use Rattle.vt_commands.specs.Events as events;
@@ -19,7 +20,7 @@ ghost use Rattle.vt_macros.specs.QuietMacros.{KeepsLook, RunsKeepLook};
 ghost use Rattle.vt_machine.specs.OperatorActions.{HasActed};
 ghost use Rattle.vt_shown.specs.ShownElements.{IsShown, soft_key_mask_of};
 ghost use Rattle.vt_effects.specs.Soundness.{IsSound};
-ghost use Rattle.vt_machine.specs.SetStates.{HasRun, Applied, IsActive, working_set_in, active_in, with_objects, renewed};
+ghost use Rattle.vt_machine.specs.SetStates.{HasRun, Applied, IsActive, working_set_in, active_in, after_run, audio_after_command, fresh_set, renewed};
 
 use crate::kept::{kept_input, kept_key};
 use crate::working_set::working_set;
@@ -101,7 +102,7 @@ impl<S: Store> Model for Live<S> {
 
     ghost coded = { state_code };
 
-    ghost view = { λ a. record { objects = S.contents a.store; key = a.key; input = a.input } };
+    ghost view = { λ a. record { objects = S.contents a.store; key = a.key; input = a.input; audio = a.audio } };
 
     ghost invariant = { λ a. CanRun a.index (S.contents a.store) a.levels × (kind_in (S.contents a.store) a.working_set ≡ Some kinds.WorkingSet)
         × HasMarks (S.contents a.store) a.are_marked a.all_marked a.marks.items
@@ -112,7 +113,7 @@ impl<S: Store> Live<S> {
     /// A working set with the objects of an accepted pool. No key is held, and no input is selected. `OutOfMemory` if an
     /// allocation is refused.
     pub fn new(alloc: Global, accepted: &Accepted) -> Result<Live<S>, AllocError>
-        ensures { IfOk result (λ live. live ≡ record { objects = map_of accepted.now; key = None; input = None }) }
+        ensures { IfOk result (λ live. live ≡ fresh_set (map_of accepted.now)) }
     {
         let store = S::from_objects(alloc, accepted.objects())?;
         let levels = Levels::of_store(alloc, &store)?;
@@ -132,7 +133,7 @@ impl<S: Store> Live<S> {
     ) -> Result<Live<S>, AllocError>
         requires runs { CanRun index (S.contents store) levels }
         requires set { kind_in (S.contents store) working_set ≡ Some kinds.WorkingSet }
-        ensures { IfOk result (λ live. live ≡ record { objects = S.contents store; key = None; input = None }) }
+        ensures { IfOk result (λ live. live ≡ fresh_set (S.contents store)) }
     {
         let marks = Vec::from_elem(alloc, false, store.count())?;
         Ok(Live {
@@ -219,7 +220,9 @@ impl<S: Store> Live<S> {
     }
 
     /// The audio commands that are done, by the implement and in macros. An update of the pool keeps them.
-    pub fn audio(&self) -> Audio {
+    pub fn audio(&self) -> Audio
+        ensures { result ≡ self.now.audio }
+    {
         self.audio
     }
 
@@ -228,7 +231,8 @@ impl<S: Store> Live<S> {
     /// runs the macro itself.
     pub fn raise(&mut self, id: ObjectId, event: u8) -> u32
         ensures run { HasRun self.old.objects (event_commands (shape_in self.old.objects) (listing id event)) (budget (shape_in self.old.objects) id event) result self.new.objects }
-        ensures kept { self.new ≡ with_objects self.old self.new.objects }
+        ensures kept { self.new ≡ after_run self.old self.new.objects self.new.audio }
+        ensures audio { self.new.audio ≡ audio_after (budget (shape_in self.old.objects) id event) self.old.audio self.old.objects (event_commands (shape_in self.old.objects) (listing id event)) }
     {
         self.are_marked &= self.index.is_quiet_at(id, event);
         raise(
@@ -295,7 +299,8 @@ impl<S: Store> Live<S> {
     /// terminal handles it.
     pub fn apply(&mut self, command: &Command<'_>) -> Outcome
         ensures applied { Applied self.old.objects command.now result self.new.objects }
-        ensures kept { self.new ≡ with_objects self.old self.new.objects }
+        ensures kept { self.new ≡ after_run self.old self.new.objects self.new.audio }
+        ensures audio { self.new.audio ≡ audio_after_command command.now self.old }
     {
         self.are_marked &= self.keeps_look(command);
         let raised = events_of(&self.store, command);
@@ -339,7 +344,7 @@ impl<S: Store> Live<S> {
 impl Live<SortedStore> {
     /// Like `new`, but takes over the verifier's results: copies no object and searches no chain again.
     pub fn from_accepted(alloc: Global, accepted: Accepted) -> Result<Live<SortedStore>, AllocError>
-        ensures { IfOk result (λ live. live ≡ record { objects = map_of accepted; key = None; input = None }) }
+        ensures { IfOk result (λ live. live ≡ fresh_set (map_of accepted)) }
     {
         let commands = Index::of_commands(alloc, &accepted)?;
         let order = Vec::from_slice(alloc, accepted.by_rank())?;

@@ -9,10 +9,12 @@ use Rattle.vt_verify.specs.Macros.{commands}
 use Rattle.vt_verify.specs.Budgets.{MacroCostsAreTotals, cost, command_cost}
 use Rattle.vt_verify.specs.Rules.{IsVerified, IsWithinBudget, working_sets}
 use Rattle.vt_chains.specs.Limits.{terminal}
+use Rattle.vt_macros.specs.declared.audio.Audio.{Audio}
 use Rattle.vt_macros.specs.declared.index.Index.{Index}
 use Rattle.vt_macros.specs.declared.index.Span.{Span}
 use Rattle.vt_chains.specs.declared.levels.Levels.{Levels}
 use Rattle.vt_chains.specs.Certificates.{AreLevels}
+use Rattle.vt_macros.specs.AudioOfRuns.{audio_after}
 use Rattle.vt_macros.specs.Indexes.{IsIndexOf, command_in}
 use Rattle.vt_macros.specs.Machines.{fault, run}
 use Rattle.vt_effects.specs.Soundness.{shape_in}
@@ -39,11 +41,17 @@ pub record CanRun (index : Index) (store : ObjectMap) (levels : Levels) : Type 0
 abbrev pub StepsLead : ObjectMap → List Command → ℕ → ObjectMap → List Command → Type 0
 StepsLead old front steps new next = (rest : List Command) (left : ℕ) → run (steps + left) old (front ++ rest) ≡ run left new (next ++ rest)
 
+-- Over these steps, the audio commands that are done become `new_audio`.
+abbrev pub StepsSound : ObjectMap → Audio → List Command → ℕ → ObjectMap → Audio → List Command → Type 0
+StepsSound old audio front steps new new_audio next =
+    (rest : List Command) (left : ℕ) → audio_after (steps + left) audio old (front ++ rest) ≡ audio_after left new_audio new (next ++ rest)
+
 -- commands have run, in at most `most` steps
-pub record HaveRun (index : Index) (old : ObjectMap) (front : List Command) (most steps : ℕ) (new : ObjectMap) (levels : Levels) : Type 0 where
+pub record HaveRun (index : Index) (old : ObjectMap) (audio : Audio) (front : List Command) (most steps : ℕ) (new : ObjectMap) (new_audio : Audio) (levels : Levels) : Type 0 where
   pub can : CanRun index new levels
   pub shape : shape_in new ≡ shape_in old
   pub leads : StepsLead old front steps new []
+  pub sounds : StepsSound old audio front steps new new_audio []
   pub within : steps ≤ most
 
 -- the command at a span of the macros' bytes, as a list
@@ -56,8 +64,9 @@ cost_on_store store command = command_cost (cost (shape_in store)) (shape_in sto
 
 -- ---- a loop that runs the parts of a list one after the other, from an index on
 
-pub record AreRunning {A : Type 0} (index : Index) (old : ObjectMap) (front : A → List Command) (most : A → ℕ) (parts : List A) (place steps : ℕ) (now : ObjectMap) (levels : Levels) : Type 0 where
+pub record AreRunning {A : Type 0} (index : Index) (old : ObjectMap) (audio : Audio) (front : A → List Command) (most : A → ℕ) (parts : List A) (place steps : ℕ) (now : ObjectMap) (now_audio : Audio) (levels : Levels) : Type 0 where
   pub can : CanRun index now levels
   pub shape : shape_in now ≡ shape_in old
   pub leads : StepsLead old (flat_map front parts) steps now (flat_map front (drop place parts))
+  pub sounds : StepsSound old audio (flat_map front parts) steps now now_audio (flat_map front (drop place parts))
   pub within : steps + sum_by most (drop place parts) ≤ sum_by most parts

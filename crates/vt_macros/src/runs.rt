@@ -27,7 +27,7 @@ pub fn raise_all<S: Store>(
 ) -> u32
     requires can { CanRun index.now (S.contents store.old) levels.old }
     requires small { total_budget (shape_in (S.contents store.old)) raised.now < 2 ^ 32 }
-    ensures { HaveRun index.now (S.contents store.old) (joined_all (shape_in (S.contents store.old)) raised.now) (total_budget (shape_in (S.contents store.old)) raised.now) result (S.contents store.new) levels.new }
+    ensures { HaveRun index.now (S.contents store.old) audio.old (joined_all (shape_in (S.contents store.old)) raised.now) (total_budget (shape_in (S.contents store.old)) raised.now) result (S.contents store.new) audio.new levels.new }
 {
     let mut steps = 0u32;
     for event in raised {
@@ -47,7 +47,7 @@ pub fn raise<S: Store>(
     event: u8,
 ) -> u32
     requires { CanRun index.now (S.contents store.old) levels.old }
-    ensures { HaveRun index.now (S.contents store.old) (event_commands (shape_in (S.contents store.old)) (listing id event)) (budget (shape_in (S.contents store.old)) id event) result (S.contents store.new) levels.new }
+    ensures { HaveRun index.now (S.contents store.old) audio.old (event_commands (shape_in (S.contents store.old)) (listing id event)) (budget (shape_in (S.contents store.old)) id event) result (S.contents store.new) audio.new levels.new }
 {
     let mut steps = 0u32;
     for macro_id in index.macros_at(id, event) {
@@ -66,7 +66,7 @@ fn run_macro<S: Store>(
     id: u8,
 ) -> u32
     requires { CanRun index.now (S.contents store.old) levels.old }
-    ensures { HaveRun index.now (S.contents store.old) (commands (shape_in (S.contents store.old)) id) (cost (shape_in (S.contents store.old)) id) result (S.contents store.new) levels.new }
+    ensures { HaveRun index.now (S.contents store.old) audio.old (commands (shape_in (S.contents store.old)) id) (cost (shape_in (S.contents store.old)) id) result (S.contents store.new) audio.new levels.new }
 {
     let mut steps = 0u32;
     for piece in index.pieces(id) {
@@ -87,7 +87,7 @@ fn run_piece<S: Store>(
     requires can { CanRun index.now (S.contents store.old) levels.old }
     requires fault { AllByRecursion (λ command. fault (shape_in (S.contents store.old)) command ≡ None) (commands_at index.now piece.now) }
     requires small { sum_by (cost_on_store (S.contents store.old)) (commands_at index.now piece.now) < 2 ^ 32 }
-    ensures { HaveRun index.now (S.contents store.old) (commands_at index.now piece.now) (sum_by (cost_on_store (S.contents store.old)) (commands_at index.now piece.now)) result (S.contents store.new) levels.new }
+    ensures { HaveRun index.now (S.contents store.old) audio.old (commands_at index.now piece.now) (sum_by (cost_on_store (S.contents store.old)) (commands_at index.now piece.now)) result (S.contents store.new) audio.new levels.new }
 {
     match index.command(piece) {
         Some(command) => take(index, store, levels, audio, &command),
@@ -108,7 +108,7 @@ fn take<S: Store>(
     requires can { CanRun index.now (S.contents store.old) levels.old }
     requires fault { fault (shape_in (S.contents store.old)) command.now ≡ None }
     requires small { cost_on_store (S.contents store.old) command.now < 2 ^ 32 }
-    ensures { HaveRun index.now (S.contents store.old) (command.now ∷ []) (cost_on_store (S.contents store.old) command.now) result (S.contents store.new) levels.new }
+    ensures { HaveRun index.now (S.contents store.old) audio.old (command.now ∷ []) (cost_on_store (S.contents store.old) command.now) result (S.contents store.new) audio.new levels.new }
 {
     let raised = events_of(store, command);
     match execute(store, levels, command) {

@@ -3,7 +3,7 @@
 ghost use Rattle.std.specs.Prelude.{◌≡◌, ◌≤◌, Some, IfNone, length};
 ghost use Rattle.vt_can.specs.lines.Actions.{action_value};
 ghost use Rattle.vt_machine.specs.Replacements.{AreReplacements};
-ghost use Rattle.vt_machine.specs.SetStates.{Applied, with_objects};
+ghost use Rattle.vt_machine.specs.SetStates.{Applied, after_run, audio_after_command};
 ghost use Rattle.vt_server.specs.message.Judgements.{with_replaced};
 ghost use Rattle.vt_server.specs.operator.ActionContracts.{Performs, WouldBeRefused};
 ghost use Rattle.vt_server.specs.state.AddressViews.{raised_on};
@@ -55,7 +55,8 @@ impl HeldPool {
     /// Does a command, and runs the macros of the events that it raises.
     pub(crate) fn apply(&mut self, command: &Command<'_>) -> Outcome
         ensures applied { Applied self.old.objects command.now result self.new.objects }
-        ensures kept { self.new ≡ with_objects self.old self.new.objects }
+        ensures kept { self.new ≡ after_run self.old self.new.objects self.new.audio }
+        ensures audio { self.new.audio ≡ audio_after_command command.now self.old }
     {
         self.live.apply(command)
     }

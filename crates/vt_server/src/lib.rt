@@ -27,6 +27,7 @@ mod upload_end;
 pub use input::Input;
 pub use output::{OperatorFault, Output};
 pub use sets::Progress;
+pub use shown::ShownMasks;
 pub use terminal::{RunFault, Terminal};
 pub use upload_end::{BrokenRule, UploadEnd};
 pub use vt_machine::OperatorRefusal;

@@ -71,8 +71,8 @@ impl Terminal {
         }
     }
 
-    /// How the upload ended, if the last frame ended one. It says nothing where that frame ended none: then no reply to End of Object Pool
-    /// was sent.
+    /// How the upload ended that the last frame ended. Right only after a frame that ended one, to which the reply to End of Object Pool was
+    /// sent; otherwise it may be that of an earlier frame.
     pub fn upload_end(&self) -> Option<UploadEnd>
         ensures { result ≡ upload_end self.now }
     {

@@ -26,12 +26,15 @@ pub(crate) struct Alarm {
     pub(crate) priority: u8,
 }
 
-/// The display: the shown working set, its active mask, and the soft key mask of that mask.
+/// What is shown, as the status message says it. Without a shown set the address is 254, and the IDs are NULL.
 #[derive(Clone, Copy, PartialEq, Eq)]
-pub(crate) struct ShownMasks {
-    pub(crate) address: u8,
-    pub(crate) mask: ObjectId,
-    pub(crate) soft_keys: ObjectId,
+pub struct ShownMasks {
+    /// The address of the shown set.
+    pub address: u8,
+    /// Its active mask.
+    pub mask: ObjectId,
+    /// The soft key mask of that mask.
+    pub soft_keys: ObjectId,
 }
 
 impl Terminal {
@@ -100,8 +103,8 @@ impl Terminal {
         Some((address, live))
     }
 
-    /// The current display.
-    pub(crate) fn display(&self) -> ShownMasks
+    /// What is shown.
+    pub fn display(&self) -> ShownMasks
         ensures { display_value result ≡ choosing.display (state_of self.now) }
     {
         match self.shown_pool() {

@@ -42,7 +42,7 @@ pub struct Terminal {
     pub(crate) redraws: bool,
     // The latest time so far, in microseconds.
     pub(crate) time: u64,
-    // How the upload ended that the last frame ended, if it ended one.
+    // How the upload ended that the last frame ended. Right only if it ended one.
     pub(crate) upload_end: Option<UploadEnd>,
 }
 

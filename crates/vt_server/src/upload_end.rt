@@ -21,7 +21,7 @@ pub enum UploadEnd {
 /// A rule that the objects of an upload break. docs/PROFILE.md, "Verification of a pool".
 #[derive(Clone, Copy, PartialEq, Eq)]
 pub struct BrokenRule {
-    /// The number of the rule, 1 to 12.
+    /// The number of the rule, 1 to 12; want of memory is told as an error, never as a rule.
     pub rule: u8,
     /// The offset of a command in its macro, with the rules 7 and 10, or else 0.
     pub at: usize,

@@ -131,7 +131,11 @@ FitsAfterTimeouts s t notice frame ready = FitsFrame s t notice frame (HasUpload
 -- how an upload ends by the work done in advance
 abbrev pub end_prepared : PreparedFrame → Option UploadEnd
 end_prepared (readies.Prepared (uploads.End judgement)) = Some (end_of judgement)
-end_prepared ready = None
+end_prepared (readies.Prepared uploads.Nothing) = None
+end_prepared (readies.Prepared uploads.Capacity) = None
+end_prepared (readies.Prepared (uploads.Piece piece)) = None
+end_prepared readies.Loses = None
+end_prepared (readies.Claimed former) = None
 
 -- ---- contracts of the calls
 

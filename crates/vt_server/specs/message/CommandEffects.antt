@@ -1,6 +1,6 @@
 -- The effect of a command on the pool of its working set (docs/PROFILE.md, "Commands: form, tests, error byte and events",
 -- "Runs").
-use Rattle.std.specs.Prelude.{ℕ, Bool, true, false, if◌then◌else◌, List, Option, Some, None, Result, Ok, Err}
+use Rattle.std.specs.Prelude.{ℕ, Bool, true, false, if◌then◌else◌, List, Option, Some, Result, Ok, Err}
 use Rattle.std.specs.Option.{option_map}
 use Rattle.vt_commands.specs.declared.command.Command.{Command}
 use Rattle.vt_commands.specs.declared.command.Command.TheVariants.{DeletePool}
@@ -9,13 +9,9 @@ use Rattle.vt_stores.specs.Stores.{ObjectMap}
 use Rattle.vt_machine.specs.declared.live.Outcome.{Outcome}
 use Rattle.vt_machine.specs.declared.live.Outcome.TheVariants.{Done, Refused}
 use Rattle.vt_effects.specs.Effects.{effect}
-use Rattle.vt_machine.specs.SetStates.{SetState, with_objects}
+use Rattle.vt_machine.specs.SetStates.{SetState, after_run, audio_after_command}
 use Rattle.vt_server.specs.state.AddressStates.{SetPool, no_content}
 use Rattle.vt_macros.specs.Machines.{store_of, run_of, events_of}
-
--- a pool without a held key and without a selected input
-abbrev pub fresh_set : ObjectMap → SetState
-fresh_set objects = record { objects = objects; key = None; input = None }
 
 -- The objects after a command: if it is done, after the macros of its events; if it is refused, unchanged.
 abbrev pub after_done : ObjectMap → List Raised → Result ObjectMap ℕ → ObjectMap
@@ -34,7 +30,7 @@ abbrev pub error_of : Command → SetState → ℕ
 error_of command state = error_in (effect state.objects command)
 
 abbrev pub state_after : Command → SetState → SetState
-state_after command state = with_objects state (objects_after command state.objects)
+state_after command state = after_run state (objects_after command state.objects) (audio_after_command command state)
 
 -- the error byte of a command's outcome
 abbrev pub bits_of : Outcome → ℕ

@@ -1,5 +1,5 @@
 -- How the upload of a set ended, and what is told of it (docs/PROFILE.md, "End of Object Pool (12)", "Verification of a pool").
-use Rattle.std.specs.Prelude.{◌≡◌, ℕ, Bool, true, false, slice_index, List, Option, Some, None}
+use Rattle.std.specs.Prelude.{◌≡◌, ℕ, Bool, true, false, slice_index, Option, Some}
 use Rattle.vt_can.specs.declared.frames.frame.Frame.{Frame}
 use Rattle.vt_can.specs.frames.Frame.{source_of}
 use Rattle.vt_names.specs.Registry.{set_at}

@@ -15,8 +15,7 @@ use Rattle.vt_verify.specs.Rules as rules
 use Rattle.vt_verify.specs.Rules.{IsVerified, IsRefused}
 use Rattle.vt_chains.specs.Limits.{terminal}
 use Rattle.vt_verify.specs.Updates.{updated}
-use Rattle.vt_machine.specs.SetStates.{SetState, renewed}
-use Rattle.vt_server.specs.message.CommandEffects.{fresh_set}
+use Rattle.vt_machine.specs.SetStates.{SetState, fresh_set, renewed}
 use Rattle.vt_server.specs.state.AddressStates.{SetPool}
 
 -- the verdict on an upload: the new objects of the set, or the fault or refusal that leaves its pool unchanged
@@ -87,11 +86,18 @@ refused_pool parent object code = end_of_pool 1 parent object code
 abbrev pub fault_code : PoolFault → ℕ
 fault_code (faults.UnknownType at) = 1
 fault_code (faults.LeftOutType at) = 1
-fault_code _ = 4
+fault_code (faults.Truncated at) = 4
+fault_code (faults.Scale at) = 4
+fault_code (faults.Decimals at) = 4
+fault_code (faults.OutOfMemory at) = 4
+fault_code (faults.NullId at) = 4
 
 abbrev pub refusal_reply : Refusal → List ℕ
+refusal_reply refusals.NoWorkingSet = refused_pool null_id null_id 4
+refusal_reply refusals.TwoWorkingSets = refused_pool null_id null_id 4
 refusal_reply (refusals.Missing parent id) = refused_pool parent id 2
 refusal_reply (refusals.WrongKind parent id) = refused_pool parent id 4
+refusal_reply (refusals.TooDeep chain) = refused_pool null_id null_id 4
 refusal_reply (refusals.MacroBytes id) = refused_pool null_id id 4
 refusal_reply (refusals.MacroCommand id at) = refused_pool null_id id 4
 refusal_reply (refusals.MacroMissing parent id) = refused_pool parent id 2
@@ -99,7 +105,7 @@ refusal_reply (refusals.MacroKind parent id) = refused_pool parent id 4
 refusal_reply (refusals.MacroValue id at) = refused_pool null_id id 4
 refusal_reply (refusals.MacroCircle path) = refused_pool null_id (slice_index path.items 0) 4
 refusal_reply (refusals.OverBudget id) = refused_pool null_id id 4
-refusal_reply _ = refused_pool null_id null_id 4
+refusal_reply refusals.OutOfMemory = refused_pool null_id null_id 4
 
 abbrev pub end_reply : Verdict → List ℕ
 end_reply (Accepts objects) = end_of_pool 0 null_id null_id 0

@@ -8,8 +8,9 @@ use Rattle.vt_can.specs.transport.Messages as transport
 use Rattle.vt_transport.specs.Wire.{rts_frame}
 use Rattle.vt_machine.specs.declared.operator.OperatorRefusal.{OperatorRefusal}
 use Rattle.vt_machine.specs.OperatorEntries.{enter_number, enter_text}
-use Rattle.vt_machine.specs.SetStates.{SetState, with_objects}
+use Rattle.vt_machine.specs.SetStates.{SetState, after_run}
 use Rattle.vt_machine.specs.SetStates.{active_in}
+use Rattle.vt_macros.specs.AudioOfRuns.{audio_of_run}
 use Rattle.vt_macros.specs.Machines.{run_of, store_of}
 use Rattle.vt_machine.specs.OperatorActions as operating
 use Rattle.vt_machine.specs.OperatorActions.{press, release, select}
@@ -70,4 +71,4 @@ sending_after now bytes sending =
 -- ---- the change by an action: its own change, then the macros of its events
 
 abbrev pub ran : SetState → List Raised → SetState
-ran start raised = with_objects start (store_of (run_of start.objects raised))
+ran start raised = after_run start (store_of (run_of start.objects raised)) (audio_of_run start.audio start.objects raised)

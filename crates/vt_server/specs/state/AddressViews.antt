@@ -9,12 +9,11 @@ use Rattle.vt_names.specs.Registry.{Set, mastered, has_place, with_member, prelo
 use Rattle.vt_stores.specs.Stores.{ObjectMap}
 use Rattle.vt_verify.specs.Triggers.{listing}
 use Rattle.vt_verify.specs.Budgets.{budget}
-use Rattle.vt_machine.specs.SetStates.{SetState, with_objects}
-use Rattle.vt_machine.specs.SetStates.{working_set_in}
+use Rattle.vt_machine.specs.SetStates.{SetState, after_run, fresh_set, working_set_in}
+use Rattle.vt_macros.specs.AudioOfRuns.{audio_after}
 use Rattle.vt_macros.specs.Machines.{event_commands, run, store_of}
 use Rattle.vt_effects.specs.Soundness.{shape_in}
 use Rattle.vt_machine.specs.OperatorActions as operating
-use Rattle.vt_server.specs.message.CommandEffects.{fresh_set}
 use Rattle.vt_server.specs.message.MessageEffects.{Handled, handled}
 use Rattle.vt_node.specs.Messages.{message_to}
 use Rattle.vt_node.specs.declared.profile.Profile.{Profile}
@@ -145,7 +144,9 @@ after_operator now address p action shown (Some state) = after_action now addres
 abbrev pub raised_on : SetState → ℕ → SetState
 raised_on state event =
     let shape = shape_in state.objects in let event_of = listing (working_set_in state.objects) event in
-    with_objects state (store_of (run (budget shape (working_set_in state.objects) event) state.objects (event_commands shape event_of)))
+    let steps = budget shape (working_set_in state.objects) event in
+    after_run state (store_of (run steps state.objects (event_commands shape event_of)))
+    (audio_after steps state.audio state.objects (event_commands shape event_of))
 
 -- ---- the outcome of a happening
 

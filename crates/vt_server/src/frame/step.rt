@@ -255,6 +255,10 @@ fn end_of(ready: &PreparedFrame) -> Option<UploadEnd>
 {
     match ready {
         PreparedFrame::Prepared(PreparedMessage::End(judgement)) => Some(judgement.end()),
-        _ => None,
+        PreparedFrame::Prepared(
+            PreparedMessage::Nothing | PreparedMessage::Capacity | PreparedMessage::Piece(_),
+        )
+        | PreparedFrame::Loses
+        | PreparedFrame::Claimed(_) => None,
     }
 }

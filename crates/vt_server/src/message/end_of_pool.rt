@@ -117,7 +117,10 @@ fn fault_reply(fault: PoolFault) -> Result<[u8; 8], OutOfMemory>
     let code = match fault {
         PoolFault::OutOfMemory { .. } => return Err(AllocError),
         PoolFault::UnknownType { .. } | PoolFault::LeftOutType { .. } => 1,
-        _ => 4,
+        PoolFault::Truncated { .. }
+        | PoolFault::Scale { .. }
+        | PoolFault::Decimals { .. }
+        | PoolFault::NullId { .. } => 4,
     };
     Ok(refused(ObjectId::NULL, ObjectId::NULL, code))
 }
@@ -146,7 +149,9 @@ fn refusal_reply(refusal: &Refusal) -> Result<[u8; 8], OutOfMemory>
             first_of_circle(path.as_slice()),
             4,
         ),
-        _ => refused(ObjectId::NULL, ObjectId::NULL, 4),
+        Refusal::NoWorkingSet | Refusal::TwoWorkingSets | Refusal::TooDeep { .. } => {
+            refused(ObjectId::NULL, ObjectId::NULL, 4)
+        }
     })
 }
 

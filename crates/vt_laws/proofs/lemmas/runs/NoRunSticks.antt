@@ -25,7 +25,9 @@ use Rattle.vt_machine.specs.declared.operator.OperatorRefusal.TheVariants as ref
 use Rattle.vt_effects.specs.Changes.{left}
 use Rattle.vt_effects.specs.Effects.{effect, after}
 use Rattle.vt_machine.specs.OperatorEntries.{EntriesKeepOrder, EntriesKeepShapes, number_entered, number_place, put_at, with_number, with_text, text_entered, text_place}
-use Rattle.vt_machine.specs.SetStates.{SetState, active_in, with_objects, working_set_in}
+use Rattle.vt_macros.specs.declared.audio.Audio.{Audio}
+use Rattle.vt_macros.specs.AudioOfRuns.{audio_of_run}
+use Rattle.vt_machine.specs.SetStates.{SetState, active_in, after_run, audio_after_command, with_objects, working_set_in}
 use Rattle.vt_macros.specs.Machines.{End, total_budget, events_of, event_commands, run, run_of, store_of}
 use Rattle.vt_effects.specs.Soundness.{shape_in}
 use Rattle.vt_machine.specs.OperatorActions as operating
@@ -129,6 +131,9 @@ module _ (laws : Laws) (last : Option ObjectMap) where
   with-ready : (state : SetState) (objects : ObjectMap) (is : IsPoolInForce last state) → IsReady is.accepted objects → IsPoolInForce last (with_objects state objects)
   with-ready state objects is ready = record { accepted = is.accepted; is_last = is.is_last; verified = is.verified; ready = ready }
 
+  run-ready : (state : SetState) (objects : ObjectMap) (audio : Audio) (is : IsPoolInForce last state) → IsReady is.accepted objects → IsPoolInForce last (after_run state objects audio)
+  run-ready state objects audio is ready = record { accepted = is.accepted; is_last = is.is_last; verified = is.verified; ready = ready }
+
   -- ---- commands
 
   pub middle-ready : (pool : Objects) (old : ObjectMap) (command : Command) (middle : ObjectMap) → effect old command ≡ Ok middle → IsReady pool old → IsReady pool middle
@@ -136,16 +141,16 @@ module _ (laws : Laws) (last : Option ObjectMap) where
       let is : after old command ≡ middle = ap (left old) done in
       moved-ready pool old middle (ap shape_in (sym is) ∙ laws.shapes old command) (subst IsSound is (laws.order old command ready.sound)) ready
 
-  done-in-force : (state : SetState) (command : Command) → IsPoolInForce last state → (r : Result ObjectMap ℕ) → effect state.objects command ≡ r
-      → IsPoolInForce last (with_objects state (after_done state.objects (events_of state.objects command) r))
-  done-in-force state command is (Ok middle) done =
+  done-in-force : (state : SetState) (command : Command) (audio : Audio) → IsPoolInForce last state → (r : Result ObjectMap ℕ) → effect state.objects command ≡ r
+      → IsPoolInForce last (after_run state (after_done state.objects (events_of state.objects command) r) audio)
+  done-in-force state command audio is (Ok middle) done =
       let ready = middle-ready is.accepted state.objects command middle done is.ready in
-      with-ready state (store_of (run_of middle (events_of state.objects command))) is (ran-ready is.accepted middle (events_of state.objects command) is.verified ready)
-  done-in-force state command is (Err bits) done = with-ready state state.objects is is.ready
+      run-ready state (store_of (run_of middle (events_of state.objects command))) audio is (ran-ready is.accepted middle (events_of state.objects command) is.verified ready)
+  done-in-force state command audio is (Err bits) done = run-ready state state.objects audio is is.ready
 
   each-done : (command : Command) (o : Option SetState) → IsEach last o → IsEach last (option_map (state_after command) o)
   each-done command None is = tt
-  each-done command (Some state) is = done-in-force state command is (effect state.objects command) refl
+  each-done command (Some state) is = done-in-force state command (audio_after_command command state) is (effect state.objects command) refl
 
   command-keeps : (command : Command) (content : SetPool) → IsEach last content.pool → IsEach last (content_after command content).pool
   command-keeps command content is = cases (deletes command)
@@ -302,7 +307,7 @@ module _ (laws : Laws) (last : Option ObjectMap) where
   acted-keeps now a p (Some (operating.Refused refusal)) is acts = is
   acted-keeps now a p (Some (operating.Acts message start raised)) is acts =
       either-each last (is_busy message p.place.sending) _ _ is
-      (with-ready start (store_of (run_of start.objects raised)) acts.0 (ran-ready acts.0.accepted start.objects raised acts.0.verified acts.0.ready))
+      (run-ready start (store_of (run_of start.objects raised)) (audio_of_run start.audio start.objects raised) acts.0 (ran-ready acts.0.accepted start.objects raised acts.0.verified acts.0.ready))
 
   operator-keeps : (now a : ℕ) (p : AddressView) (action : ActionValue) (shown : Bool) (o : Option SetState) → IsEach last p.place.content.pool → IsEach last o
       → IsEach last (after_operator now a p action shown o).place.content.pool
@@ -316,7 +321,7 @@ module _ (laws : Laws) (last : Option ObjectMap) where
       let shape = shape_in state.objects in
       let set = working_set_in state.objects in
       let raised = raise set e ∷ [] in
-      with-ready state (store_of (run (budget shape set (event_number e)) state.objects (event_commands shape (listing set (event_number e))))) is
+      run-ready state (store_of (run (budget shape set (event_number e)) state.objects (event_commands shape (listing set (event_number e))))) _ is
       (subst (IsReady is.accepted) (sym (one-run state.objects (budget shape set (event_number e)) (event_commands shape (listing set (event_number e)))))
       (ran-ready is.accepted state.objects raised is.verified is.ready))
 

@@ -1,6 +1,5 @@
-use Rattle.std.proofs.Common.{◌≡◌, ℕ, Bool, Option, Some, None, sym, ap, subst, ◌∙◌}
+use Rattle.std.proofs.Common.{Option, Some, sym, ap, ◌∙◌}
 use Rattle.std.specs.Option.{option_map}
-use Rattle.std.specs.FinMap as finite
 use Rattle.vt_kinds.specs.declared.kind.Kind.{Kind}
 use Rattle.vt_kinds.specs.Records.{Seen, kind_of}
 use Rattle.vt_stores.proofs.ObjectShapes.{seen_kind}

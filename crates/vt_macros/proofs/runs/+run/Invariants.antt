@@ -24,15 +24,15 @@ decreases-take g l = 5 * cost_on_store (g.S.Store.contents l.store.now) l.comman
 
 abbrev pub invariant-raise_all-loop-event : goal.invariant-raise_all-loop-event
 invariant-raise_all-loop-event g l =
-    AreRunning l.index (g.S.Store.contents l.fn.store) (event_front (shape_in (g.S.Store.contents l.fn.store))) (event_most (shape_in (g.S.Store.contents l.fn.store)))
-    l.raised l.event-index l.steps (g.S.Store.contents l.store) l.levels
+    AreRunning l.index (g.S.Store.contents l.fn.store) l.fn.audio (event_front (shape_in (g.S.Store.contents l.fn.store))) (event_most (shape_in (g.S.Store.contents l.fn.store)))
+    l.raised l.event-index l.steps (g.S.Store.contents l.store) l.audio l.levels
 
 abbrev pub invariant-raise-loop-macro_id : goal.invariant-raise-loop-macro_id
 invariant-raise-loop-macro_id g l =
-    AreRunning l.index (g.S.Store.contents l.fn.store) (commands (shape_in (g.S.Store.contents l.fn.store))) (cost (shape_in (g.S.Store.contents l.fn.store)))
-    l.macro_id-items l.macro_id-index l.steps (g.S.Store.contents l.store) l.levels
+    AreRunning l.index (g.S.Store.contents l.fn.store) l.fn.audio (commands (shape_in (g.S.Store.contents l.fn.store))) (cost (shape_in (g.S.Store.contents l.fn.store)))
+    l.macro_id-items l.macro_id-index l.steps (g.S.Store.contents l.store) l.audio l.levels
 
 abbrev pub invariant-run_macro-loop-piece : goal.invariant-run_macro-loop-piece
 invariant-run_macro-loop-piece g l =
-    AreRunning l.index (g.S.Store.contents l.fn.store) (commands_at l.index) (λ piece. sum_by (cost_on_store (g.S.Store.contents l.fn.store)) (commands_at l.index piece))
-    l.piece-items l.piece-index l.steps (g.S.Store.contents l.store) l.levels
+    AreRunning l.index (g.S.Store.contents l.fn.store) l.fn.audio (commands_at l.index) (λ piece. sum_by (cost_on_store (g.S.Store.contents l.fn.store)) (commands_at l.index piece))
+    l.piece-items l.piece-index l.steps (g.S.Store.contents l.store) l.audio l.levels

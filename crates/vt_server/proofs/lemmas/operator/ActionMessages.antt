@@ -35,7 +35,7 @@ use Rattle.vt_names.proofs.AddressesAfterClaim.{none-some}
 -- ---- the effect of a call on the set
 
 acted-is : (start new : SetState) (raised : List Raised) (steps : ℕ) → HasActed start raised steps new → new ≡ ran start raised
-acted-is start new raised steps h = λ i. record { objects = sym (ap store_of h.has_run.ended) i; key = h.key i; input = h.input i }
+acted-is start new raised steps h = λ i. record { objects = sym (ap store_of h.has_run.ended) i; key = h.key i; input = h.input i; audio = h.audio i }
 
 pub refused-is : (p q : SetState) (x : Option ActionResult) (refusal : OperatorRefusal) → Comes p x (Some (Err refusal)) q → (x ≡ Some (Refused refusal)) × (q ≡ p)
 refused-is p q None refusal h = absurd h

@@ -12,7 +12,8 @@ use Rattle.std.specs.FinMap as finite
 use Rattle.vt_kinds.specs.Records.{Seen}
 use Rattle.vt_effects.specs.Effects.{effect}
 use Rattle.vt_effects.specs.Looks.{look, HaveSameLook}
-use Rattle.vt_machine.specs.SetStates.{SetState, with_objects}
+use Rattle.vt_macros.specs.declared.audio.Audio.{Audio}
+use Rattle.vt_machine.specs.SetStates.{SetState, after_run, audio_by}
 use Rattle.vt_macros.specs.Machines.{events_of}
 use Rattle.vt_machine.specs.declared.operator.OperatorRefusal.{OperatorRefusal}
 use Rattle.vt_names.specs.Registry.{Set}
@@ -150,11 +151,16 @@ refused-objects : (old : ObjectMap) (raised : List Raised) (result : Result Obje
 refused-objects old raised (Ok middle) other = absurd (other refl)
 refused-objects old raised (Err bits) other = refl
 
+refused-audio : (audio : Audio) (command : Command) (raised : List Raised) (result : Result ObjectMap ℕ) → error_in result ≢ 0 → audio_by audio command raised result ≡ audio
+refused-audio audio command raised (Ok middle) other = absurd (other refl)
+refused-audio audio command raised (Err bits) other = refl
+
 refused-command : (command : Command) (pool : Option SetState) → option_map (error_of command) pool ≢ Some 0 → option_map (state_after command) pool ≡ pool
 refused-command command None other = refl
 refused-command command (Some state) other =
-    ap (λ (objects : ObjectMap). Some (with_objects state objects))
-    (refused-objects state.objects (events_of state.objects command) (effect state.objects command) (λ h. other (ap Some h)))
+    let objects = refused-objects state.objects (events_of state.objects command) (effect state.objects command) (λ h. other (ap Some h)) in
+    let audio = refused-audio state.audio command (events_of state.objects command) (effect state.objects command) (λ h. other (ap Some h)) in
+    λ i. Some (after_run state (objects i) (audio i))
 
 pub command-same : (command : Command) (content : SetPool) → error_after command content.pool ≢ Some 0 → (content_after command content).pool ≡ content.pool
 command-same command content other = cases (deletes command) other

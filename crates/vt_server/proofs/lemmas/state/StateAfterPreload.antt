@@ -4,7 +4,7 @@ use Rattle.std.specs.FinMap as finite
 use Rattle.vt_machine.specs.SetStates.{SetState}
 use Rattle.vt_names.specs.Registry.{Set, with_set, preloaded}
 use Rattle.vt_stores.specs.Stores.{ObjectMap}
-use Rattle.vt_server.specs.message.CommandEffects.{fresh_set}
+use Rattle.vt_machine.specs.SetStates.{fresh_set}
 use Rattle.vt_node.specs.Nodes.{NodeState}
 use Rattle.vt_server.specs.state.AddressViews.{Preloads}
 use Rattle.vt_server.specs.state.AddressStates.{SetPool, AddressState}

@@ -1,9 +1,9 @@
 use Rattle.std.proofs.Common.{◌∙◌, ◌+◌, ap, subst, sym}
 use Rattle.vt_stores.specs.Stores.{ObjectMap}
 use Rattle.vt_macros.specs.QuietMacros.{KeepsLook}
-use Rattle.vt_machine.specs.SetStates.{IsDone}
+use Rattle.vt_machine.specs.SetStates.{IsDone, audio_after_command}
 use Rattle.vt_machine.proofs.MarksKept.{done_same, marks_kept, refused_same}
-use Rattle.vt_machine.proofs.StateBeforeAndAfter.{key_stays, after_shape, events_small, is_done, kind_stays}
+use Rattle.vt_machine.proofs.StateBeforeAndAfter.{key_stays, after_shape, done_audio, events_small, is_done, kind_stays, refused_audio}
 use Rattle.vt_macros.proofs.StoreOfNestedRuns.{after_can}
 use Rattle.vt_machine.proofs.live.Live.apply.Goals as goal
 
@@ -20,8 +20,20 @@ pub returns-in-Ok-clause-applied : goal.returns-in-Ok-clause-applied
 returns-in-Ok-clause-applied g c =
     subst (λ (o : ObjectMap). IsDone o c.args.command.now (c.raise_all-steps.result + 1) (g.S.Store.contents c.raise_all-steps.new.store)) (ap (λ s. s.objects) c.self.view_is)
     (is_done c.self.inside.index (g.S.Store.contents c.self.inside.store) (g.S.Store.contents c.execute.new.store) (g.S.Store.contents c.raise_all-steps.new.store)
-    c.execute.new.levels c.raise_all-steps.new.levels c.args.command.now c.deref.result.now c.raise_all-steps.result (c.deref.ensures.0 ∙ c.events_of-raised.ensures)
+    c.note.new.self c.raise_all-steps.new.audio c.execute.new.levels c.raise_all-steps.new.levels c.args.command.now c.deref.result.now c.raise_all-steps.result (c.deref.ensures.0 ∙ c.events_of-raised.ensures)
     c.in-Ok.ensures.result c.execute.ensures.objects c.raise_all-steps.ensures)
+
+pub returns-in-Ok-clause-audio : goal.returns-in-Ok-clause-audio
+returns-in-Ok-clause-audio g c =
+    done_audio c.self.inside.index (g.S.Store.contents c.self.inside.store) (g.S.Store.contents c.execute.new.store) (g.S.Store.contents c.raise_all-steps.new.store)
+    c.self.inside.audio c.note.new.self c.raise_all-steps.new.audio c.raise_all-steps.new.levels c.args.command.now c.deref.result.now c.raise_all-steps.result
+    c.note.ensures (c.deref.ensures.0 ∙ c.events_of-raised.ensures) c.in-Ok.ensures.result c.execute.ensures.objects c.raise_all-steps.ensures
+    ∙ ap (audio_after_command c.args.command.now) c.self.view_is
+
+pub returns-in-Err-clause-audio : goal.returns-in-Err-clause-audio
+returns-in-Err-clause-audio g c =
+    refused_audio (g.S.Store.contents c.self.inside.store) c.self.inside.audio c.args.command.now c.in-Err.bits c.in-Err.ensures.result
+    ∙ ap (audio_after_command c.args.command.now) c.self.view_is
 
 pub invariant_of-self : goal.invariant_of-self
 invariant_of-self g c = (
@@ -35,7 +47,7 @@ invariant_of-self g c = (
       c.self.invariant.0.working_set c.self.invariant.1
       (λ yes. done_same (g.S.Store.contents c.self.inside.store) (g.S.Store.contents c.raise_all-steps.new.store) c.args.command.now (c.raise_all-steps.result + 1)
       (subst (λ (o : ObjectMap). KeepsLook o c.args.command.now) (sym (ap (λ s. s.objects) c.self.view_is)) (c.keeps_look.ensures yes)) (is_done c.self.inside.index (g.S.Store.contents c.self.inside.store) (g.S.Store.contents c.execute.new.store) (g.S.Store.contents c.raise_all-steps.new.store)
-      c.execute.new.levels c.raise_all-steps.new.levels c.args.command.now c.deref.result.now c.raise_all-steps.result (c.deref.ensures.0 ∙ c.events_of-raised.ensures)
+      c.note.new.self c.raise_all-steps.new.audio c.execute.new.levels c.raise_all-steps.new.levels c.args.command.now c.deref.result.now c.raise_all-steps.result (c.deref.ensures.0 ∙ c.events_of-raised.ensures)
       c.in-Ok.ensures.result c.execute.ensures.objects c.raise_all-steps.ensures))
       c.self.invariant.2,
   key_stays (g.S.Store.contents c.self.inside.store) (g.S.Store.contents c.raise_all-steps.new.store) c.self.inside.key

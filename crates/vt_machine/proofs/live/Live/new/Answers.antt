@@ -1,7 +1,7 @@
-use Rattle.std.proofs.Common.{◌≡◌, None, IfOk, ap, subst, ◌∙◌}
+use Rattle.std.proofs.Common.{◌≡◌, IfOk, ap, subst, ◌∙◌}
 use Rattle.vt_stores.specs.Stores.{ObjectMap}
 use Rattle.vt_effects.specs.Effects.{kind_in}
-use Rattle.vt_machine.specs.SetStates.{SetState}
+use Rattle.vt_machine.specs.SetStates.{SetState, fresh_set}
 use Rattle.vt_machine.proofs.StateBeforeAndAfter.{stored_is, stored_closed, stored_shallow, stored_indexed, stored_runs}
 use Rattle.vt_machine.proofs.live.Live.new.Goals as goal
 
@@ -37,6 +37,6 @@ of_parts-requires-clause-set g c =
 
 pub returns : goal.returns
 returns g c =
-    subst (λ (m : ObjectMap). IfOk c.of_parts.result (λ (live : SetState). live ≡ record { objects = m; key = None; input = None }))
+    subst (λ (m : ObjectMap). IfOk c.of_parts.result (λ (live : SetState). live ≡ fresh_set m))
     (c.in_ok-store.ensures ∙ stored_is c.objects.result.now c.args.accepted.now c.objects.ensures.all c.objects.ensures.stored)
     c.of_parts.ensures

@@ -21,7 +21,7 @@ invariant_of-self g c = (
       (quiet_runs_keep_looks (g.S.Store.contents c.self.inside.store) c.self.inside.index.quiet.items c.args.raised.now c.self.invariant.0.indexed.quiet_are
       (sym (all_known_quiet (shape_in (g.S.Store.contents c.self.inside.store)) c.self.inside.index c.args.raised.now c.self.invariant.0.indexed) ∙ sym c.are_quiet.ensures ∙ yes)
       (total_budget (shape_in (g.S.Store.contents c.self.inside.store)) c.args.raised.now))
-      (has_run c.self.inside.index (g.S.Store.contents c.self.inside.store) _ _ c.raise_all.result (g.S.Store.contents c.raise_all.new.store) c.raise_all.new.levels c.raise_all.ensures))
+      (has_run c.self.inside.index (g.S.Store.contents c.self.inside.store) c.self.inside.audio _ _ c.raise_all.result (g.S.Store.contents c.raise_all.new.store) c.raise_all.new.audio c.raise_all.new.levels c.raise_all.ensures))
       c.self.invariant.2,
   key_stays (g.S.Store.contents c.self.inside.store) (g.S.Store.contents c.raise_all.new.store) c.self.inside.key c.raise_all.ensures.shape c.self.invariant.3,
 )
@@ -29,4 +29,5 @@ invariant_of-self g c = (
 pub returns : goal.returns
 returns g c =
     has_acted c.self.inside.index c.args.self.now _ c.args.raised.now c.raise_all.result (g.S.Store.contents c.self.inside.store) (g.S.Store.contents c.raise_all.new.store)
-    c.raise_all.new.levels (ap (λ s. s.objects) c.self.view_is) refl (ap (λ s. s.key) c.self.view_is) (ap (λ s. s.input) c.self.view_is) c.raise_all.ensures
+    c.self.inside.audio c.raise_all.new.levels (ap (λ s. s.objects) c.self.view_is) refl (ap (λ s. s.key) c.self.view_is) (ap (λ s. s.input) c.self.view_is)
+    (ap (λ s. s.audio) c.self.view_is) c.raise_all.ensures

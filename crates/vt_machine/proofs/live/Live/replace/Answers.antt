@@ -36,7 +36,7 @@ returns g c =
     let fits : AreReplacements m entries =
     same_replacements m c.args.self.now.objects entries c.args.replacement (ap (λ (s : SetState). s.objects) c.self.view_is) c.replacement.view_is c.requires in
     let is : n ≡ with_objects_put m entries = c.put_all.ensures in
-    let state : SetState = record { objects = m; key = c.self.inside.key; input = c.self.inside.input } in
+    let state : SetState = record { objects = m; key = c.self.inside.key; input = c.self.inside.input; audio = c.self.inside.audio } in
     renewed_is state n c.kept_input-self-inside.result (ap shape_in is ∙ put_shape m entries fits) c.self.invariant.3 c.kept_input-self-inside.ensures
     ∙ ap (λ (s : SetState). renewed s n) c.self.view_is
     ∙ ap (renewed c.args.self.now)

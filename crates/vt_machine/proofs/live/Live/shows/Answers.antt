@@ -1,4 +1,4 @@
-use Rattle.std.proofs.Common.{◌≡◌, ◌<◌, ◌≤◌, ◌⊎◌, ◌++◌, refl, ℕ, Bool, true, false, List, length, drop, take, get_or, ap, subst, sym, ◌∙◌, arith}
+use Rattle.std.proofs.Common.{◌≡◌, ◌≤◌, ◌⊎◌, refl, ℕ, Bool, true, List, length, drop, get_or, ap, subst, sym, ◌∙◌, arith}
 use Rattle.vt_stores.specs.Stores.{ObjectMap}
 use Rattle.vt_chains.specs.Depths.{ids_of}
 use Rattle.vt_chains.proofs.IdIndices.{stands_of, within}

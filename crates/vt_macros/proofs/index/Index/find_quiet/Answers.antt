@@ -1,6 +1,5 @@
-use Rattle.std.proofs.Common.{◌≡◌, true, sym, subst, ◌∙◌}
+use Rattle.std.proofs.Common.{sym, subst, ◌∙◌}
 use Rattle.vt_effects.specs.Soundness.{shape_in}
-use Rattle.vt_macros.specs.declared.index.Index.{Index}
 use Rattle.vt_macros.specs.Indexes.{IsIndexOf}
 use Rattle.vt_macros.proofs.QuietRuns.{added_is}
 use Rattle.vt_macros.proofs.index.Index.find_quiet.Goals as goal
