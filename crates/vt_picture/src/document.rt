@@ -35,8 +35,8 @@ pub(crate) const GAP: u64 = 8;
 const FARTHEST: u64 = 32_767;
 
 /// Draws a mask with its soft keys as SVG: its elements on its background, and the keys in columns to its right, at most 2,000
-/// elements in all, 32 within each other, and some 12.6 MB. Without an object of that ID nothing is on the picture, and of an object that is
-/// no mask the elements within it are, on no background (ISO 11783-6; docs/PROFILE.md, "Pictures").
+/// elements in all, 32 within each other, and some 12.6 MB. Without an object of that ID nothing is on the picture. Of an object that is no
+/// mask the elements within it are drawn, for a Working Set on its background (ISO 11783-6; docs/PROFILE.md, "Pictures").
 ///
 /// # Errors
 /// `AllocError` when an allocation is refused.

@@ -13,11 +13,13 @@ mod elements;
 mod frame;
 mod listing;
 mod part;
+mod touch;
 mod walk;
 
 pub use document::{draw, picture_size};
-pub use listing::{Bounds, Element, Position, list_elements, touched};
+pub use listing::{Bounds, Element, Position, list_elements};
 pub use part::draw_part;
+pub use touch::touched;
 
 /// A refused allocation.
 pub use std::alloc::AllocError as OutOfMemory;

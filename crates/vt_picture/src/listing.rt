@@ -1,5 +1,5 @@
-//! The elements of a picture as a list, in the order in which they are drawn, and the one at a place. A list holds 2,000 elements, so that
-//! a walk ends soon, however many paths there are.
+//! The elements of a picture as a list, in the order in which they are drawn. A list holds 2,000 elements, so that a walk ends soon, however
+//! many paths there are.
 
 ghost use Rattle.std.specs.Prelude.{◌≡◌, ◌≤◌, ◌<◌, ◌+◌, ◌+ℤ◌, ◌^◌, ◌*◌, ◌-◌, nat_abs, ℕ, pos, Some, None, length, IfOk, OnOk};
 ghost use Rattle.std.specs.FinMap as finite;
@@ -406,40 +406,4 @@ fn list_item<S: Store>(
         }
         None => Ok(()),
     }
-}
-
-/// The key, button or input that is shown at a place of a picture. Of several it is the one drawn last.
-pub fn touched(elements: &[Element], x: i32, y: i32) -> Option<ObjectId>
-    ensures { result ≡ listings.touched x y elements.now }
-{
-    let mut found = None;
-    for element in elements {
-        if is_operated(element.kind) && lies_in(x, y, element.bounds) {
-            found = Some(element.id);
-        }
-    }
-    found
-}
-
-/// Whether a kind is that of a key, a button or an input.
-fn is_operated(kind: u8) -> bool
-    ensures { result ≡ listings.is_operated kind }
-{
-    5 <= kind && kind <= 10
-}
-
-fn lies_in(x: i32, y: i32, bounds: Bounds) -> bool
-    ensures { result ≡ listings.lies_in x y bounds }
-{
-    is_within(bounds.left, x, bounds.right) && is_within(bounds.top, y, bounds.bottom)
-}
-
-/// Whether a number is in a span, before its end.
-fn is_within(from: i32, number: i32, end: i32) -> bool
-    ensures { result ≡ listings.is_within from number end }
-{
-    if number < from {
-        return false;
-    }
-    number < end
 }
