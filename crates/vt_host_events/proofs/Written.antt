@@ -1,8 +1,8 @@
 -- Lists that are written one entry after the other, and the room for them.
-use Rattle.std.proofs.Common.{◌≡◌, ℕ, ◌+◌, ◌*◌, ◌<◌, ◌≤◌, List, [], ◌∷◌, ◌++◌, drop, take, length, map, get_or, Some, Vec, Global, vec_len, vec_capacity, refl, sym, ap, ◌∙◌, arith}
+use Rattle.std.proofs.Common.{◌≡◌, ℕ, ◌+◌, ◌*◌, ◌<◌, ◌≤◌, List, [], ◌∷◌, ◌++◌, drop, take, length, map, get_or, Some, Vec, Global, sym, ap, ◌∙◌, arith}
 use Rattle.std.specs.List.{flat_map}
 use Rattle.std.specs.Prelude.{slice_get}
-use Rattle.std.proofs.lemmas.List.{append_assoc, append-nil, drop_more, at_drop_all, length-append, map-append, take_more}
+use Rattle.std.proofs.lemmas.List.{append_assoc, append-nil, drop_more, at_drop_all, map-append, take_more}
 use Rattle.std.proofs.lemmas.Option.{slice_get-get_or, slice_get_within, get_or_from_slice_get}
 use Rattle.vt_server.specs.Outputs.{HasSpare, UsesAtMost}
 
@@ -34,11 +34,6 @@ map_next f all i entry value before after here is so_far more =
     ∙ ap (λ v. map f (take i all) ++ v ∷ []) (is ∙ sym (ap f at))
     ∙ sym (ap (map f) (take_more all i entry (slice_get_within all i entry here)) ∙ map-append f (take i all) (get_or all i entry ∷ []))
 
-pub length_next : {A B : Type 0} (first firsts : List A) (second seconds : List B) (a : A) (b : B) → firsts ≡ first ++ a ∷ [] → seconds ≡ second ++ b ∷ []
-    → length first ≡ length second → length firsts ≡ length seconds
-length_next first firsts second seconds a b one other same =
-    ap (λ l. length l) one ∙ length-append first (a ∷ []) ∙ ap (λ (n : ℕ). n + 1) same ∙ sym (ap (λ l. length l) other ∙ length-append second (b ∷ []))
-
 -- two entries more, with room for two each
 pub two_more : {E : Type 0} (n i : ℕ) (first before middle after : Vec E Global) → i < n → HasSpare (2 * n) first → UsesAtMost (2 * i) first before
     → UsesAtMost 1 before middle → UsesAtMost 1 middle after → UsesAtMost (2 * (i + 1)) first after
@@ -46,3 +41,10 @@ two_more n i first before middle after less spare so_far one other = omega (arit
 
 pub room_for_two : {E : Type 0} (n i : ℕ) (first before : Vec E Global) → i < n → HasSpare (2 * n) first → UsesAtMost (2 * i) first before → HasSpare 2 before
 room_for_two n i first before less spare so_far = omega (arith, less, spare, so_far)
+
+-- four parts are written one after the other
+pub four_parts : {E : Type 0} (none one two three four a b c d : List E) → none ≡ [] → one ≡ none ++ a → two ≡ one ++ b → three ≡ two ++ c → four ≡ three ++ d
+    → four ≡ a ++ b ++ c ++ d
+four_parts none one two three four a b c d empty first second third fourth =
+    fourth
+    ∙ ap (λ l. l ++ d) (third ∙ ap (λ l. l ++ c) (second ∙ ap (λ l. l ++ b) (first ∙ ap (λ l. l ++ a) empty)))

@@ -1,20 +1,20 @@
 -- What is seen of a terminal before an input and after it (docs/PROFILE.md, "Events for a host").
-use Rattle.std.specs.Prelude.{◌≡◌, ℕ, ◌&&◌, Bool, false, not, max, List, map, Option, Some, None, is_some}
-use Rattle.std.specs.Option.{option_map}
+use Rattle.std.specs.Prelude.{ℕ, ◌&&◌, Bool, false, not, List, map, Option, Some, None, is_some}
 use Rattle.std.specs.FinMap as finite
-use Rattle.vt_can.specs.Assigned.{NULL_ADDRESS}
 use Rattle.vt_can.specs.transport.Sessions.{is_overdue}
-use Rattle.vt_names.specs.Registry.{Set, set_at}
+use Rattle.vt_names.specs.Registry.{set_at}
 use Rattle.vt_node.specs.Watches.{is_silent}
-use Rattle.vt_kinds.specs.Ids.{null_id}
 use Rattle.vt_kinds.specs.Records.{Seen}
 use Rattle.vt_kinds.specs.declared.object.Object.TheVariants as objects
-use Rattle.vt_shown.specs.ShownElements.{soft_key_mask_of}
+use Rattle.vt_macros.specs.Audio.{silence}
+use Rattle.vt_macros.specs.declared.audio.Audio.{Audio}
 use Rattle.vt_machine.specs.SetStates.{SetState, active_in}
-use Rattle.vt_server.specs.Terminals.{State, pool_at, pool_of}
+use Rattle.vt_server.specs.Terminals.{State, pool_of}
+use Rattle.vt_server.specs.declared.shown.ShownMasks.{ShownMasks}
+use Rattle.vt_server.specs.shown.DisplayValues.{masks_value}
+use Rattle.vt_server.specs.shown.ShownSet.{display}
 use Rattle.vt_server.specs.state.AddressStates.{progress_of}
 use Rattle.vt_host_events.specs.declared.event.Alarm.{Alarm}
-use Rattle.vt_host_events.specs.declared.event.Display.{Display}
 use Rattle.vt_host_events.specs.declared.seen.SetSeen.{SetSeen}
 use Rattle.vt_host_events.specs.declared.seen.SourceSeen.{SourceSeen}
 
@@ -30,12 +30,18 @@ abbrev pub silent_by : Option ℕ → State → ℕ → Bool
 silent_by None s address = false
 silent_by (Some time) s address = is_silent time (s.places address).heard
 
+-- the audio commands that a set has done; none without a pool
+abbrev pub audio_of : Option SetState → Audio
+audio_of None = silence
+audio_of (Some set) = set.audio
+
 abbrev pub set_seen : State → Option ℕ → ℕ → SetSeen
 set_seen s time address = record {
   address = address;
   is_sending = is_some (s.places address).sending;
   is_overdue = overdue_by time s address;
   is_silent = silent_by time s address;
+  audio = audio_of (pool_of s address);
 }
 
 abbrev pub sets_seen : State → Option ℕ → List SetSeen
@@ -52,20 +58,8 @@ source_seen s time address = record {
 
 -- ---- what is shown
 
-abbrev pub display_by : ℕ → Option SetState → Display
-display_by address None = record { address = NULL_ADDRESS; mask = null_id; soft_keys = null_id }
-display_by address (Some set) = record {
-  address = address;
-  mask = active_in set.objects;
-  soft_keys = soft_key_mask_of (finite.get set.objects (active_in set.objects));
-}
-
-abbrev pub display_at : State → Option ℕ → Display
-display_at s None = display_by 0 None
-display_at s (Some address) = display_by address (pool_of s address)
-
-abbrev pub display_of : State → Display
-display_of s = display_at s s.shown
+abbrev pub display_of : State → ShownMasks
+display_of s = masks_value (display s)
 
 -- ---- alarms
 
@@ -74,13 +68,13 @@ alarm_by address mask (Some (objects.AlarmMask o)) =
     Some (record { address = address; mask = mask; priority = o.priority; acoustic = o.acoustic })
 alarm_by address mask _ = None
 
-abbrev pub alarm_in : ℕ → Option SetState → Option Alarm
-alarm_in address None = None
-alarm_in address (Some set) = alarm_by address (active_in set.objects) (finite.get set.objects (active_in set.objects))
+abbrev pub alarm_shown_by : ℕ → Option SetState → Option Alarm
+alarm_shown_by address None = None
+alarm_shown_by address (Some set) = alarm_by address (active_in set.objects) (finite.get set.objects (active_in set.objects))
 
 abbrev pub alarm_at : State → Option ℕ → Option Alarm
 alarm_at s None = None
-alarm_at s (Some address) = alarm_in address (pool_of s address)
+alarm_at s (Some address) = alarm_shown_by address (pool_of s address)
 
 -- the alarm mask that is shown, if one is
 abbrev pub alarm_of : State → Option Alarm

@@ -3,17 +3,17 @@
 use vt_machine::Signal;
 use vt_objects::ObjectId;
 use vt_pool::PoolFault;
-use vt_server::{BrokenRule, Progress};
+use vt_server::{BrokenRule, Progress, ShownMasks};
 
-/// What a host is told after an input. Each event but `Shown` is about the working set at an address, or the terminal's own address.
-/// docs/PROFILE.md, "Events for a host".
+/// What a host is told after an input. Its address is that of a working set, with `AddressLost` the terminal's own, and with `Shown` that of the
+/// shown set or 254. docs/PROFILE.md, "Events for a host".
 #[derive(Clone, Copy)]
 pub enum HostEvent {
-    /// A set registered at an address without one.
+    /// A set registered at an address without one, or with one that fell silent.
     SetCame { address: u8 },
     /// A set fell silent and is closed.
     SetSilent { address: u8 },
-    /// A set is closed because another NAME holds its address.
+    /// A set is closed because its NAME does not hold its address any more.
     SetClosed { address: u8 },
     /// The first pool of a set is accepted.
     PoolAccepted { address: u8 },
@@ -25,33 +25,22 @@ pub enum HostEvent {
     PoolRefused { address: u8, rule: BrokenRule },
     /// The implement deleted the pool of its set.
     PoolDeleted { address: u8 },
-    /// Another 1,024 bytes of an upload have come.
+    /// The bytes of an upload have passed another multiple of 1,024.
     Uploaded { address: u8, progress: Progress },
-    /// A text did not reach the implement as a whole.
+    /// A text to the implement ended without an acknowledgement of its end.
     TextAborted { address: u8 },
     /// Another mask is shown, or another set, or other soft keys.
-    Shown(Display),
+    Shown(ShownMasks),
     /// An alarm mask is shown, or its priority or its acoustic signal is another one.
     Alarm(Alarm),
     /// No alarm mask is shown any more.
     AlarmOver { address: u8 },
-    /// The set asks for an audio signal. Of several in one step it is the last.
+    /// The set asks for an audio signal. Of several in one input it is the last.
     Signal { address: u8, signal: Signal },
-    /// The set asks for an audio volume in percent. Of several in one step it is the last.
+    /// The set asks for an audio volume in percent. Of several in one input it is the last.
     Volume { address: u8, percent: u8 },
-    /// Another node took the terminal's address.
+    /// A lower NAME took the terminal's address.
     AddressLost { address: u8 },
-}
-
-/// What is shown. Without a shown set the address is 254, and the IDs are NULL, as in the status message.
-#[derive(Clone, Copy, PartialEq, Eq)]
-pub struct Display {
-    /// The address of the shown set.
-    pub address: u8,
-    /// Its active mask.
-    pub mask: ObjectId,
-    /// The soft key mask of that mask.
-    pub soft_keys: ObjectId,
 }
 
 /// An alarm mask that is shown.

@@ -1,6 +1,6 @@
 //! A look at a terminal before an input, and its events after it.
 
-ghost use Rattle.std.specs.Prelude.{◌≡◌, ◌≤◌, [], true, false, IsOk, OnOk, length};
+ghost use Rattle.std.specs.Prelude.{◌≡◌, [], true, false, IsOk, OnOk};
 ghost use Rattle.std.specs.Option.{option_map};
 ghost use Rattle.vt_can.specs.frames.Frame.{source_of};
 ghost use Rattle.vt_host_events.specs.Events.{HasRoom, HasSeen, IsObserving, TellsEvents, acknowledged_by, time_of};
@@ -8,24 +8,23 @@ ghost use Rattle.vt_host_events.specs.Seen.{sets_seen, source_seen};
 ghost use Rattle.vt_server.specs.States.{state_of};
 
 use crate::OutOfMemory;
-use crate::event::{Alarm, Display, HostEvent};
-use crate::seen::{SetSeen, SourceSeen, alarm_of, display_of, set_seen, source_seen};
-use crate::sounds::{Sounded, sounds_of, tell_sounds};
+use crate::event::{Alarm, HostEvent};
+use crate::seen::{SetSeen, SourceSeen, alarm_of, set_seen, source_seen};
+use crate::sounds::tell_sounds;
 use crate::telling::{tell_sets, tell_shown, tell_source};
 use std::alloc::Global;
 use vt_can::Frame;
 use vt_can::assigned::VT_TO_ECU;
 use vt_objects::ObjectId;
-use vt_server::{Output, Terminal};
+use vt_server::{Output, ShownMasks, Terminal};
 use vt_transport::ends_message;
 
 /// What a terminal had before an input, and the events of that input.
 #[derive(Drop)]
 pub struct Observer {
     pub(crate) sets: Vec<SetSeen>,
-    sounded: Vec<Sounded>,
     pub(crate) source: Option<SourceSeen>,
-    pub(crate) display: Display,
+    pub(crate) display: ShownMasks,
     pub(crate) alarm: Option<Alarm>,
     // Whether the terminal has no address any more: then no input has an effect.
     pub(crate) is_lost: bool,
@@ -40,9 +39,8 @@ impl Observer {
     {
         Observer {
             sets: Vec::new(alloc),
-            sounded: Vec::new(alloc),
             source: None,
-            display: Display {
+            display: ShownMasks {
                 address: 0,
                 mask: ObjectId::NULL,
                 soft_keys: ObjectId::NULL,
@@ -85,12 +83,12 @@ impl Observer {
         ensures events { self.new.events.items ≡ self.old.events.items }
     {
         let now = later(terminal, time);
-        look_at_sets(terminal, now, &mut self.sets, &mut self.sounded)?;
+        look_at_sets(terminal, now, &mut self.sets)?;
         let count = self.sets.len();
         self.events
-            .reserve(count.saturating_mul(4).saturating_add(8))?;
+            .reserve(count.saturating_mul(4).saturating_add(7))?;
         self.source = source_of(terminal, now, frame);
-        self.display = display_of(terminal);
+        self.display = terminal.display();
         self.alarm = alarm_of(terminal);
         Ok(())
     }
@@ -99,7 +97,8 @@ impl Observer {
     pub fn tell(&mut self, terminal: &Terminal, frame: Option<&Frame>, outputs: &[Output])
         requires room { self.old.is_lost ≡ false → HasRoom self.old }
         requires none { self.old.events.items ≡ [] }
-        ensures { TellsEvents self.old (option_map (λ f. f.now) frame.entry) outputs.now terminal.now self.new }
+        ensures told { TellsEvents self.old (option_map (λ f. f.now) frame.entry) outputs.now terminal.now self.new }
+        ensures rest { self.new ≡ record self.old { events = self.new.events } }
     {
         if self.is_lost {
             return;
@@ -108,7 +107,7 @@ impl Observer {
         tell_sets(&self.sets, terminal, acknowledged, &mut self.events);
         tell_source(self.source, terminal, outputs, &mut self.events);
         tell_shown(self.display, self.alarm, terminal, &mut self.events);
-        tell_sounds(&self.sounded, terminal, &mut self.events);
+        tell_sounds(&self.sets, terminal, &mut self.events);
     }
 }
 
@@ -137,17 +136,13 @@ fn look_at_sets(
     terminal: &Terminal,
     time: Option<u64>,
     sets: &mut Vec<SetSeen>,
-    sounds: &mut Vec<Sounded>,
 ) -> Result<(), OutOfMemory>
-    ensures sets { OnOk result (sets.new.items ≡ sets_seen (state_of terminal.now) time) }
-    ensures sounds { OnOk result (length sounds.new.items ≤ length sets.new.items) }
+    ensures { OnOk result (sets.new.items ≡ sets_seen (state_of terminal.now) time) }
 {
     sets.clear();
-    sounds.clear();
     for index in 0..terminal.count_of_sets() {
         if let Some(set) = terminal.set_by_index(index) {
             sets.push(set_seen(terminal, time, set.address()))?;
-            sounds.push(sounds_of(terminal, set.address()))?;
         }
     }
     Ok(())

@@ -1,12 +1,13 @@
 //! What a terminal has before an input, or after it.
 
 ghost use Rattle.std.specs.Prelude.{◌≡◌};
-ghost use Rattle.vt_host_events.specs.Seen.{alarm_of, display_of, set_seen, silent_by, source_seen};
+ghost use Rattle.vt_host_events.specs.Seen.{alarm_of, audio_of, set_seen, silent_by, source_seen};
 ghost use Rattle.vt_server.specs.States.{state_of};
+ghost use Rattle.vt_server.specs.Terminals.{pool_of};
 
-use crate::event::{Alarm, Display};
-use vt_can::assigned::NULL_ADDRESS;
-use vt_objects::{Object, ObjectId};
+use crate::event::Alarm;
+use vt_machine::Audio;
+use vt_objects::Object;
 use vt_server::Terminal;
 
 /// A working set before an input.
@@ -19,6 +20,8 @@ pub(crate) struct SetSeen {
     pub(crate) is_overdue: bool,
     /// Whether the set is silent at the time of the input.
     pub(crate) is_silent: bool,
+    /// The audio commands that it has done.
+    pub(crate) audio: Audio,
 }
 
 /// The source of a frame before it.
@@ -45,6 +48,17 @@ pub(crate) fn set_seen(terminal: &Terminal, time: Option<u64>, address: u8) -> S
             None => false,
         },
         is_silent: is_silent(terminal, time, address),
+        audio: audio_of(terminal, address),
+    }
+}
+
+/// The audio commands that the set at an address has done; none without a pool.
+fn audio_of(terminal: &Terminal, address: u8) -> Audio
+    ensures { result ≡ audio_of (pool_of (state_of terminal.now) address) }
+{
+    match terminal.set(address) {
+        Some(live) => live.audio(),
+        None => Audio::new(),
     }
 }
 
@@ -66,28 +80,6 @@ pub(crate) fn source_seen(terminal: &Terminal, time: Option<u64>, address: u8) -
         has_set: terminal.registered(address) && !is_silent(terminal, time, address),
         has_pool: terminal.set(address).is_some(),
         came: terminal.progress(address).came,
-    }
-}
-
-/// What a terminal shows.
-pub(crate) fn display_of(terminal: &Terminal) -> Display
-    ensures { result ≡ display_of (state_of terminal.now) }
-{
-    let nothing = Display {
-        address: NULL_ADDRESS,
-        mask: ObjectId::NULL,
-        soft_keys: ObjectId::NULL,
-    };
-    let Some(address) = terminal.shown() else {
-        return nothing;
-    };
-    match terminal.set(address) {
-        Some(live) => Display {
-            address,
-            mask: live.active_mask(),
-            soft_keys: live.soft_key_mask(),
-        },
-        None => nothing,
     }
 }
 

@@ -1,74 +1,55 @@
 //! The sounds that working sets ask for.
 
-ghost use Rattle.std.specs.Prelude.{◌≡◌, ◌*◌, ◌++◌, IfSome, length};
-ghost use Rattle.vt_host_events.specs.Events.{AddsSounds, IsSound};
+ghost use Rattle.std.specs.Prelude.{◌≡◌, ◌*◌, ◌++◌, length};
+ghost use Rattle.std.specs.List.{flat_map};
+ghost use Rattle.std.specs.Option.{option_to_list};
+ghost use Rattle.vt_host_events.specs.Events as told;
 ghost use Rattle.vt_server.specs.Outputs.{HasSpare, UsesAtMost};
+ghost use Rattle.vt_server.specs.States.{state_of};
+ghost use Rattle.vt_server.specs.Terminals.{pool_of};
 
 use crate::event::HostEvent;
 use crate::lists::append;
-use vt_machine::Audio;
+use crate::seen::SetSeen;
 use vt_server::Terminal;
 
-/// The audio commands that the set at an address has done.
-#[derive(Clone, Copy)]
-pub(crate) struct Sounded {
-    pub(crate) address: u8,
-    pub(crate) audio: Audio,
-}
-
-/// The audio commands that the set at an address has done; none without a pool.
-pub(crate) fn sounds_of(terminal: &Terminal, address: u8) -> Sounded {
-    Sounded {
-        address,
-        audio: match terminal.set(address) {
-            Some(live) => live.audio(),
-            None => Audio::new(),
-        },
-    }
-}
-
-/// Appends the audio commands that sets have done since.
-pub(crate) fn tell_sounds(before: &[Sounded], after: &Terminal, events: &mut Vec<HostEvent>)
-    requires capacity { HasSpare (2 * length before.now) events.old }
-    ensures sounds { AddsSounds events.old.items events.new.items }
+/// Appends the audio commands that the sets have done since they were seen.
+pub(crate) fn tell_sounds(sets: &[SetSeen], after: &Terminal, events: &mut Vec<HostEvent>)
+    requires capacity { HasSpare (2 * length sets.now) events.old }
+    ensures items { events.new.items ≡ events.old.items ++ flat_map (told.sound_events (state_of after.now)) sets.now }
 {
-    for sounded in before {
-        let now = now_sounded(after, sounded);
-        append(events, signal_event(sounded, now));
-        append(events, volume_event(sounded, now));
+    for set in sets {
+        append(events, signal_event(set, after));
+        append(events, volume_event(set, after));
     }
 }
 
-/// The audio commands that a set has done now: those before, if it has no pool any more.
-fn now_sounded(after: &Terminal, before: &Sounded) -> Audio {
-    match after.set(before.address) {
-        Some(live) => live.audio(),
-        None => before.audio,
-    }
-}
-
-/// The audio signal that a set asked for since, if it asked for one.
-fn signal_event(before: &Sounded, now: Audio) -> Option<HostEvent>
-    ensures { IfSome result IsSound }
+/// The audio signal that a set asked for since it was seen, if it asked for one and has its pool.
+fn signal_event(seen: &SetSeen, after: &Terminal) -> Option<HostEvent>
+    ensures { result ≡ told.signal_event seen.now (pool_of (state_of after.now) seen.now.address) }
 {
-    if now.signals == before.audio.signals {
+    let address = seen.address;
+    let audio = after.set(address)?.audio();
+    if audio.signals == seen.audio.signals {
         return None;
     }
     Some(HostEvent::Signal {
-        address: before.address,
-        signal: now.signal,
+        address,
+        signal: audio.signal,
     })
 }
 
-/// The audio volume that a set asked for since, if it asked for one.
-fn volume_event(before: &Sounded, now: Audio) -> Option<HostEvent>
-    ensures { IfSome result IsSound }
+/// The audio volume that a set asked for since it was seen, if it asked for one and has its pool.
+fn volume_event(seen: &SetSeen, after: &Terminal) -> Option<HostEvent>
+    ensures { result ≡ told.volume_event seen.now (pool_of (state_of after.now) seen.now.address) }
 {
-    if now.volumes == before.audio.volumes {
+    let address = seen.address;
+    let audio = after.set(address)?.audio();
+    if audio.volumes == seen.audio.volumes {
         return None;
     }
     Some(HostEvent::Volume {
-        address: before.address,
-        percent: now.volume,
+        address,
+        percent: audio.volume,
     })
 }

@@ -8,11 +8,11 @@ ghost use Rattle.vt_server.specs.message.UploadEnds.{upload_end};
 ghost use Rattle.vt_server.specs.Outputs.{HasSpare, UsesAtMost};
 ghost use Rattle.vt_server.specs.States.{state_of};
 
-use crate::event::{Alarm, Display, HostEvent};
+use crate::event::{Alarm, HostEvent};
 use crate::lists::append;
-use crate::seen::{SetSeen, SourceSeen, alarm_of, display_of};
+use crate::seen::{SetSeen, SourceSeen, alarm_of};
 use vt_can::assigned::{END_OF_POOL, VT_TO_ECU};
-use vt_server::{Output, Terminal, UploadEnd};
+use vt_server::{Output, ShownMasks, Terminal, UploadEnd};
 
 /// Appends what became of the sets: texts that were aborted, and sets that are closed.
 pub(crate) fn tell_sets(
@@ -93,7 +93,7 @@ fn came_event(source: SourceSeen) -> Option<HostEvent>
     })
 }
 
-/// Another 1,024 bytes of an upload have come.
+/// The bytes of an upload have passed another multiple of 1,024.
 fn progress_event(source: SourceSeen, after: &Terminal) -> Option<HostEvent>
     ensures { result ≡ told.progress_event (state_of after.now) source }
 {
@@ -156,7 +156,7 @@ fn is_end_reply(output: &Output) -> bool
 
 /// Appends the loss of the address, another display, and another alarm.
 pub(crate) fn tell_shown(
-    display: Display,
+    display: ShownMasks,
     alarm: Option<Alarm>,
     after: &Terminal,
     events: &mut Vec<HostEvent>,
@@ -166,7 +166,7 @@ pub(crate) fn tell_shown(
     ensures capacity { UsesAtMost 3 events.old events.new }
 {
     append(events, lost_event(after));
-    append(events, shown_event(display, display_of(after)));
+    append(events, shown_event(display, after.display()));
     append(events, alarm_event(alarm, alarm_of(after)));
 }
 
@@ -182,7 +182,7 @@ fn lost_event(after: &Terminal) -> Option<HostEvent>
     }
 }
 
-fn shown_event(was: Display, now: Display) -> Option<HostEvent>
+fn shown_event(was: ShownMasks, now: ShownMasks) -> Option<HostEvent>
     ensures { result ≡ told.shown_event was now }
 {
     if was == now {
