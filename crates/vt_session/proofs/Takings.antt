@@ -53,7 +53,7 @@ pub takes_cleared : (before : Session) (outputs : Vec Output Global) (inputs : L
 takes_cleared before outputs inputs after status (inl done) =
     inl (done.0, taken_cleared before outputs inputs after done.1)
 takes_cleared before outputs inputs after status (inr lacks) =
-    inr (lacks.0, record { not_lost = lacks.1.not_lost; state = lacks.1.state; redraws = lacks.1.redraws; waiting = lacks.1.waiting; look = lacks.1.look; begun = lacks.1.begun; text = lacks.1.text })
+    inr (lacks.0, record { not_lost = lacks.1.not_lost; state = lacks.1.state; redraws = lacks.1.redraws; waiting = lacks.1.waiting; latest = lacks.1.latest; look = lacks.1.look; begun = lacks.1.begun; text = lacks.1.text })
 
 -- the answer of an open session to an input
 pub answered : (before : Session) (input : Option Input) (given : Input) (after : Session) (status : ℕ) → None ≡ closed before → input ≡ Some given
@@ -68,7 +68,7 @@ pub both_cleared : (before : Session) (outputs : Vec Output Global) (inputs : Li
 both_cleared before outputs inputs after status (inl done) =
     inl (done.0, taken_cleared before outputs inputs after done.1)
 both_cleared before outputs inputs after status (inr (refused, inl lacks)) =
-    inr (refused, inl (record { not_lost = lacks.not_lost; state = lacks.state; redraws = lacks.redraws; waiting = lacks.waiting; look = lacks.look; begun = lacks.begun; text = lacks.text }))
+    inr (refused, inl (record { not_lost = lacks.not_lost; state = lacks.state; redraws = lacks.redraws; waiting = lacks.waiting; latest = lacks.latest; look = lacks.look; begun = lacks.begun; text = lacks.text }))
 both_cleared before outputs inputs after status (inr (refused, inr one)) =
     inr (refused, inr (taken_cleared before outputs (take 1 inputs) after one))
 

@@ -104,6 +104,7 @@ pub record Remains (before after : Session) : Type 0 where
 -- A frame waits to be taken, unless the terminal lost its address or memory was refused. A lost terminal needs no memory.
 pub record Sends (before : Session) (frame : Frame) (after : Session) (status : ℕ) : Type 0 where
   pub sent : ((status ≡ DONE) × (waiting after ≡ (if (state before).lost then [] else Sent (output.Frame frame) ∷ []))) ⊎ ((status ≡ NO_MEMORY) × (waiting after ≡ []))
+  pub latest : latest after ≡ None
   pub lost : (state before).lost ≡ true → status ≡ DONE
   pub stays : Stays before after
 
@@ -113,8 +114,8 @@ SendsBy (Some refusal) before frame after status = (status ≡ refusal) × (afte
 
 -- ---- inputs
 
--- The events of inputs are told, of which the first one is at a time and may be a frame, from what an observer saw before them. Of a frame alone
--- it is told rightly how the upload ended that it ended.
+-- The events of inputs are told, from what an observer saw before them. The first input is a frame with its time, or an action. If it is the
+-- only one and ends an upload, the end that is told is right.
 pub record TellsOf (before : Session) (first : Input) (inputs : List Input) (after : Session) : Type 0 where
   pub seen : Observer
   pub observed : IsObserving (state before) (time_of first) (frame_of first) seen
@@ -143,6 +144,7 @@ pub record LacksMemory (before after : Session) : Type 0 where
   pub state : state after ≡ state before
   pub redraws : redraws after.terminal ≡ redraws before.terminal
   pub waiting : waiting after ≡ []
+  pub latest : latest after ≡ None
   pub look : after.looks ≡ before.looks
   pub begun : after.begun ≡ before.begun
   pub text : after.text.items ≡ before.text.items

@@ -10,7 +10,8 @@
 //! - `words`: what a frame says in words.
 //! - `status`: what the calls return.
 //!
-//! After a call that returns another status than `DONE` the terminal is unchanged.
+//! After a call that returns another status than `DONE` the terminal is unchanged, but for one case: an action at a time for which memory was
+//! refused may leave the time moved on, with the outputs and events of that.
 #![tactic(auto)]
 
 pub mod dialog;

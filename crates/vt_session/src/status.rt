@@ -3,10 +3,11 @@
 /// The call is done.
 pub const DONE: u32 = 0;
 
-/// Memory was refused. The terminal is unchanged, and the call may be made again.
+/// Memory was refused. The terminal is unchanged, but that an action at a time may leave the time moved on. Once the outputs are taken, the call
+/// may be made again.
 pub const NO_MEMORY: u32 = 1;
 
-/// There is no such frame, action or address. Nothing is changed.
+/// There is no such frame, action, address or input. Nothing is changed.
 pub const NO_SUCH: u32 = 2;
 
 /// Outputs wait to be taken. Nothing is changed.

@@ -1,6 +1,6 @@
 //! The terminal for callers in C: it lies in the caller's memory and is reached by a pointer.
 //!
-//! Each function but `vt_size`, `vt_init` and `vt_done` lends the session behind the pointer to one safe function. docs/EMBEDDING.md
+//! Each function but `vt_version`, `vt_size`, `vt_init` and `vt_done` lends the session behind the pointer to one safe function. docs/EMBEDDING.md
 //! explains the calls, and include/vt_terminal.h declares them for C.
 #![tactic(auto)]
 
@@ -150,7 +150,7 @@ pub unsafe extern "C" fn vt_status(at: *mut VtTerminal) -> u32
     outputs::status(unsafe { &mut *(at as *mut Session) })
 }
 
-/// Takes the next output: 0 if none waits, 1 for a frame, 2 for a refusal to the operator.
+/// Takes the next output: 0 if none waits, 1 for a frame, 2 for a refusal to the operator, 3 for an event.
 #[unsafe(no_mangle)]
 pub unsafe extern "C" fn vt_next(at: *mut VtTerminal) -> u32
     ghost before: { Session }
@@ -160,7 +160,7 @@ pub unsafe extern "C" fn vt_next(at: *mut VtTerminal) -> u32
     outputs::next(unsafe { &mut *(at as *mut Session) })
 }
 
-/// The identifier of the frame taken last, or the number of the refusal.
+/// The identifier of the frame taken last, the number of the refusal, or the kind of the event.
 #[unsafe(no_mangle)]
 pub unsafe extern "C" fn vt_output_id(at: *mut VtTerminal) -> u32
     ghost before: { Session }
@@ -170,7 +170,7 @@ pub unsafe extern "C" fn vt_output_id(at: *mut VtTerminal) -> u32
     outputs::output_id(unsafe { &mut *(at as *mut Session) })
 }
 
-/// The number of data bytes of the frame taken last.
+/// The number of data bytes of the frame taken last, or the address of the event.
 #[unsafe(no_mangle)]
 pub unsafe extern "C" fn vt_output_count(at: *mut VtTerminal) -> u32
     ghost before: { Session }
@@ -180,7 +180,7 @@ pub unsafe extern "C" fn vt_output_count(at: *mut VtTerminal) -> u32
     outputs::output_count(unsafe { &mut *(at as *mut Session) })
 }
 
-/// The data bytes of the frame taken last, the first lowest.
+/// The data bytes of the frame taken last, the first lowest, or the two numbers of the event, 32 bits each.
 #[unsafe(no_mangle)]
 pub unsafe extern "C" fn vt_output_data(at: *mut VtTerminal) -> u64
     ghost before: { Session }
