@@ -2,10 +2,11 @@
  *
  *     looks POOL LOG
  *
- * The pool is there from the start, at the address 80 (hexadecimal). After each line of the log it reads vt_look, the shown set, its
- * picture and the elements, and compares them with those after the line before. It fails where the number is the same and one of the
- * others is not. It prints how many lines there are, how many changed what is to be seen, how many changed the number alone, and how many
- * of these were neither of the shown set's master nor of the operator: by them nothing is to be painted.
+ * The pool is there from the start, at the address 80 (hexadecimal). After each line of the log, and after a tick, the address claim and the
+ * status behind it, it reads vt_look, the shown set, its picture and the elements, and compares them with those before. At the end come a
+ * tick when all sets have fallen silent, and the pool once more at the address 81. It fails where the number is the same and one of the others
+ * is not. It prints how many lines there are, how many inputs changed what is to be seen, how many changed the number alone, and how many of
+ * these were neither of the shown set's master, nor of the operator, nor a pool: by them nothing is to be painted.
  *
  * With -DBY_REDRAWS it asks vt_redraws in place of vt_look, which does not tell of colours.
  */
@@ -15,7 +16,8 @@
 #include <stdlib.h>
 #include <string.h>
 
-enum { OWNER = 0x80 };
+/* The addresses of the pool, and how long after the last line all sets are silent, in microseconds. */
+enum { OWNER = 0x80, OTHER = 0x81, SILENCE = 4000000 };
 
 static int fault(const char *about, const char *what)
 {
@@ -99,21 +101,43 @@ static const char *difference(const struct sight *one, const struct sight *other
     return same_text(&one->elements, &other->elements) ? NULL : "the elements are others";
 }
 
-/* ---- the log */
+/* ---- what is compared */
 
-static enum vt_result take_line(struct host *host, const struct line *line)
+/* What is compared from one input to the next: the sight before it, room for the one after it, and the counts so far. */
+struct comparison {
+    struct host *host;
+    struct sight sights[2];
+    struct counts counts;
+    uint64_t time; /* of the last frame */
+};
+
+static void take_outputs(struct host *host)
 {
-    enum vt_result result = VT_DONE;
-
-    if (line->kind == LINE_FRAME) {
-        result = host_hear(host, &line->frame);
-    } else if (line->kind == LINE_OPERATOR) {
-        result = host_act(host, VT_LATEST, &line->action);
-    }
     while (vt_next(host->vt) != VT_NONE) {
     }
-    return result;
 }
+
+/* Compares what is to be seen after an input with what was before it. The sight after it is then the first one. Returns what is wrong, or
+ * null. */
+static const char *compare(struct comparison *all, enum vt_result result, bool may_change)
+{
+    struct sight before = all->sights[0];
+
+    take_outputs(all->host);
+    if (result != VT_DONE || !see(&all->sights[1], all->host->vt)) {
+        return "memory was refused";
+    }
+    const char *change = difference(&before, &all->sights[1]);
+    bool moved = before.look != all->sights[1].look;
+    all->counts.pictures += change != NULL;
+    all->counts.alone += moved && change == NULL;
+    all->counts.others += moved && change == NULL && !may_change;
+    all->sights[0] = all->sights[1];
+    all->sights[1] = before;
+    return moved ? NULL : change;
+}
+
+/* ---- the log */
 
 /* Whether a line may change what the shown set looks like: a frame of its master, or an action. */
 static bool may_change(const struct line *line, uint32_t shown)
@@ -121,48 +145,76 @@ static bool may_change(const struct line *line, uint32_t shown)
     return line->kind == LINE_OPERATOR || (line->kind == LINE_FRAME && (line->frame.id & 0xFF) == shown);
 }
 
-/* Takes a line, and compares what is to be seen before and after it. The sight after it is then the first one. Returns what is wrong, or
- * null. */
-static const char *compare_line(struct host *host, struct span text, struct sight sights[2], struct counts *counts)
+static enum vt_result take_line(struct host *host, const struct line *line)
 {
-    struct line line = read_line(text);
-    struct sight before = sights[0];
-
-    if (take_line(host, &line) != VT_DONE || !see(&sights[1], host->vt)) {
-        return "memory was refused";
+    if (line->kind == LINE_FRAME) {
+        return host_hear(host, &line->frame);
     }
-    const char *change = difference(&before, &sights[1]);
-    bool moved = before.look != sights[1].look;
-    counts->lines++;
-    counts->pictures += change != NULL;
-    counts->alone += moved && change == NULL;
-    counts->others += moved && change == NULL && !may_change(&line, before.shown);
-    sights[0] = sights[1];
-    sights[1] = before;
-    return moved ? NULL : change;
+    return line->kind == LINE_OPERATOR ? host_act(host, VT_LATEST, &line->action) : VT_DONE;
 }
 
-static int compare(struct host *host, const char *path, const uint8_t *log, size_t size)
+/* A line, and behind it a tick, the address claim and the status. */
+static const char *compare_line(struct comparison *all, struct span text)
 {
-    struct sight sights[2] = {{0}};
-    struct counts counts = {0};
+    struct line line = read_line(text);
+    const char *why = compare(all, take_line(all->host, &line), may_change(&line, all->sights[0].shown));
+
+    all->counts.lines++;
+    if (line.kind == LINE_FRAME && line.frame.time > all->time) {
+        all->time = line.frame.time;
+    }
+    if (why == NULL) {
+        why = compare(all, host_tick(all->host, all->time), false);
+    }
+    if (why == NULL) {
+        why = compare(all, host_claim(all->host), false);
+    }
+    return why != NULL ? why : compare(all, host_status(all->host), false);
+}
+
+/* All sets fall silent, and another one comes with the pool, which is refused where a set is at its address or the address is lost. */
+static const char *compare_end(struct comparison *all, const uint8_t *pool, size_t size)
+{
+    const char *why = compare(all, host_tick(all->host, all->time + SILENCE), false);
+    if (why != NULL) {
+        return why;
+    }
+    enum vt_result result = host_preload(all->host, OTHER, pool, size);
+    return compare(all, result == VT_NO_SUCH ? VT_DONE : result, true);
+}
+
+static const char *compare_log(struct comparison *all, const uint8_t *log, size_t size)
+{
     const char *at = (const char *)log, *end = at + size;
-    const char *why = see(&sights[0], host->vt) ? NULL : "memory was refused";
+    const char *why = see(&all->sights[0], all->host->vt) ? NULL : "memory was refused";
 
     while (why == NULL && at < end) {
         const char *newline = memchr(at, '\n', (size_t)(end - at));
         struct span text = {at, (size_t)((newline == NULL ? end : newline) - at)};
-        why = compare_line(host, text, sights, &counts);
+        why = compare_line(all, text);
         at = newline == NULL ? end : newline + 1;
     }
-    if (why != NULL) {
-        fprintf(stderr, "looks: %s: line %" PRIu64 ": the number is %" PRIu64 " as before, and %s\n", path, counts.lines, sights[0].look, why);
+    return why;
+}
+
+/* Compares on a log and its end, prints the counts, and returns the status of the program. */
+static int compare_all(struct host *host, const char *path, const uint8_t *log, size_t size, const uint8_t *pool, size_t pool_size)
+{
+    struct comparison all = {.host = host};
+    const char *why = compare_log(&all, log, size);
+
+    if (why == NULL) {
+        why = compare_end(&all, pool, pool_size);
     }
-    printf("lines %" PRIu64 " pictures %" PRIu64 " alone %" PRIu64 " others %" PRIu64 "\n", counts.lines, counts.pictures, counts.alone,
-           counts.others);
+    if (why != NULL) {
+        fprintf(stderr, "looks: %s: line %" PRIu64 ": the number is %" PRIu64 " as before, and %s\n", path, all.counts.lines, all.sights[0].look,
+                why);
+    }
+    printf("lines %" PRIu64 " pictures %" PRIu64 " alone %" PRIu64 " others %" PRIu64 "\n", all.counts.lines, all.counts.pictures,
+           all.counts.alone, all.counts.others);
     for (size_t k = 0; k < 2; k++) {
-        free(sights[k].picture.at);
-        free(sights[k].elements.at);
+        free(all.sights[k].picture.at);
+        free(all.sights[k].elements.at);
     }
     return why == NULL ? 0 : 1;
 }
@@ -181,7 +233,7 @@ int main(int count, char **words)
     if (pool == NULL || log == NULL || host_preload(&host, OWNER, pool, pool_size) != VT_DONE) {
         status = fault(words[1], "it or the log cannot be read, or it is no accepted pool");
     } else {
-        status = compare(&host, words[2], log, log_size);
+        status = compare_all(&host, words[2], log, log_size, pool, pool_size);
     }
     free(pool);
     free(log);

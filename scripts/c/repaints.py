@@ -48,7 +48,7 @@ def check_redraws(programs, numbers):
     path = f'{programs.folder}/colour.log'
     with open(path, 'w') as file:
         file.write(COLOUR)
-    expect(counts_of(programs, 'looks', 'pool.iop', path) == [1, 1, 0, 0], 'vt_look does not tell of a colour')
+    expect(counts_of(programs, 'looks', 'pool.iop', path) == [1, 3, 0, 0], 'vt_look does not tell of a colour, of the silence and of another pool')
     _, messages = looked(programs, 'looks-by-redraws', 'pool.iop', path)
     expect('the picture is another one' in messages, 'vt_redraws tells of a colour')
     results = side_by_side(lambda number: looked(programs, 'looks-by-redraws', *reversed(generated(programs, number))), numbers)
