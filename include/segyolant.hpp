@@ -139,19 +139,21 @@ inline const char *name_of(Refusal refusal) noexcept
 
 // What an event tells (docs/EMBEDDING.md, "Events").
 enum class EventKind : std::uint32_t {
-    set_came = 1,      // A set registered.
+    set_came = 1,      // A set registered where none was, or where one fell silent in the same input.
     set_silent = 2,    // A set fell silent; it is closed and its pool is gone.
-    set_closed = 3,    // A set is closed because another NAME holds its address; its pool is gone.
+    set_closed = 3,    // A set is closed because its NAME does not hold its address any more; its pool is gone.
     pool_accepted = 4, // The first pool of a set is accepted.
     pool_updated = 5,  // An update of a set's pool is accepted.
-    pool_faulty = 6,   // An upload is refused for a record: `first` is the number of the fault, `second` its offset in the upload.
+    pool_faulty = 6,   // An upload is refused for a record: `first` is the fault, 1 to 5 or 7, `second` its offset in the upload.
     pool_refused = 7,  // An upload is refused by a rule: low(first) is its number, high(first) the offset of a command in its macro,
                        // low(second) the object, high(second) the one to which it refers; 65535 for none.
     pool_deleted = 8,  // The implement deleted its pool.
-    uploaded = 9,      // Another 1,024 bytes of an upload have come: `first` so far, `second` so far and announced.
-    text_aborted = 10, // A message to the implement, as a text of the operator, did not reach it as a whole.
-    shown = 11,        // Another mask is shown: `first` is the mask, `second` its soft key mask; the address is 254 if no set is shown.
-    alarm = 12,        // An alarm mask is shown: `first` is the mask, low(second) its priority, high(second) its acoustic signal.
+    uploaded = 9,      // Another 1,024 bytes of an upload have come: `first` are received, `second` received or announced.
+    text_aborted = 10, // A message to the implement, as a text of the operator, ended without an acknowledgement of its end.
+    shown = 11,        // Another set, mask or soft key mask is shown: the address is that of the set, or 254 if none is shown; `first` is the
+                       // mask, `second` its soft key mask, each 65535 where there is none.
+    alarm = 12,        // An alarm mask is shown, or its priority or acoustic signal is another one: `first` is the mask; low(second) the
+                       // priority, 0 high, 1 medium, 2 low; high(second) the signal, 0 highest, 1 medium, 2 lowest, 3 none.
     alarm_over = 13,   // No alarm mask is shown any more; the address is that of the last one.
     signal = 14,       // Control Audio: low(first) is how often, high(first) Hz; low(second) and high(second) are ms on and off.
     volume = 15,       // Set Audio Volume: `first` is the percent.

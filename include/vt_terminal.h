@@ -225,21 +225,24 @@ enum vt_refusal {
 };
 
 /* What an event tells (docs/EMBEDDING.md, "Events"). Each is about the working set at an address, but for VT_SHOWN and VT_ADDRESS_LOST. Its two
- * numbers are 0 where nothing else is said; VT_LOW and VT_HIGH are the halves of one. */
+ * numbers are 0 where nothing else is said; VT_LOW and VT_HIGH are the halves of one. An offset that is too large for its place is told as the
+ * greatest number there. */
 enum vt_event_kind {
-    VT_SET_CAME = 1,       /* a set registered (vt_sets has its NAME) */
+    VT_SET_CAME = 1,       /* a set registered where none was, or where one fell silent in this input (vt_sets has its NAME) */
     VT_SET_SILENT = 2,     /* a set fell silent; it is closed and its pool is gone */
-    VT_SET_CLOSED = 3,     /* a set is closed because another NAME holds its address; its pool is gone */
+    VT_SET_CLOSED = 3,     /* a set is closed because its NAME does not hold its address any more; its pool is gone */
     VT_POOL_ACCEPTED = 4,  /* the first pool of a set is accepted */
     VT_POOL_UPDATED = 5,   /* an update of a set's pool is accepted */
-    VT_POOL_FAULTY = 6,    /* an upload is refused for a record: first the number of the fault, second its offset in the upload */
+    VT_POOL_FAULTY = 6,    /* an upload is refused for a record: first the fault, 1 to 5 or 7, second its offset in the upload */
     VT_POOL_REFUSED = 7,   /* an upload is refused by a rule: VT_LOW(first) its number, VT_HIGH(first) the offset of a command in its macro;
                             * VT_LOW(second) the object, VT_HIGH(second) the one to which it refers, each VT_NO_ID where there is none */
     VT_POOL_DELETED = 8,   /* the implement deleted its pool */
-    VT_UPLOADED = 9,       /* another 1,024 bytes of an upload have come: first the bytes so far, second those so far and announced */
-    VT_TEXT_ABORTED = 10,  /* a message to the implement, as a text of the operator, did not reach it as a whole */
-    VT_SHOWN = 11,         /* another mask is shown: the address of its set, 254 for none; first the mask, second its soft key mask */
-    VT_ALARM = 12,         /* an alarm mask is shown: first the mask, VT_LOW(second) its priority, VT_HIGH(second) its acoustic signal */
+    VT_UPLOADED = 9,       /* another 1,024 bytes of an upload have come: first the bytes received, second those received or announced */
+    VT_TEXT_ABORTED = 10,  /* a message to the implement, as a text of the operator, ended without an acknowledgement of its end */
+    VT_SHOWN = 11,         /* another set, mask or soft key mask is shown: the address of the set, 254 for none; first the mask, second its
+                            * soft key mask, each VT_NO_ID where there is none */
+    VT_ALARM = 12,         /* an alarm mask is shown, or its priority or acoustic signal is another one: first the mask; VT_LOW(second) the
+                            * priority, 0 high, 1 medium, 2 low; VT_HIGH(second) the signal, 0 highest, 1 medium, 2 lowest, 3 none */
     VT_ALARM_OVER = 13,    /* no alarm mask is shown any more; the address is that of the last one */
     VT_SIGNAL = 14,        /* Control Audio: VT_LOW(first) how often, VT_HIGH(first) Hz; VT_LOW(second) on, VT_HIGH(second) off, in ms */
     VT_VOLUME = 15,        /* Set Audio Volume: first the percent */

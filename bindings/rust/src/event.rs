@@ -3,7 +3,7 @@ use crate::set::NO_ID;
 /// What happened in an input, for a host that displays masks, beeps and keeps a list of the working sets (docs/EMBEDDING.md, "Events").
 #[derive(Clone, Copy, Debug, PartialEq, Eq, Hash)]
 pub enum Event {
-    /// A set registered. [`sets`](crate::Terminal::sets) has its NAME.
+    /// A set registered where none was, or where one fell silent in the same input. [`sets`](crate::Terminal::sets) has its NAME.
     SetCame {
         /// The address of its master.
         address: u8,
@@ -13,7 +13,7 @@ pub enum Event {
         /// The address of its master.
         address: u8,
     },
-    /// A set is closed because another NAME holds its address. Its pool is gone.
+    /// A set is closed because its NAME does not hold its address any more. Its pool is gone.
     SetClosed {
         /// The address of its master.
         address: u8,
@@ -32,9 +32,9 @@ pub enum Event {
     PoolFaulty {
         /// The address of the set.
         address: u8,
-        /// The number of the fault, 1 to 7.
+        /// The number of the fault, 1 to 5 or 7.
         fault: u32,
-        /// Its offset in the bytes of the upload.
+        /// Its offset in the bytes of the upload, at most `u32::MAX`.
         at: u32,
     },
     /// An upload is refused because the objects break a rule (docs/PROFILE.md, "Verification of a pool").
@@ -43,7 +43,7 @@ pub enum Event {
         address: u8,
         /// The number of the rule, 1 to 12.
         rule: u16,
-        /// The offset of a command in its macro, with the rules 7 and 10, or else 0.
+        /// The offset of a command in its macro, with the rules 7 and 10, or else 0. At most `u16::MAX`.
         at: u16,
         /// The object that breaks the rule, of a chain or a circle the first one.
         object: Option<u16>,
@@ -59,23 +59,23 @@ pub enum Event {
     Uploaded {
         /// The address of the set.
         address: u8,
-        /// The bytes that have come.
+        /// The bytes received.
         came: u32,
-        /// The bytes that have come or are announced by the message that is arriving.
+        /// The bytes received or announced by the message that is arriving.
         announced: u32,
     },
-    /// A message to the implement, as a text of the operator, did not reach it as a whole.
+    /// A message to the implement, as a text of the operator, ended without an acknowledgement of its end.
     TextAborted {
         /// The address of the set.
         address: u8,
     },
-    /// Another mask is shown, of the same set or of another one, or no set is shown any more.
+    /// Another set, mask or soft key mask is shown, or no set is shown any more.
     Shown {
-        /// The address of the shown set.
+        /// The address of the shown set, if one is shown.
         address: Option<u8>,
-        /// Its active mask.
+        /// Its active mask, if it has one.
         mask: Option<u16>,
-        /// The soft key mask of that mask.
+        /// The soft key mask of that mask, if it has one.
         soft_keys: Option<u16>,
     },
     /// An alarm mask is shown, or its priority or its acoustic signal is another one.
@@ -84,9 +84,9 @@ pub enum Event {
         address: u8,
         /// The alarm mask.
         mask: u16,
-        /// Its priority: the lowest number is the most urgent.
+        /// Its priority (ISO 11783-6): 0 high, 1 medium, 2 low. A record may hold another number.
         priority: u16,
-        /// The number of its acoustic signal.
+        /// Its acoustic signal (ISO 11783-6): 0 highest, 1 medium, 2 lowest, 3 none. A record may hold another number.
         acoustic: u16,
     },
     /// No alarm mask is shown any more.
