@@ -659,8 +659,18 @@ private:
         return id != VT_NO_ID ? std::optional<std::uint16_t>(id) : std::nullopt;
     }
 
-    static Output output_of(const vt_out &out)
+    // An output of one of the kinds that this header has; none for another.
+    static std::optional<Output> output_of(const vt_out &out)
     {
+        if (out.kind == VT_FRAME) {
+            Frame frame;
+            frame.id = out.id;
+            frame.count = static_cast<std::uint8_t>(out.count);
+            for (std::size_t k = 0; k < frame.bytes.size(); k++) {
+                frame.bytes[k] = out.data[k];
+            }
+            return frame;
+        }
         if (out.kind == VT_REFUSED) {
             return static_cast<Refusal>(out.id);
         }
@@ -668,13 +678,7 @@ private:
             const vt_event event = vt_event_of(&out);
             return Event{static_cast<EventKind>(event.kind), static_cast<std::uint8_t>(event.address), event.first, event.second};
         }
-        Frame frame;
-        frame.id = out.id;
-        frame.count = static_cast<std::uint8_t>(out.count);
-        for (std::size_t k = 0; k < frame.bytes.size(); k++) {
-            frame.bytes[k] = out.data[k];
-        }
-        return frame;
+        return std::nullopt;
     }
 
     // Makes a call, unless the terminal was moved away, or the call comes from within a function that takes outputs.
@@ -689,8 +693,9 @@ private:
             const Rest rest{at_, is_giving_};
             vt_out out;
             while (vt_take(at_, &out) != VT_NONE) {
-                const Output output = output_of(out);
-                each(output);
+                if (const std::optional<Output> output = output_of(out)) {
+                    each(*output);
+                }
             }
         }
         return static_cast<Result>(status);

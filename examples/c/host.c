@@ -133,11 +133,17 @@ enum vt_result host_status(struct host *host)
 
 /* ---- outputs */
 
+/* The name of a number, the first of which is 1. */
+static const char *name_of(const char *const *names, size_t count, uint32_t number)
+{
+    return number >= 1 && number <= count ? names[number - 1] : "?";
+}
+
 const char *host_refusal(const struct vt_out *out)
 {
     static const char *const names[] = {"1 NotShown",   "2 Disabled", "3 Range", "4 TooLong", "5 WrongKind",
                                         "6 NotPressed", "7 Held",     "8 Busy",  "9 NoSet"};
-    return names[out->id - 1];
+    return name_of(names, sizeof names / sizeof names[0], out->id);
 }
 
 void print_event(const struct vt_out *out, FILE *file)
@@ -146,7 +152,8 @@ void print_event(const struct vt_out *out, FILE *file)
                                         "PoolRefused", "PoolDeleted", "Uploaded",  "TextAborted",  "Shown",       "Alarm",
                                         "AlarmOver",  "Signal",      "Volume",    "AddressLost"};
     struct vt_event event = vt_event_of(out);
-    fprintf(file, "%s %02X %u %u\n", names[event.kind - 1], (unsigned)event.address, (unsigned)event.first, (unsigned)event.second);
+    const char *name = name_of(names, sizeof names / sizeof names[0], (uint32_t)event.kind);
+    fprintf(file, "%s %02X %u %u\n", name, (unsigned)event.address, (unsigned)event.first, (unsigned)event.second);
 }
 
 void print_frame(const struct vt_out *out, FILE *file)

@@ -37,10 +37,11 @@ enum vt_result host_act(struct host *host, uint64_t time, const struct action *a
 enum vt_result host_claim(struct host *host);
 enum vt_result host_status(struct host *host);
 
-/* The number and the name of a refusal. */
+/* The number and the name of a refusal; `?` for one that the header does not have. */
 const char *host_refusal(const struct vt_out *out);
 
-/* Prints an event as `KIND AA FIRST SECOND` and a newline: its name, the address in hex, and its two numbers. */
+/* Prints an event as `KIND AA FIRST SECOND` and a newline: its name, `?` for one that the header does not have, the address in hex, and its
+ * two numbers. */
 void print_event(const struct vt_out *out, FILE *file);
 
 /* Draws the screen, and tells whether its text is another than the one drawn before. */

@@ -173,7 +173,7 @@ static void print_outputs(struct replay *replay)
             printf("operator %s\n", host_refusal(&out));
         } else if (out.kind == VT_FRAME) {
             print_frame(&out, stdout);
-        } else if (replay->events) {
+        } else if (out.kind == VT_EVENT && replay->events) {
             printf("event %" PRIu64 " ", replay->counts.lines);
             print_event(&out, stdout);
         }

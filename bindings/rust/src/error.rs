@@ -1,3 +1,4 @@
+use crate::raw::VERSION;
 use std::fmt;
 
 /// Why a call failed. The terminal is unchanged, but for the time of an action without memory ([`Error::OutOfMemory`]).
@@ -49,7 +50,7 @@ impl fmt::Display for Error {
             ),
             Error::OtherVersion(version) => write!(
                 f,
-                "the library has the version {version:06X}, and this crate 000200: link the libvt_terminal.a of the same commit"
+                "the library has the version {version:06X}, and this crate {VERSION:06X}: link the libvt_terminal.a of the same commit"
             ),
             Error::Unexpected(status) => write!(
                 f,

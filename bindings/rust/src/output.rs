@@ -55,7 +55,7 @@ impl Refusal {
         self as u32 + 1
     }
 
-    // The library gives the numbers 1 to 9 alone: `fault_number` of crates/vt_terminal/specs/Outputs.antt.
+    // The library gives the numbers 1 to 9 alone: `fault_number` of crates/vt_session/specs/Outputs.antt.
     pub(crate) fn of_number(number: u32) -> Refusal {
         match Refusal::ALL.iter().find(|refusal| refusal.number() == number) {
             Some(refusal) => *refusal,

@@ -119,7 +119,7 @@ fn word(bytes: [u8; 4]) -> u32 {
 }
 
 /// The version of the interface that this crate speaks: its first two numbers are those of the library.
-const VERSION: u32 = 0x00_0200;
+pub(crate) const VERSION: u32 = 0x00_0200;
 
 /// The version of the library, if it is another one than that of this crate.
 pub(crate) fn other_version() -> Option<u32> {
@@ -227,11 +227,12 @@ impl Handle {
                     bits: vt_output_data(at),
                 }),
                 2 => Some(Taken::Refused(vt_output_id(at))),
-                _ => Some(Taken::Event {
+                3 => Some(Taken::Event {
                     kind: vt_output_id(at),
                     address: vt_output_count(at),
                     numbers: vt_output_data(at),
                 }),
+                other => panic!("the library gave an output of the kind {other}, which this crate does not know: link the libvt_terminal.a of the same commit"),
             }
         }
     }
