@@ -250,7 +250,8 @@ using Element = vt_element;
 //
 // Each input has two forms. `hear(time, frame)` returns a Reply with the outputs in a vector. `hear(time, frame, each)` calls `each`
 // with each output, as a `const Output &`, and allocates nothing but what the terminal itself needs. An input of the same terminal that
-// `each` makes is refused with `waiting`.
+// `each` makes is refused with `waiting`. `each` may move or end the terminal: the other outputs come as always, and an ended terminal gives
+// its memory back behind the last.
 //
 // After an exception, of `each` or of the vector, the input is taken and its other outputs are lost.
 //
@@ -567,18 +568,34 @@ private:
     static constexpr std::align_val_t alignment{16};
     static constexpr vt_result moved = VT_NOT_BEGUN;
 
+    // What lies before a terminal in its memory. Both stay in their place when a `Terminal` is moved.
+    struct alignas(16) Head {
+        bool is_giving = false; // whether a function takes the outputs of a call
+        bool is_ended = false;  // whether the `Terminal` has ended meanwhile
+    };
+
+    static Head &head_of(vt_terminal *at) noexcept { return *(reinterpret_cast<Head *>(at) - 1); }
+
+    static void give_back(vt_terminal *at) noexcept
+    {
+        vt_done(at);
+        ::operator delete(static_cast<void *>(&head_of(at)), alignment);
+    }
+
     // Takes the outputs that wait when a call ends, also by an exception, so that the next input is heard.
     struct Rest {
         vt_terminal *at;
-        bool &is_giving;
-        Rest(vt_terminal *terminal, bool &giving) : at(terminal), is_giving(giving) { is_giving = true; }
+        explicit Rest(vt_terminal *terminal) : at(terminal) { head_of(at).is_giving = true; }
         Rest(const Rest &) = delete;
         Rest &operator=(const Rest &) = delete;
         ~Rest()
         {
             while (vt_next(at) != VT_NONE) {
             }
-            is_giving = false;
+            head_of(at).is_giving = false;
+            if (head_of(at).is_ended) {
+                give_back(at);
+            }
         }
     };
 
@@ -586,7 +603,7 @@ private:
 
     Result begin(std::uint8_t own, std::uint64_t name, const Profile &profile) noexcept
     {
-        void *memory = ::operator new(vt_size(), alignment, std::nothrow);
+        void *memory = ::operator new(sizeof(Head) + vt_size(), alignment, std::nothrow);
         if (!memory) {
             return Result::no_memory;
         }
@@ -604,7 +621,8 @@ private:
         all.hardware = profile.hardware;
         all.width = profile.width;
         all.height = profile.height;
-        vt_terminal *made = static_cast<vt_terminal *>(memory);
+        Head *head = new (memory) Head;
+        vt_terminal *made = reinterpret_cast<vt_terminal *>(head + 1);
         const Result result = static_cast<Result>(vt_begin(made, own, name, &all));
         if (result == Result::done) {
             at_ = made;
@@ -616,11 +634,15 @@ private:
 
     void end() noexcept
     {
-        if (at_) {
-            vt_done(at_);
-            ::operator delete(static_cast<void *>(at_), alignment);
-            at_ = nullptr;
+        if (!at_) {
+            return;
         }
+        if (head_of(at_).is_giving) {
+            head_of(at_).is_ended = true;
+        } else {
+            give_back(at_);
+        }
+        at_ = nullptr;
     }
 
     vt_result heard(std::uint64_t time, const Frame &frame)
@@ -684,15 +706,15 @@ private:
     // Makes a call, unless the terminal was moved away, or the call comes from within a function that takes outputs.
     template <class Call> vt_result called(Call call)
     {
-        return !at_ ? moved : is_giving_ ? VT_WAITING : call(at_);
+        return !at_ ? moved : head_of(at_).is_giving ? VT_WAITING : call(at_);
     }
 
     template <class Each> Result give(vt_result status, Each &each)
     {
         if (status == VT_DONE || status == VT_NO_MEMORY) {
-            const Rest rest{at_, is_giving_};
+            const Rest rest{at_};
             vt_out out;
-            while (vt_take(at_, &out) != VT_NONE) {
+            while (vt_take(rest.at, &out) != VT_NONE) {
                 if (const std::optional<Output> output = output_of(out)) {
                     each(*output);
                 }
@@ -710,7 +732,6 @@ private:
     }
 
     vt_terminal *at_ = nullptr;
-    bool is_giving_ = false; // whether a function takes the outputs of a call
 };
 
 } // namespace segyolant

@@ -3,7 +3,7 @@ import glob
 import os
 import subprocess
 
-from c.programs import EXAMPLES, HEADERS, LIBRARY, REPLAY, ROOT, compiled, run
+from c.programs import EXAMPLES, HEADERS, LIBRARY, REPLAY, ROOT, SANITIZERS, compiled, run
 from c.replays import check_replay, stored_runs
 from c.results import PassedOver, expect, need
 
@@ -20,10 +20,10 @@ def check_cpp_header(folder):
     expect(ran.returncode == 0, ran.stderr[:400])
 
 
-def check_cpp(folder, source):
+def check_cpp(folder, source, *flags):
     need('g++')
     program = f'{folder}/{os.path.basename(source)[:-4]}_cpp'
-    words = ['g++', '-std=c++17', '-Wall', '-Wextra', '-Werror', '-O2', f'-I{HEADERS}', '-o', program, source, LIBRARY]
+    words = ['g++', '-std=c++17', '-Wall', '-Wextra', '-Werror', *(flags or ['-O2']), f'-I{HEADERS}', '-o', program, source, LIBRARY]
     ran = subprocess.run(words, capture_output=True, text=True)
     expect(ran.returncode == 0, ran.stderr[:400])
     status, _, messages = run([program], ROOT)
@@ -72,5 +72,6 @@ def test_other_languages(tests, folder):
         tests.run(f'C++ {os.path.basename(source)}', check_cpp, folder, source)
     if not sources:
         tests.run('C++ examples', check_there, f'{EXAMPLES}/cpp')
+    tests.run('C++ moves.cpp', check_cpp, folder, f'{ROOT}/scripts/c/moves.cpp', '-O1', *SANITIZERS)
     tests.run('Rust bindings', check_rust, folder)
     tests.run('aarch64', check_aarch64, folder)
