@@ -42,7 +42,7 @@ constexpr std::uint64_t latest = VT_LATEST;
 enum class [[nodiscard]] Result : std::uint32_t {
     done = VT_DONE,           // The call is done.
     no_memory = VT_NO_MEMORY, // Memory was refused. The same call may be made again.
-    no_such = VT_NO_SUCH,     // There is no such frame, or no set may be added at that address.
+    no_such = VT_NO_SUCH,     // There is no such frame or input, nothing is at that place, or no set may be added at that address.
     waiting = VT_WAITING,     // The call came from within a function that takes outputs.
     not_begun = VT_NOT_BEGUN, // The terminal was moved away.
     no_pool = VT_NO_POOL,     // The bytes are no accepted object pool; `segyolant check` says why.
@@ -422,7 +422,7 @@ public:
 
     // ---- reading the state
     //
-    // None if the library was refused memory; the container itself may throw std::bad_alloc.
+    // None if the library was refused memory, where nothing else is said; the container itself may throw std::bad_alloc.
 
     // The working sets in the order in which they registered.
     [[nodiscard]] std::optional<std::vector<Set>> sets()
@@ -498,21 +498,24 @@ public:
     }
 
     // The key, button or input that is shown at a place, in pixels from the upper left corner of the mask: of several the one drawn last.
-    // None if there is none, or if the library was refused memory.
-    [[nodiscard]] std::optional<std::uint16_t> touch(std::int32_t x, std::int32_t y) const noexcept
+    // None if there is none, or if the library was refused memory: then `result`, if it is given, is `no_such` or `no_memory`.
+    [[nodiscard]] std::optional<std::uint16_t> touch(std::int32_t x, std::int32_t y, Result *result = nullptr) const noexcept
     {
         const std::uint64_t id = at_ ? vt_touch(at_, x, y) : VT_NO_ID;
+        tell(result, id < VT_NO_ID ? VT_DONE : id == VT_NO_ID ? VT_NO_SUCH : VT_NO_MEMORY);
         return id < VT_NO_ID ? std::optional<std::uint16_t>(static_cast<std::uint16_t>(id)) : std::nullopt;
     }
 
     // ---- dialogs
 
     // What an input of the set at an address accepts, and how its number is shown. None if there is no such input, or if the library was
-    // refused memory.
-    [[nodiscard]] std::optional<Limits> limits(std::uint8_t address, std::uint16_t id) noexcept
+    // refused memory: then `result`, if it is given, is `no_such` or `no_memory`.
+    [[nodiscard]] std::optional<Limits> limits(std::uint8_t address, std::uint16_t id, Result *result = nullptr) noexcept
     {
         Limits all{};
-        return at_ && vt_limits_of(at_, address, id, &all) == VT_DONE ? std::optional<Limits>(all) : std::nullopt;
+        const vt_result found = at_ ? vt_limits_of(at_, address, id, &all) : VT_NO_SUCH;
+        tell(result, found);
+        return found == VT_DONE ? std::optional<Limits>(all) : std::nullopt;
     }
 
     // The text of an input or output field of the set at an address, as the terminal shows it, in the bytes of its font; empty for another
@@ -534,9 +537,9 @@ public:
 
     // ---- words
 
-    // What a frame says in words, for a log window, as `80 to 26: Hide/Show Object: Container 100, hide`. The objects are named as the
-    // terminal has them now: tell a frame before it is heard, or when it comes as an output. Empty for an identifier above 1FFFFFFF or
-    // more than 8 bytes. None if the library was refused memory; the string itself may throw std::bad_alloc.
+    // What a frame says in words, for a log window, as `80 to 26: Hide/Show Object: Container 100, hide`: addresses in hexadecimal, IDs in
+    // decimal. The objects are named as the terminal has them now: tell a frame before it is heard, or when it comes as an output. Empty for
+    // an identifier above 1FFFFFFF or more than 8 bytes. None if the library was refused memory; the string itself may throw std::bad_alloc.
     [[nodiscard]] std::optional<std::string> words(const Frame &frame)
     {
         const std::uint64_t count = at_ ? vt_words(at_, frame.id, frame.bytes.data(), frame.count, nullptr, 0) : 0;
@@ -701,6 +704,13 @@ private:
             return Event{static_cast<EventKind>(event.kind), static_cast<std::uint8_t>(event.address), event.first, event.second};
         }
         return std::nullopt;
+    }
+
+    static void tell(Result *result, vt_result found) noexcept
+    {
+        if (result) {
+            *result = static_cast<Result>(found);
+        }
     }
 
     // Makes a call, unless the terminal was moved away, or the call comes from within a function that takes outputs.

@@ -39,9 +39,13 @@ bool fits(segyolant::Terminal &terminal, const std::vector<segyolant::Element> &
            vt_number(record.data(), VT_RECORD_ID, 2) == one.id && record[VT_RECORD_KIND] == one.kind;
 }
 
-// Whether the picture of an element by itself has its size, and the element at the upper left corner.
+// Whether the picture of an element by itself has its size, and the element at the upper left corner. A Working Set has another size in the
+// list than by itself.
 bool stands_alone(segyolant::Terminal &terminal, const segyolant::Element &one)
 {
+    if (one.kind == VT_WORKING_SET) {
+        return true;
+    }
     const std::string part = terminal.part(implement, one.id).value_or("");
     const std::string size = "width=\"" + std::to_string(one.width) + "\" height=\"" + std::to_string(one.height) + "\"";
     const std::string corner = "data-id=\"" + std::to_string(one.id) + "\" x=\"0\" y=\"0\"";
@@ -61,10 +65,11 @@ bool is_touched(segyolant::Terminal &terminal, const segyolant::Element &one)
 // Whether an input has limits, nothing else has them, and a shown number is typed as its raw value again.
 bool is_limited(segyolant::Terminal &terminal, const segyolant::Element &one)
 {
-    const std::optional<segyolant::Limits> limits = terminal.limits(implement, one.id);
+    segyolant::Result result = segyolant::Result::no_memory;
+    const std::optional<segyolant::Limits> limits = terminal.limits(implement, one.id, &result);
     const bool is_input = one.kind >= VT_INPUT_BOOLEAN && one.kind <= VT_INPUT_LIST;
     if (limits.has_value() != is_input || !is_input) {
-        return limits.has_value() == is_input;
+        return !is_input && !limits && result == segyolant::Result::no_such;
     }
     if (one.kind != VT_INPUT_NUMBER || limits->decimals < limits->places) {
         return limits->kind == one.kind;
