@@ -6,10 +6,10 @@
  *
  * Link with crates/vt_terminal/out/libvt_terminal.a, and define rattle_alloc, rattle_realloc and rattle_dealloc (vt_heap.h).
  *
- * Preconditions of every call but vt_version, vt_size and vt_begin; nothing checks them:
+ * Preconditions of every call with a terminal `at` but vt_begin and vt_init; nothing checks them:
  *  - `at` is a terminal made by vt_begin and not yet ended by vt_done;
  *  - no other call for the same terminal runs at the same time.
- * For vt_begin `at` is writable memory of vt_size() bytes at a multiple of 16, and no terminal that is not yet ended.
+ * For vt_begin and vt_init `at` is writable memory of vt_size() bytes at a multiple of 16, and no terminal that is not yet ended.
  *
  * Bytes are given as a pointer and a count; the pointer may be null if the count is 0. A call with a buffer `buf` of `room` bytes returns
  * how many bytes there are, also where that is more than the room, and writes as many as there is room for; `buf` may be null if `room` is
@@ -26,7 +26,7 @@ extern "C" {
 #endif
 
 /* The version of this interface: 65536 times the first number, 256 times the second, and the third. vt_begin refuses a library whose
- * first two numbers are others. */
+ * first two numbers are others. A library with further kinds of outputs, events or results has another first or second number. */
 #define VT_VERSION 0x000200u
 
 /* The functions that stand whole in this header. The shared library has them too, for languages that read no header. */
@@ -38,13 +38,13 @@ extern "C" {
 struct vt_terminal;
 
 /* Eight bytes as a number, the first lowest, and a number as eight bytes: written out, since compilers make one instruction of it so. */
-static inline uint64_t vt_word_of(const uint8_t *at)
+VT_INLINE uint64_t vt_word_of(const uint8_t *at)
 {
     return (uint64_t)at[0] | (uint64_t)at[1] << 8 | (uint64_t)at[2] << 16 | (uint64_t)at[3] << 24 | (uint64_t)at[4] << 32 |
            (uint64_t)at[5] << 40 | (uint64_t)at[6] << 48 | (uint64_t)at[7] << 56;
 }
 
-static inline void vt_write_word(uint8_t *at, uint64_t word)
+VT_INLINE void vt_write_word(uint8_t *at, uint64_t word)
 {
     at[0] = (uint8_t)word;
     at[1] = (uint8_t)(word >> 8);
@@ -57,7 +57,7 @@ static inline void vt_write_word(uint8_t *at, uint64_t word)
 }
 
 /* The first bytes of some data as a number, at most eight, the first lowest. */
-static inline uint64_t vt_bits_of(const uint8_t *data, size_t count)
+VT_INLINE uint64_t vt_bits_of(const uint8_t *data, size_t count)
 {
     uint64_t bits = 0;
     if (count == 8) {
@@ -257,7 +257,7 @@ enum vt_event_kind {
 /* The calls behind vt_take. vt_next takes the next output and returns its kind. The others tell of the output taken last: the identifier of
  * the frame, the number of the refusal, or the kind of the event; the number of data bytes, or the address of the event; the data bytes, the
  * first lowest, or the numbers of the event. All are 0 after VT_NONE, and after an input, a claim or a status until the next output is
- * taken. */
+ * taken. A preload, and a call that is refused with VT_NO_SUCH or VT_WAITING, leave the output taken last. */
 enum vt_output vt_next(struct vt_terminal *at);
 uint32_t vt_output_id(const struct vt_terminal *at);
 uint32_t vt_output_count(const struct vt_terminal *at);
@@ -422,8 +422,8 @@ VT_INLINE uint64_t vt_object(struct vt_terminal *at, uint32_t address, uint32_t 
 }
 
 /* Draws a mask of the set at an address as SVG, with its soft keys in columns to its right, at the sizes of the terminal's profile
- * (docs/PROFILE.md, "Pictures"). VT_NO_ID, and each number above it, draws the active mask. An ID of no mask draws a picture without
- * elements. Returns the number of bytes, 0 if there is no set with a pool. */
+ * (docs/PROFILE.md, "Pictures"). VT_NO_ID, and each number above it, draws the active mask. An ID of no object draws a picture without
+ * elements; of an object that is no mask the elements within it are drawn. Returns the number of bytes, 0 if there is no set with a pool. */
 VT_INLINE uint64_t vt_picture(struct vt_terminal *at, uint32_t address, uint32_t mask, uint8_t *buf, size_t room)
 {
     return vt_written(at, vt_text_of_picture(at, address, mask), buf, room);
@@ -465,8 +465,8 @@ struct vt_element {
     uint16_t around; /* the index of the element around it, or VT_NO_ELEMENT in the mask itself and for a soft key */
     int32_t x;       /* the left edge */
     int32_t y;       /* the upper edge */
-    uint32_t width;  /* 0 where the record has no size */
-    uint32_t height;
+    uint32_t width;  /* 0 for a Working Set, which has no size of its own */
+    uint32_t height; /* the same */
     int32_t left; /* nothing of it is shown to the left of this column, above `top`, from `right` on, or from `bottom` on */
     int32_t top;
     int32_t right;
@@ -519,7 +519,8 @@ VT_INLINE uint64_t vt_touch(const struct vt_terminal *at, int32_t x, int32_t y)
  * What a dialog for an input shows and accepts, and the number to enter for what the operator typed. */
 
 /* The calls behind those below. `sign` is not 0 for a negative number; `digits` are those of the typed number without its point, and
- * `decimals` says how many of them are behind the point. */
+ * `decimals` says how many of them are behind the point. vt_raw_of returns UINT64_MAX where there is no raw value, and for more than 15 digits
+ * or more than 15 decimals. */
 uint64_t vt_text_of_limits(struct vt_terminal *at, uint32_t address, uint32_t id);
 uint64_t vt_text_of_value(struct vt_terminal *at, uint32_t address, uint32_t id);
 uint64_t vt_raw_of(const struct vt_terminal *at, uint32_t address, uint32_t id, uint32_t sign, uint64_t digits, uint32_t decimals);
@@ -569,7 +570,8 @@ VT_INLINE uint64_t vt_value_text(struct vt_terminal *at, uint32_t address, uint3
 
 /* Finds the raw value of what the operator typed for an Input Number of the set at an address, exactly, for VT_NUMBER: an optional minus,
  * digits, and perhaps a point and more digits, 15 digits at most with leading zeros. VT_NO_SUCH if it is no such text, if there is no such
- * input, or if no raw value of 32 bits is just that number before any rounding; the raw value may still be outside the limits. */
+ * input, or if no raw value of 32 bits is just that number before any rounding: then `*raw` is left as it was. The raw value may still be
+ * outside the limits. */
 VT_INLINE enum vt_result vt_raw(const struct vt_terminal *at, uint32_t address, uint32_t id, const char *text, size_t count, uint32_t *raw)
 {
     size_t k = count > 0 && text[0] == '-' ? 1 : 0, begin = k;
@@ -600,8 +602,8 @@ VT_INLINE enum vt_result vt_raw(const struct vt_terminal *at, uint32_t address, 
 uint64_t vt_text_of_words(struct vt_terminal *at, uint32_t id, uint32_t count, uint64_t bits);
 
 /* What a frame says in words, for a log window, as `80 to 26: Hide/Show Object: Container 100, hide`: in ASCII, on one line without its end.
- * The objects are named as the terminal has them now, so tell a frame before it is heard, or once it is taken as an output. Returns the
- * number of bytes, 0 for an identifier above 1FFFFFFF or more than eight bytes. Outputs may wait. */
+ * Addresses are in hexadecimal, IDs in decimal. The objects are named as the terminal has them now, so tell a frame before it is heard, or
+ * once it is taken as an output. Returns the number of bytes, 0 for an identifier above 1FFFFFFF or more than eight bytes. Outputs may wait. */
 VT_INLINE uint64_t vt_words(struct vt_terminal *at, uint32_t id, const uint8_t *data, size_t count, uint8_t *buf, size_t room)
 {
     return vt_written(at, vt_text_of_words(at, id, count > 8 ? 9 : (uint32_t)count, vt_bits_of(data, count)), buf, room);

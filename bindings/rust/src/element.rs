@@ -15,9 +15,9 @@ pub struct Element {
     pub x: i32,
     /// The upper edge.
     pub y: i32,
-    /// The width, 0 where its record has no size.
+    /// The width, 0 for a Working Set, which has no size of its own.
     pub width: u32,
-    /// The height, 0 where its record has no size.
+    /// The height, 0 for a Working Set.
     pub height: u32,
     /// Nothing of the element is shown outside of these.
     pub bounds: Bounds,
