@@ -3,12 +3,13 @@ at random, which the frames foretell that they bring."""
 import re
 import struct
 
-from c.generated import COUNT, OWNER, generated, side_by_side
+from c.generated import COUNT, OWN, OWNER, generated, side_by_side
 from c.logs import Log, macro
 from c.programs import EXAMPLES, run
 from c.results import expect
 
 NO_ID = 0xFFFF
+OWN_NAME = 0x20001D0000000001
 # An object pool: a data mask with an input of ten characters, a key and an alarm mask. Macro 1 sounds twice and sets the volume; it runs
 # when the key is pressed.
 SET = struct.pack('<HBBBHBBB', 0, 0, 0, 1, 1000, 0, 0, 0)
@@ -81,6 +82,13 @@ def claimed_by_another():
     return log
 
 
+def moved_to(address):
+    """The NAME of the set claims another address, or none by 254."""
+    log = begun()
+    log.hear(0x18EEFF00 | address, struct.pack('<Q', 0x20001D0000000180))
+    return log
+
+
 def lost():
     log = begun()
     log.hear(0x18EEFF26, bytes(8))
@@ -131,6 +139,8 @@ LISTED = {
     'a set that falls silent': (lambda: silent(False), ['SetSilent 80 0 0', GONE]),
     'a set that registers after it fell silent': (lambda: silent(True), ['SetSilent 80 0 0', 'SetCame 80 0 0', GONE]),
     'a set whose address another NAME takes': (claimed_by_another, ['SetClosed 80 0 0', GONE]),
+    'a set whose NAME moves to another address': (lambda: moved_to(0x81), ['SetClosed 80 0 0', GONE]),
+    'a set whose NAME gives up its address': (lambda: moved_to(0xFE), ['SetClosed 80 0 0', GONE]),
     'an alarm that comes, sounds otherwise and goes': (
         lambda: commanded('AD0000D007', 'B0D00700', 'AFD0070402000000', 'AD0000E803'),
         ['Shown 80 2000 65535', f'Alarm 80 2000 {1 + 65536 * 3}', f'Alarm 80 2000 {0 + 65536 * 3}', f'Alarm 80 2000 {0 + 65536 * 2}',
@@ -163,8 +173,10 @@ def check_listed(programs, kind, name, log, wanted):
     path = f'{programs.folder}/{name.replace(" ", "-")}.log'
     with open(path, 'w') as file:
         file.write(log().text())
-    got = [event for event in events_of(told(programs, kind, path)) if not event.startswith('Uploaded')]
+    lines = told(programs, kind, path)
+    got = [event for event in events_of(lines) if not event.startswith('Uploaded')]
     expect(got == BEGUN + wanted, f'told {got[len(BEGUN):]}, wanted {wanted}')
+    check_closed(path, lines, {})
 
 
 def check_progress(programs, kind, way):
@@ -222,11 +234,48 @@ def end_of(event):
     return address, 1, NO_ID, NO_ID if rule in (1, 2, 5) else named, 4
 
 
+def claim_of(line):
+    """The NAME and the address of an address claim of a log, or none."""
+    found = re.fullmatch(r'\(\d+\.\d{6}\) can0 ([0-9A-F]{8})#((?:[0-9A-F]{2})*)', line)
+    identifier, data = (int(found[1], 16), bytes.fromhex(found[2])) if found else (0, b'')
+    if identifier & 0x03FFFF00 != 0x00EEFF00 or len(data) < 8:
+        return None
+    return struct.unpack('<Q', data[:8])[0], identifier & 0xFF
+
+
+def check_closed(path, lines, sets):
+    """A set is closed by the claim after which its NAME does not hold its address any more, and by no other line. `sets` are the NAMEs of the
+    sets that are there from the start, by their addresses."""
+    events, addresses = {}, {}
+    for number, kind, address in (line.split()[1:4] for line in lines if line.startswith('event ')):
+        events.setdefault(int(number), []).append((kind, int(address, 16)))
+
+    def holder(address):
+        return min((name for name, at in addresses.items() if at == address), default=None)
+
+    with open(path) as file:
+        log = file.read().splitlines()
+    for number, line in enumerate(log, 1):
+        told_here = events.get(number, [])
+        if any(kind == 'AddressLost' for kind, _ in told_here):
+            return
+        sets = {address: name for address, name in sets.items() if ('SetSilent', address) not in told_here}
+        claim, closed = claim_of(line), []
+        if claim and claim != (OWN_NAME, OWN):
+            addresses[claim[0]] = claim[1]
+            closed = [address for address, name in sets.items() if name is not None and name != holder(address)]
+            sets = {address: name or (holder(address) if address == claim[1] else None) for address, name in sets.items() if address not in closed}
+        got = [address for kind, address in told_here if kind == 'SetClosed']
+        expect(got == closed, f'{path}, line {number}: closed {got}, wanted {closed}')
+        sets.update({address: holder(address) for kind, address in told_here if kind == 'SetCame'})
+
+
 def check_told(programs, kind, number):
     """The events of a log made at random are those that its frames foretell. Returns their kinds."""
     path, pool = generated(programs, number)
     lines = told(programs, kind, path, '--pool', pool, '--owner', f'{OWNER:X}')
     events = events_of(lines)
+    check_closed(path, lines, {OWNER: None})
     shown, ends, lost, sounds = told_by_frames(lines)
     words = [event.split() for event in events]
     expect([(w[1], int(w[2]), int(w[3])) for w in words if w[0] == 'Shown'] == shown, f'log {number}: shown {shown}, told {events}')
