@@ -160,7 +160,7 @@ enum class EventKind : std::uint32_t {
     address_lost = 16, // Another node took the terminal's address, which the event tells; nothing is sent any more.
 };
 
-// Something that happened, with the address of its working set and two numbers, 0 where the kind has none.
+// Something that happened, with an address, that of its working set where nothing else is said, and two numbers, 0 where the kind has none.
 struct Event {
     EventKind kind = EventKind::set_came;
     std::uint8_t address = 0;
@@ -197,7 +197,8 @@ using Output = std::variant<Frame, Refusal, Event>;
 // The result of an input with its outputs, in the order in which they are to be sent.
 struct [[nodiscard]] Reply {
     Result result = Result::done;
-    std::vector<Output> outputs; // at most 1,024, or 2,048 for an action; after `no_memory` of an action those that its time brought
+    std::vector<Output> outputs; // at most 1,024 frames and refusals, or 2,048 for an action, and then events; after `no_memory` of an action
+                                 // those that its time brought
 
     explicit operator bool() const noexcept { return result == Result::done; }
 };

@@ -251,9 +251,9 @@ impl Terminal {
 
     // ---- words
 
-    /// What a frame says in words, for a log window, as `80 to 26: Hide/Show Object: Container 100, hide`. The objects are named as
-    /// the terminal has them now: tell a frame before it is heard, or when it comes as an output. The only error is
-    /// [`Error::OutOfMemory`].
+    /// What a frame says in words, for a log window, as `80 to 26: Hide/Show Object: Container 100, hide`: addresses in hexadecimal, IDs in
+    /// decimal. The objects are named as the terminal has them now: tell a frame before it is heard, or when it comes as an output. The only
+    /// error is [`Error::OutOfMemory`].
     pub fn words(&mut self, frame: &Frame) -> Result<String, Error> {
         let count = frame.data().len() as u32;
         let count = self.handle.words(frame.id(), count, frame.bits());
