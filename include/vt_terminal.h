@@ -225,8 +225,8 @@ enum vt_refusal {
 };
 
 /* What an event tells (docs/EMBEDDING.md, "Events"). Each is about the working set at an address, but for VT_SHOWN and VT_ADDRESS_LOST. Its two
- * numbers are 0 where nothing else is said; VT_LOW and VT_HIGH are the halves of one. An offset that is too large for its place is told as the
- * greatest number there. */
+ * numbers are 0 where nothing else is said; VT_LOW and VT_HIGH are the halves of one. A number that is too large for its place is told
+ * as the greatest one there. */
 enum vt_event_kind {
     VT_SET_CAME = 1,       /* a set registered where none was, or where one fell silent in this input (vt_sets has its NAME) */
     VT_SET_SILENT = 2,     /* a set fell silent; it is closed and its pool is gone */
