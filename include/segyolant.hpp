@@ -294,7 +294,7 @@ public:
 
     Terminal(Terminal &&other) noexcept : at_(std::exchange(other.at_, nullptr)) {}
 
-    // Ends this terminal and takes the other one over.
+    // Ends this terminal and takes the other one over. While outputs are given, this one ends behind the last.
     Terminal &operator=(Terminal &&other) noexcept
     {
         if (this != &other) {
@@ -307,7 +307,7 @@ public:
     Terminal(const Terminal &) = delete;
     Terminal &operator=(const Terminal &) = delete;
 
-    // Ends the terminal and gives its memory back. It sends nothing.
+    // Ends the terminal and gives its memory back, while outputs are given behind the last. It sends nothing.
     ~Terminal() { end(); }
 
     // ---- sets that are there from the start
@@ -586,7 +586,8 @@ private:
         ::operator delete(static_cast<void *>(&head_of(at)), alignment);
     }
 
-    // Takes the outputs that wait when a call ends, also by an exception, so that the next input is heard.
+    // Takes the outputs that wait when a call ends, also by an exception, so that the next input is heard, and gives the memory of a terminal
+    // back that ended meanwhile.
     struct Rest {
         vt_terminal *at;
         explicit Rest(vt_terminal *terminal) : at(terminal) { head_of(at).is_giving = true; }

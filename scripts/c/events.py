@@ -264,7 +264,8 @@ def check_closed(path, lines, sets):
         if claim and claim != (OWN_NAME, OWN):
             addresses[claim[0]] = claim[1]
             closed = [address for address, name in sets.items() if name is not None and name != holder(address)]
-            sets = {address: name or (holder(address) if address == claim[1] else None) for address, name in sets.items() if address not in closed}
+            named = {claim[1]: holder(claim[1])}
+            sets = {address: named.get(address) if name is None else name for address, name in sets.items() if address not in closed}
         got = [address for kind, address in told_here if kind == 'SetClosed']
         expect(got == closed, f'{path}, line {number}: closed {got}, wanted {closed}')
         sets.update({address: holder(address) for kind, address in told_here if kind == 'SetCame'})
@@ -278,7 +279,10 @@ def check_told(programs, kind, number):
     check_closed(path, lines, {OWNER: None})
     shown, ends, lost, sounds = told_by_frames(lines)
     words = [event.split() for event in events]
-    expect([(w[1], int(w[2]), int(w[3])) for w in words if w[0] == 'Shown'] == shown, f'log {number}: shown {shown}, told {events}')
+    # (in the input of the loss no status goes out)
+    until = next((k for k, w in enumerate(words) if w[0] == 'AddressLost'), len(words))
+    displays = [(w[1], int(w[2]), int(w[3])) for w in words[:until] if w[0] == 'Shown']
+    expect(displays == shown, f'log {number}: shown {shown}, told {events}')
     ended = [end_of(event) for event in events if event.startswith(('PoolA', 'PoolU', 'PoolF', 'PoolR'))]
     expect(ended == ends, f'log {number}: replies {ends}, told {events}')
     expect(sum(w[0] == 'AddressLost' for w in words) == lost, f'log {number}: {lost} lost addresses, told {events}')

@@ -172,7 +172,8 @@ static const char *compare_line(struct comparison *all, struct span text)
     return why != NULL ? why : compare(all, host_status(all->host), false);
 }
 
-/* All sets fall silent, and another one comes with the pool, which is refused where a set is at its address or the address is lost. */
+/* Unless the terminal lost its address, all sets fall silent. Then another one comes with the pool, which is refused where a set is at its
+ * address. */
 static const char *compare_end(struct comparison *all, const uint8_t *pool, size_t size)
 {
     const char *why = compare(all, host_tick(all->host, all->time + SILENCE), false);

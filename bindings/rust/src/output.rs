@@ -84,6 +84,9 @@ impl fmt::Display for Refusal {
 /// then its events. It allocates nothing.
 ///
 /// Those that are not taken are lost with it.
+///
+/// # Panics
+/// `next` panics on a kind of output or event that this crate does not know, which a library of the same version never gives.
 #[must_use = "the frames are to be sent, and those not taken are lost"]
 #[derive(Debug)]
 pub struct Outputs<'a> {
