@@ -5,7 +5,8 @@
  *
  * The pool is there from the start, at an address of two hexadecimal digits. The frames and actions of the log are heard and done first,
  * or those of its first N lines, and what the terminal sends for them is left out. Then the window is open until it is closed. The left
- * button of the mouse presses and releases keys and buttons, and selects inputs; what the terminal sends is printed.
+ * button of the mouse presses and releases keys and buttons, and selects inputs. What is typed for the selected input stands in the title of
+ * the window, and Return enters it: a text, a decimal number, 0 or 1, or the index of an item. What the terminal sends is printed.
  *
  *     --font FILE      a font whose characters are all as wide, in place of DejaVu Sans Mono where Debian has it
  *     --boxes          prints each element as `ID KIND X Y WIDTH HEIGHT`, in pixels, and opens no window
@@ -15,8 +16,8 @@
  *
  * There is no bus here. Time stands still behind the log, so that no set falls silent; examples/c/live.c has the loop of a host.
  *
- * What is left out: the operator enters no numbers and texts, and no list shows its items for a choice. The selected input and the held
- * key look as others do. Images of more than 4,000,000 pixels are not drawn. What docs/PROFILE.md leaves out under "Pictures" is left out
+ * What is left out: no list shows its items for a choice, and only characters of ASCII are typed. The selected input and the held key look
+ * as others do. Images of more than 4,000,000 pixels are not drawn. What docs/PROFILE.md leaves out under "Pictures" is left out
  * here too: flashing, the type of a font, wraps at spaces, the options of numbers.
  */
 #include "files.h"

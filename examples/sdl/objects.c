@@ -119,11 +119,32 @@ int kind_of(struct objects *objects, uint32_t id)
     return record == NULL ? -1 : record[VT_RECORD_KIND];
 }
 
-uint32_t held_key(struct objects *objects)
+/* What is active in the shown set now. */
+static struct vt_active_ids active_now(const struct objects *objects)
 {
     struct vt_active_ids active;
     vt_active(objects->vt, vt_shown(objects->vt), &active);
-    return active.key;
+    return active;
+}
+
+uint32_t held_key(const struct objects *objects)
+{
+    return active_now(objects).key;
+}
+
+uint32_t selected_input(const struct objects *objects)
+{
+    return active_now(objects).input;
+}
+
+bool read_limits(struct objects *objects, uint32_t id, struct vt_limits *limits)
+{
+    return vt_limits_of(objects->vt, vt_shown(objects->vt), id, limits) == VT_DONE;
+}
+
+bool read_raw(const struct objects *objects, uint32_t id, const char *text, size_t count, uint32_t *raw)
+{
+    return vt_raw(objects->vt, vt_shown(objects->vt), id, text, count, raw) == VT_DONE;
 }
 
 void end_objects(struct objects *objects)

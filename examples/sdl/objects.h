@@ -68,7 +68,16 @@ uint32_t object_at(struct objects *objects, int32_t x, int32_t y);
 int kind_of(struct objects *objects, uint32_t id);
 
 /* The key or button that the operator holds now, or VT_NO_ID. */
-uint32_t held_key(struct objects *objects);
+uint32_t held_key(const struct objects *objects);
+
+/* The input that is selected in the shown set, or VT_NO_ID. */
+uint32_t selected_input(const struct objects *objects);
+
+/* Reads what an input of the shown set accepts from the operator. Returns false for another object, or if memory was refused. */
+bool read_limits(struct objects *objects, uint32_t id, struct vt_limits *limits);
+
+/* Reads the raw value of a typed decimal for an Input Number of the shown set. Returns false if it has none. */
+bool read_raw(const struct objects *objects, uint32_t id, const char *text, size_t count, uint32_t *raw);
 
 /* Gives the memory back. */
 void end_objects(struct objects *objects);

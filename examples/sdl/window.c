@@ -1,5 +1,8 @@
 #include "window.h"
 
+/* The title of the window, behind which stands what is being typed. */
+#define TITLE "Virtual terminal"
+
 /* ---- opening and drawing */
 
 bool open_window(struct window *window, struct host *host, const char *font)
@@ -7,6 +10,7 @@ bool open_window(struct window *window, struct host *host, const char *font)
     window->host = host;
     window->is_stale = true;
     window->is_open = true;
+    window->entry.id = VT_NO_ID;
     window->painter.objects.vt = host->vt;
     window->painter.texts.path = font;
     if (SDL_Init(SDL_INIT_VIDEO) != 0 || TTF_Init() != 0) {
@@ -14,7 +18,7 @@ bool open_window(struct window *window, struct host *host, const char *font)
     }
     read_shown(&window->painter.objects);
     struct sizes sizes = sizes_of(&window->painter.objects);
-    window->window = SDL_CreateWindow("Virtual terminal", SDL_WINDOWPOS_CENTERED, SDL_WINDOWPOS_CENTERED, sizes.width, sizes.height, 0);
+    window->window = SDL_CreateWindow(TITLE, SDL_WINDOWPOS_CENTERED, SDL_WINDOWPOS_CENTERED, sizes.width, sizes.height, 0);
     if (window->window == NULL) {
         return false;
     }
@@ -72,17 +76,64 @@ static void print_outputs(struct host *host)
     fflush(stdout);
 }
 
-static void act(struct window *window, enum vt_action kind, uint32_t id)
+static void do_action(struct window *window, const struct action *action)
 {
-    struct action action = {.kind = kind, .id = id};
-    if (host_act(window->host, VT_LATEST, &action) == VT_NO_MEMORY) {
+    if (host_act(window->host, VT_LATEST, action) == VT_NO_MEMORY) {
         fprintf(stderr, "display: the memory for an action was refused\n");
     }
     print_outputs(window->host);
     window->is_stale = window->is_stale || is_changed(&window->painter.objects);
 }
 
-/* Presses the key or button at a place, or selects the input there. */
+static void act(struct window *window, enum vt_action kind, uint32_t id)
+{
+    struct action action = {.kind = kind, .id = id};
+    do_action(window, &action);
+}
+
+/* Shows what is being typed in the title of the window. */
+static void show_entry(struct window *window)
+{
+    char title[sizeof TITLE + sizeof window->entry.text + 2];
+    snprintf(title, sizeof title, window->entry.id == VT_NO_ID ? "%s" : "%s: %s", TITLE, window->entry.text);
+    SDL_SetWindowTitle(window->window, title);
+}
+
+/* Enters what was typed. What is no number of the input is told, and not entered. */
+static void enter(struct window *window)
+{
+    struct action action;
+    if (finish_entry(&window->entry, &window->painter.objects, &action)) {
+        do_action(window, &action);
+    } else {
+        fprintf(stderr, "display: `%s` is no number of the input\n", window->entry.text);
+    }
+}
+
+/* Return enters what was typed for the selected input, Escape drops it, and Backspace takes the last character back. */
+static void take_key(struct window *window, SDL_Keycode key)
+{
+    if (window->entry.id == VT_NO_ID) {
+        return;
+    }
+    switch (key) {
+    case SDLK_RETURN:
+    case SDLK_KP_ENTER:
+        enter(window);
+        break;
+    case SDLK_ESCAPE:
+        window->entry.id = VT_NO_ID;
+        break;
+    case SDLK_BACKSPACE:
+        erase_last(&window->entry);
+        break;
+    default:
+        return;
+    }
+    show_entry(window);
+}
+
+/* Presses the key or button at a place, or selects the input there, for which then is typed. */
 static void touch(struct window *window, int32_t x, int32_t y)
 {
     struct objects *objects = &window->painter.objects;
@@ -91,7 +142,12 @@ static void touch(struct window *window, int32_t x, int32_t y)
         return;
     }
     int kind = kind_of(objects, id);
-    act(window, kind == VT_KEY || kind == VT_BUTTON ? VT_PRESS : VT_SELECT, id);
+    bool is_key = kind == VT_KEY || kind == VT_BUTTON;
+    act(window, is_key ? VT_PRESS : VT_SELECT, id);
+    if (!is_key && selected_input(objects) == id) {
+        begin_entry(&window->entry, objects, id);
+        show_entry(window);
+    }
 }
 
 /* Releases the key or button that is held, wherever the pointer is now. */
@@ -125,6 +181,15 @@ static void take_event(struct window *window, const SDL_Event *event)
             SDL_CaptureMouse(SDL_FALSE);
             let_go(window);
         }
+        break;
+    case SDL_TEXTINPUT:
+        if (window->entry.id != VT_NO_ID) {
+            type_text(&window->entry, event->text.text);
+            show_entry(window);
+        }
+        break;
+    case SDL_KEYDOWN:
+        take_key(window, event->key.keysym.sym);
         break;
     default:
         break;

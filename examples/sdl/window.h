@@ -1,7 +1,8 @@
-/* A window that shows the terminal, with a mouse as its touch screen. */
+/* A window that shows the terminal, with a mouse as its touch screen and a keyboard for what is entered. */
 #ifndef WINDOW_H
 #define WINDOW_H
 
+#include "entry.h"
 #include "host.h"
 #include "painter.h"
 
@@ -9,6 +10,7 @@ struct window {
     struct host *host;
     struct painter painter;
     SDL_Window *window;
+    struct entry entry;
     bool is_stale; /* what is seen may differ from what the terminal shows */
     bool is_open;
 };

@@ -6,7 +6,7 @@ from c.programs import EXAMPLES, SANITIZERS, VT_REPLAY, compiled, run
 from c.readings import SEGYOLANT, boxes
 from c.results import PassedOver, expect, need, read
 
-SOURCES = ['display.c', 'window.c', 'painter.c', 'objects.c', 'canvas.c', 'pens.c', 'shapes.c', 'gauges.c', 'fields.c', 'texts.c',
+SOURCES = ['display.c', 'window.c', 'entry.c', 'painter.c', 'objects.c', 'canvas.c', 'pens.c', 'shapes.c', 'gauges.c', 'fields.c', 'texts.c',
            'images.c']
 SHARED = ['files.c', 'host.c', 'lines.c', 'heap.c']
 OWNER = '80'

@@ -176,15 +176,15 @@ def shows(screen, shot, corner):
 
 
 class Shown:
-    """A window with the sprayer, in the middle of a screen. At its end a signal closes it, and the status is 0."""
+    """A window with a pool, in the middle of a screen. At its end a signal closes it, and the status is 0."""
 
-    def __init__(self, programs, kind, screen):
-        self.programs, self.kind, self.screen, self.environment = programs, kind, screen, screen.environment()
+    def __init__(self, programs, kind, screen, words=SPRAYER):
+        self.programs, self.kind, self.screen, self.words, self.environment = programs, kind, screen, words, screen.environment()
 
     def __enter__(self):
-        shot = shot_of(self.programs, self.kind, SPRAYER, self.environment)
+        shot = shot_of(self.programs, self.kind, self.words, self.environment)
         self.corner = [(screen - size) // 2 for screen, size in zip(self.screen.SIZE, (shot.width, shot.height))]
-        words = [display(self.programs, self.kind), *SPRAYER]
+        words = [display(self.programs, self.kind), *self.words]
         self.child = subprocess.Popen(words, cwd=EXAMPLES, env=self.environment, stdout=subprocess.PIPE, stderr=subprocess.PIPE)
         try:
             self.wait_for(shot)
@@ -203,6 +203,16 @@ class Shown:
         """Moves the mouse to a place of the window, and presses or releases its left button."""
         words = ['xdotool', 'mousemove', str(self.corner[0] + x), str(self.corner[1] + y), word, '1']
         subprocess.run(words, env=self.environment, check=True)
+        time.sleep(0.3)
+
+    def click(self, x, y):
+        """Presses the left button of the mouse at a place, and releases it there."""
+        self.move(x, y, 'mousedown')
+        self.move(x, y, 'mouseup')
+
+    def type(self, *words):
+        """Types by the words of xdotool."""
+        subprocess.run(['xdotool', *words], env=self.environment, check=True)
         time.sleep(0.3)
 
     def end(self):
@@ -243,6 +253,34 @@ def check_mouse(programs, kind, screen):
     return f'{len(frames)} frames'
 
 
+# What is typed for inputs of the sprayer and of kinds.iop, and the actions that it comes to. Of the number the last digit is taken back.
+SPRAYER_ENTRIES = [(351, '257', 1, 'number 351 25'), (352, '1', 0, 'number 352 1'), (354, '1', 0, 'number 354 1'), (351, '2x', 0, None)]
+KINDS_ENTRIES = [(2131, 'Hi', 0, 'text 2131 Hi')]
+
+
+def check_entries(programs, kind, screen, pool, entries):
+    """What is typed for inputs is entered: the terminal sends what it sends for these actions in a log. What is no number is not entered."""
+    need('xdotool')
+    words = ['--pool', pool, '--owner', OWNER]
+    path = f'{programs.folder}/entries.log'
+    with open(path, 'w') as file:
+        for number, _, _, action in entries:
+            file.write(f'! select {number}\n' + (f'! {action}\n' if action else ''))
+    with Shown(programs, kind, screen, words) as window:
+        middles = {one[0]: (one[2] + one[4] // 2, one[3] + one[5] // 2) for one in boxes_of(programs, kind, words)}
+        for number, typed, erased, _ in entries:
+            window.click(*middles[number])
+            window.type('type', typed)
+            for _ in range(erased):
+                window.type('key', 'BackSpace')
+            window.type('key', 'Return')
+        out = window.end()
+    _, told, _ = run([VT_REPLAY, path, *words], EXAMPLES)
+    frames = [line for line in told.splitlines() if re.match(rb'[0-9A-F]{8}#', line)]
+    expect(frames and out.splitlines() == frames, f'what was typed sent {out!r}, wanted {frames}')
+    return f'{len(frames)} frames'
+
+
 def test_looks(tests, programs):
     screen = Screen(programs.folder)
     try:
@@ -253,5 +291,7 @@ def test_looks(tests, programs):
             tests.run(f'{kind} looks of a needle', check_needle, programs, kind, environment)
             tests.run(f'{kind} window', check_window, programs, kind, screen)
             tests.run(f'{kind} mouse', check_mouse, programs, kind, screen)
+            tests.run(f'{kind} keyboard', check_entries, programs, kind, screen, 'sprayer.iop', SPRAYER_ENTRIES)
+            tests.run(f'{kind} keyboard for a text', check_entries, programs, kind, screen, 'kinds.iop', KINDS_ENTRIES)
     finally:
         screen.end()
