@@ -2,3 +2,4 @@
 pub mod Limits
 pub mod Texts
 pub mod TypedNumbers
+pub mod TypedTexts

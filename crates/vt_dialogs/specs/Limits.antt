@@ -1,6 +1,6 @@
 -- What an input accepts, and how its number is shown (docs/PROFILE.md, "Dialogs").
 use Rattle.std.specs.FinMap as finite
-use Rattle.std.specs.Prelude.{◌≡◌, ℕ, pos, ◌-◌, ◌==◌, ◌&&◌, min, nat_le, Bool, false, if◌then◌else◌, List, length, Option, Some, None, is_ok, unwrap_or}
+use Rattle.std.specs.Prelude.{◌≡◌, ℕ, pos, ◌-◌, ◌==◌, ◌&&◌, min, nat_le, false, if◌then◌else◌, List, length, Option, Some, None, is_ok, unwrap_or}
 use Rattle.vt_kinds.specs.Ids.{null_id}
 use Rattle.vt_kinds.specs.Kinds.{kind_number}
 use Rattle.vt_kinds.specs.Records.{Seen, kind_of}

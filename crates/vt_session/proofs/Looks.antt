@@ -1,5 +1,5 @@
 -- A frame from another node than that of the shown set leaves its picture, unless another set is shown.
-use Rattle.std.proofs.Common.{length, ◌≡◌, ◌≢◌, ◌<◌, ◌^◌, ℕ, true, List, [], ◌∷◌, Option, Some, None, is_some, refl, sym, ap, subst, ◌∙◌, arith}
+use Rattle.std.proofs.Common.{◌≡◌, ◌≢◌, ℕ, true, List, [], ◌∷◌, Option, Some, None, is_some, refl, sym, ap, subst, ◌∙◌}
 use Rattle.std.specs.Option.{option_map}
 use Rattle.std.specs.Prelude.{IfSome, IsSomeAnd}
 use Rattle.vt_can.specs.declared.frames.frame.Frame.{Frame as CanFrame}
@@ -10,7 +10,6 @@ use Rattle.vt_server.specs.declared.input.Input.{Input}
 use Rattle.vt_server.specs.declared.input.Input.TheVariants.{Frame, Operator}
 use Rattle.vt_server.specs.declared.output.Output.{Output}
 use Rattle.vt_server.specs.Judgements.{AreEventsOf}
-use Rattle.vt_server.specs.frame.Deadlines.{echo}
 use Rattle.vt_server.specs.message.Verdicts.{Verdict}
 use Rattle.vt_server.specs.States.{TakesInputs}
 use Rattle.vt_server.specs.Steps.{JudgedInput, FrameAt, ActionAt, after_all, step}

@@ -1,7 +1,7 @@
 -- What waits to be taken: the outputs of one input and its events, or nothing.
 use Rattle.std.specs.List.{slice_get}
 use Rattle.std.specs.Option.{option_map}
-use Rattle.std.proofs.Common.{◌≡◌, ◌<◌, ◌⊎◌, inl, inr, ℕ, zero, suc, ◌+◌, ◌-◌, eqb, ne_eqb, false, get_or, map, Option, Some, None, List, [], ◌∷◌, ◌++◌, drop, take, length, refl, sym, ap, subst, ◌∙◌, append-nil, arith}
+use Rattle.std.proofs.Common.{◌≡◌, ◌<◌, ◌⊎◌, inl, inr, ℕ, zero, suc, ◌+◌, ◌-◌, eqb, ne_eqb, false, map, Option, Some, None, List, [], ◌∷◌, ◌++◌, drop, take, refl, ap, subst, ◌∙◌, append-nil, arith}
 use Rattle.vt_host_events.specs.declared.event.HostEvent.{HostEvent}
 use Rattle.vt_server.specs.declared.input.Input.{Input}
 use Rattle.vt_server.specs.declared.output.Output.{Output}

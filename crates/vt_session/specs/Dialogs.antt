@@ -36,12 +36,12 @@ bytes_if None = []
 bytes_if (Some limits) = limits_bytes limits
 
 -- the limits of an input of a set
-abbrev pub limits_by : Option SetState → ℕ → List ℕ
-limits_by None id = []
-limits_by (Some set) id = if nat_lt id null_id then bytes_if (limits_in set.objects (finite.get set.objects id)) else []
+abbrev pub limits_by : Option SetState → ℕ → Option Limits
+limits_by None id = None
+limits_by (Some set) id = if nat_lt id null_id then limits_in set.objects (finite.get set.objects id) else None
 
 abbrev pub WritesLimits : Session → ℕ → ℕ → Session → ℕ → Type 0
-WritesLimits before address id after count = Writes (λ text. text ≡ limits_by (pool_by (state before) address) id) before after count
+WritesLimits before address id after count = Writes (λ text. text ≡ bytes_if (limits_by (pool_by (state before) address) id)) before after count
 
 -- ---- texts
 
@@ -63,7 +63,7 @@ object_by (Some set) id = if nat_lt id null_id then finite.get set.objects id el
 abbrev pub typed_by : ℕ → ℕ → ℕ → Typed
 typed_by sign digits decimals = record { is_negative = not (sign == 0); digits = digits; decimals = decimals }
 
--- no number of 32 bits is the raw value of a number of at most 15 digits
+-- no number of 32 bits is the raw value of a typed number of at most 15 digits
 abbrev pub HasNoRaw : Option Seen → Typed → Type 0
 HasNoRaw (Some (objects.InputNumber o)) typed =
     (raw : ℕ) → raw < 2 ^ 32 → typed.digits < 10 ^ 15 → typed.decimals ≤ 15 → IsRaw o typed raw → ⊥
@@ -73,7 +73,12 @@ abbrev pub HasRaw : Option Seen → Typed → ℕ → Type 0
 HasRaw (Some (objects.InputNumber o)) typed raw = IsRaw o typed raw
 HasRaw _ typed raw = ⊥
 
--- the raw value of a typed number for an Input Number, or 2 ^ 64 - 1 where there is none
+-- the raw value of a typed number for an Input Number, where there is one
+abbrev pub IsRawOf : Option Seen → Typed → Option ℕ → Type 0
+IsRawOf object typed None = HasNoRaw object typed
+IsRawOf object typed (Some raw) = HasRaw object typed raw
+
+-- the same in one number, 2 ^ 64 - 1 where there is none
 abbrev pub IsRawAnswer : Option Seen → Typed → ℕ → Type 0
 IsRawAnswer object typed result = ((result < 2 ^ 32) × HasRaw object typed result) ⊎ ((result ≡ 2 ^ 64 - 1) × HasNoRaw object typed)
 

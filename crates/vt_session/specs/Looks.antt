@@ -1,6 +1,6 @@
 -- Whether the picture of a terminal may have changed (docs/EMBEDDING.md, "When to paint").
 use Rattle.std.specs.Option.{option_map}
-use Rattle.std.specs.Prelude.{◌≡◌, ◌≢◌, ◌⊎◌, ℕ, ◌+◌, ◌%◌, ◌^◌, true, List, ◌∷◌, Option, is_some, IfSome}
+use Rattle.std.specs.Prelude.{◌≡◌, ◌≢◌, ◌⊎◌, ℕ, ◌+◌, ◌%◌, ◌^◌, true, Option, is_some, IfSome}
 use Rattle.vt_stores.specs.Stores.{ObjectMap}
 use Rattle.vt_server.specs.Terminals.{State, pool_at, pool_of}
 

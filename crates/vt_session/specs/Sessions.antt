@@ -4,7 +4,6 @@ use Rattle.std.specs.Prelude.{◌≡◌, ◌⊎◌, ℕ, ◌==◌, ◌+◌, ◌-
 use Rattle.vt_can.specs.declared.frames.frame.Frame.{Frame}
 use Rattle.vt_node.specs.declared.profile.Profile.{Profile}
 use Rattle.vt_server.specs.declared.input.Input.{Input}
-use Rattle.vt_server.specs.declared.output.Output.{Output}
 use Rattle.vt_server.specs.declared.output.Output.TheVariants as output
 use Rattle.vt_server.specs.message.UploadEnds.{TellsEndAfter, upload_end}
 use Rattle.vt_server.specs.shown.Screens.{KeepsScreen, redraws}
@@ -69,10 +68,10 @@ profile_of memory keys fonts hardware size = record {
 
 -- A session with a new terminal at this address, with this NAME and profile, of which no output waits and no screen is drawn. With
 -- an address above 253 it takes no input.
-pub record Begins (own name memory keys fonts hardware size : ℕ) (after : Session) : Type 0 where
+pub record Begins (own name : ℕ) (given : Profile) (after : Session) : Type 0 where
   pub begun : after.begun ≡ nat_le own 253
   pub claims : nat_le own 253 ≡ true → (state after).claims ≡ record { own = own; name = name; addresses = [] }
-  pub profile : (state after).profile ≡ profile_of memory keys fonts hardware size
+  pub profile : (state after).profile ≡ given
   pub sets : (state after).sets ≡ []
   pub places : (address : ℕ) → (state after).places address ≡ empty
   pub selected : (state after).selected ≡ None

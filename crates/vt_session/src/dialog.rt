@@ -5,7 +5,7 @@ ghost use Rattle.std.specs.Prelude.{◌≡◌, ◌++◌, OnErr, OnOk};
 ghost use Rattle.std.specs.Option.{option_map};
 ghost use Rattle.vt_kinds.specs.Records.{seen};
 ghost use Rattle.vt_server.specs.States.{state_of};
-ghost use Rattle.vt_session.specs.Dialogs.{IsRawAnswer, TellsRaw, WritesLimits, WritesValue, limit_numbers, limits_by, limits_bytes, object_by, text_by};
+ghost use Rattle.vt_session.specs.Dialogs.{IsRawOf, TellsRaw, WritesLimits, WritesValue, bytes_if, limit_numbers, limits_by, limits_bytes, object_by, text_by};
 ghost use Rattle.vt_session.specs.Readings.{pool_by};
 
 use crate::reading::{object_id, pool_at, write_numbers};
@@ -37,18 +37,20 @@ fn write_limits(
     id: u32,
     text: &mut Vec<u8>,
 ) -> Result<(), AllocError>
-    ensures { OnOk result (text.new.items ≡ text.old.items ++ limits_by (pool_by (state_of terminal.now) address) id) }
+    ensures { OnOk result (text.new.items ≡ text.old.items ++ bytes_if (limits_by (pool_by (state_of terminal.now) address) id)) }
 {
-    let Some(live) = pool_at(terminal, address) else {
-        return Ok(());
-    };
-    let Some(id) = object_id(id) else {
-        return Ok(());
-    };
-    match limits_of(live.store(), id) {
+    match limits_at(terminal, address, id) {
         Some(limits) => write_bytes(text, &limits),
         None => Ok(()),
     }
+}
+
+/// The limits of an input of the set at an address, if there is such an input.
+pub fn limits_at(terminal: &Terminal, address: u32, id: u32) -> Option<Limits>
+    ensures { result ≡ limits_by (pool_by (state_of terminal.now) address) id }
+{
+    let live = pool_at(terminal, address)?;
+    limits_of(live.store(), object_id(id)?)
 }
 
 /// Appends limits in 24 bytes.
@@ -91,7 +93,8 @@ pub fn value_text(session: &mut Session, address: u32, id: u32) -> u64
     }
 }
 
-fn write_value(
+/// Appends the text of a field as `value_text` has it.
+pub fn write_value(
     terminal: &Terminal,
     address: u32,
     id: u32,
@@ -127,25 +130,33 @@ pub fn raw(
         digits,
         decimals,
     };
-    raw_in(object_at(&session.terminal, address, id), typed)
-}
-
-fn raw_in(object: Option<&Object<Vec<u8>>>, typed: Typed) -> u64
-    ensures { IsRawAnswer (option_map (λ o. seen o.now) object.entry) typed result }
-{
-    let Some(object) = object else {
-        return u64::MAX;
-    };
-    let Object::InputNumber(input) = object else {
-        return u64::MAX;
-    };
-    if typed.digits >= 1_000_000_000_000_000 || typed.decimals > 15 {
-        return u64::MAX;
-    }
-    match raw_of(input, typed) {
+    match raw_at(&session.terminal, address, id, typed) {
         Some(raw) => u64::from(raw),
         None => u64::MAX,
     }
+}
+
+/// The raw value of a typed number for an Input Number of the set at an address, exactly. `None` if there is no such value or no such input,
+/// or for more than 15 digits or decimals.
+pub fn raw_at(terminal: &Terminal, address: u32, id: u32, typed: Typed) -> Option<u32>
+    ensures { IsRawOf (object_by (pool_by (state_of terminal.now) address) id) typed result }
+{
+    raw_in(object_at(terminal, address, id), typed)
+}
+
+fn raw_in(object: Option<&Object<Vec<u8>>>, typed: Typed) -> Option<u32>
+    ensures { IsRawOf (option_map (λ o. seen o.now) object.entry) typed result }
+{
+    let Some(object) = object else {
+        return None;
+    };
+    let Object::InputNumber(input) = object else {
+        return None;
+    };
+    if typed.digits >= 1_000_000_000_000_000 || typed.decimals > 15 {
+        return None;
+    }
+    raw_of(input, typed)
 }
 
 /// The object with a number as its ID, of the set at an address.

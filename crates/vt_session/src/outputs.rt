@@ -39,8 +39,10 @@ fn next_of_none(session: &mut Session) -> u32
 
 /// What a host takes: an output of the terminal, or an event.
 #[derive(Clone, Copy)]
-enum Item<'a> {
+pub enum Item<'a> {
+    /// A frame to send, or a refusal to the operator.
     Sent(&'a Output),
+    /// An event.
     Told(HostEvent),
 }
 
@@ -73,7 +75,7 @@ fn kind_at(session: &Session, index: usize) -> Option<u32>
 }
 
 /// The output or event taken last.
-fn latest(session: &Session) -> Option<Item<'_>>
+pub fn latest(session: &Session) -> Option<Item<'_>>
     ensures { option_map item_value result ≡ latest session.now }
 {
     if session.next == 0 {

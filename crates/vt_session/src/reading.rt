@@ -124,7 +124,8 @@ pub fn object(session: &mut Session, address: u32, id: u32) -> u64
     }
 }
 
-fn write_record(
+/// Appends the record of an object of the set at an address as it is now. Nothing is appended without such an object.
+pub fn write_record(
     terminal: &Terminal,
     address: u32,
     id: u32,
@@ -161,7 +162,8 @@ pub fn picture(session: &mut Session, address: u32, mask: u32) -> u64
     }
 }
 
-fn picture_at(
+/// Draws a mask as `picture` does. Without a set that has a pool nothing is drawn.
+pub fn picture_at(
     alloc: Global,
     terminal: &Terminal,
     address: u32,
@@ -195,7 +197,13 @@ pub fn part(session: &mut Session, address: u32, id: u32) -> u64
     }
 }
 
-fn part_at(alloc: Global, terminal: &Terminal, address: u32, id: u32) -> Result<Vec<u8>, AllocError>
+/// Draws an object as `part` does.
+pub fn part_at(
+    alloc: Global,
+    terminal: &Terminal,
+    address: u32,
+    id: u32,
+) -> Result<Vec<u8>, AllocError>
     ensures { IfOk result (λ text. IsPartIn (pool_by (state_of terminal.now) address) (state_of terminal.now).profile id text.items) }
 {
     let Some(live) = pool_at(terminal, address) else {
@@ -330,7 +338,7 @@ pub(crate) fn write_numbers(text: &mut Vec<u8>, numbers: &[u32]) -> Result<(), A
 }
 
 /// The elements of the active mask of the shown set. None without a shown set.
-fn elements_of(alloc: Global, terminal: &Terminal) -> Result<Vec<Element>, AllocError>
+pub fn elements_of(alloc: Global, terminal: &Terminal) -> Result<Vec<Element>, AllocError>
     ensures { IfOk result (λ list. list.items ≡ elements_shown (state_of terminal.now)) }
 {
     let Some(live) = shown_pool(terminal) else {
@@ -352,7 +360,8 @@ pub fn touch(session: &mut Session, x: u32, y: u32) -> u64
     }
 }
 
-fn touched_in(elements: &[Element], x: u32, y: u32) -> ObjectId
+/// The ID of the key, button or input of some elements that is shown at a place, or NULL.
+pub fn touched_in(elements: &[Element], x: u32, y: u32) -> ObjectId
     ensures { result ≡ touched_of elements.now x y }
 {
     let (Ok(x), Ok(y)) = (i32::try_from(x), i32::try_from(y)) else {

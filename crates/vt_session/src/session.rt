@@ -1,12 +1,13 @@
 //! A terminal with the outputs that wait to be taken and the text written last, and the inputs that it takes.
 
-ghost use Rattle.std.specs.Prelude.{◌≡◌, [], ◌∷◌, true, false, IsSomeAnd};
+ghost use Rattle.std.specs.Prelude.{◌≡◌, [], ◌∷◌, true, false, Some, IsSomeAnd};
 ghost use Rattle.std.specs.Option.{option_map};
 ghost use Rattle.vt_can.specs.frames.Frame.{source_of};
 ghost use Rattle.vt_host_events.specs.Events.{HasRoom, TellsEvents};
 ghost use Rattle.vt_session.specs.Calls.{Acts, Hears, Texts, Ticks};
 ghost use Rattle.vt_session.specs.Inputs.{action_input, frame_input, frame_of, text_input, time_of};
 ghost use Rattle.vt_server.specs.States.{state_of};
+ghost use Rattle.vt_server.specs.declared.input.Input.TheVariants as inputs;
 ghost use Rattle.vt_session.specs.Looks.{IsUntouched, LooksOn, next_look};
 ghost use Rattle.vt_session.specs.Sessions.{Answers, AnswersAt, AnswersWhen, Begins, Takes, TakesBoth, closed, input_at, profile_of};
 
@@ -39,6 +40,27 @@ pub struct Session {
     pub(crate) begun: bool,
 }
 
+impl Session {
+    /// The terminal as it is now.
+    pub fn terminal(&self) -> &Terminal
+        ensures { result.now ≡ self.now.terminal }
+    {
+        &self.terminal
+    }
+
+    /// A number that is another one after each call that may have changed the picture of the shown set.
+    pub fn look(&self) -> u64
+        ensures { result ≡ self.now.looks }
+    {
+        self.looks
+    }
+
+    /// Where its memory comes from.
+    pub fn allocator(&self) -> Global {
+        *self.text.allocator()
+    }
+}
+
 /// Begins a session with a new terminal. With an own address above 253 the session takes no input.
 pub fn begin(
     alloc: Global,
@@ -50,11 +72,22 @@ pub fn begin(
     hardware: u32,
     size: u32,
 ) -> Session
-    ensures { Begins own name memory keys fonts hardware size result }
+    ensures { Begins own name (profile_of memory keys fonts hardware size) result }
+{
+    begin_with(
+        alloc,
+        own,
+        name,
+        profile_of(memory, keys, fonts, hardware, size),
+    )
+}
+
+/// Begins a session with a new terminal of this profile. With an own address above 253 the session takes no input.
+pub fn begin_with(alloc: Global, own: u32, name: u64, profile: Profile) -> Session
+    ensures { Begins own name profile result }
 {
     let begun = own <= 253;
     let address = if begun { own as u8 } else { 0 };
-    let profile = profile_of(memory, keys, fonts, hardware, size);
     Session {
         terminal: Terminal::new_with(alloc, address, Name::from_raw(name), profile),
         outputs: Vec::new(alloc),
@@ -115,14 +148,28 @@ pub fn tick(session: &mut Session, time: u64) -> u32
     take_one(session, &Input::Frame { time, frame })
 }
 
+/// Hears a frame of the bus at a time.
+pub fn hear_frame(session: &mut Session, time: u64, frame: Frame) -> u32
+    ensures { Answers session.old (Some (inputs.Frame time frame)) session.new result }
+{
+    take(session, Some(Input::Frame { time, frame }))
+}
+
 /// Does an action of the operator at a time, or at the latest time so far where it is `LATEST`.
+pub fn operate(session: &mut Session, time: u64, action: Action<'_>) -> u32
+    ensures { AnswersWhen session.old time (Some (inputs.Operator action.entry)) session.new result }
+{
+    take_when(session, time, Some(Input::Operator(action)))
+}
+
+/// Does an action of the operator by its number, at a time as for `operate`.
 pub fn act(session: &mut Session, time: u64, kind: u32, id: u32, number: u32) -> u32
     ensures { Acts session.old time kind id number session.new result }
 {
     take_when(session, time, action_input(kind, id, number))
 }
 
-/// Enters a text of the operator at a time, or at the latest time so far where it is `LATEST`.
+/// Enters a text of the operator, at a time as for `operate`.
 pub fn text(session: &mut Session, time: u64, id: u32, text: &[u8]) -> u32
     ensures { Texts session.old time id text.entry session.new result }
 {

@@ -29,8 +29,12 @@ pub fn words(session: &mut Session, id: u32, count: u32, bits: u64) -> u64
     }
 }
 
-/// What a frame says. Objects have no names.
-fn sentence_of(alloc: Global, terminal: &Terminal, frame: &Frame) -> Result<String, AllocError> {
+/// What a frame says, with the addresses of its source and its destination. Objects have no names.
+pub fn sentence_of(
+    alloc: Global,
+    terminal: &Terminal,
+    frame: &Frame,
+) -> Result<String, AllocError> {
     let names = &Names::new(alloc);
     let sentence = Sentence {
         frame,

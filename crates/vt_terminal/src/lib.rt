@@ -13,7 +13,7 @@ ghost use Rattle.vt_session.specs.Calls.{Acts, Claims, Draws, Hears, Nexts, Tell
 ghost use Rattle.vt_session.specs.Dialogs.{TellsRaw, WritesLimits, WritesValue};
 ghost use Rattle.vt_session.specs.Preloads.{Preloads};
 ghost use Rattle.vt_session.specs.Readings.{Lists, ListsElements, Parts, Pictures, TellsActive, TellsPool, TellsSize, TellsTouched, WritesObject};
-ghost use Rattle.vt_session.specs.Sessions.{Begins};
+ghost use Rattle.vt_session.specs.Sessions.{Begins, profile_of};
 ghost use Rattle.vt_session.specs.Words.{WritesWords};
 
 use std::alloc::Global;
@@ -62,7 +62,7 @@ pub unsafe extern "C" fn vt_init(
     size: u32,
 )
     requires* { sem 𝓛 (room_at the_row at) }
-    ensures* { ∃ₛ (λ (after : Session). sem 𝓛 (lies_at the_row full_share at after) ∗ ⌜ Begins own name memory keys fonts hardware size after ⌝) }
+    ensures* { ∃ₛ (λ (after : Session). sem 𝓛 (lies_at the_row full_share at after) ∗ ⌜ Begins own name (profile_of memory keys fonts hardware size) after ⌝) }
 {
     unsafe {
         (at as *mut Session).write(session::begin(

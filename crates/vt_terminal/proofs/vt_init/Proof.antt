@@ -30,7 +30,7 @@ use borrow.Table.OneValue.{part_in}
 use Rattle.std.proofs.cell.Inside.{one}
 use Rattle.std.specs.contracts.alloc.Global as heap
 use Rattle.std.proofs.alloc.Global.TheLaws as heap_laws
-use Rattle.vt_session.specs.Sessions.{Begins}
+use Rattle.vt_session.specs.Sessions.{Begins, profile_of}
 use Rattle.vt_session.specs.contracts.session.Session.{the_row as R}
 use Rattle.vt_session.proofs.session.Session.TheLaws.{the_row_laws as LR}
 use Rattle.vt_session.specs.contracts.session.begin as g
@@ -61,9 +61,9 @@ vt_init_spec 𝓤 𝓛 𝓜 𝓡 wired =
     let G = triple_of 𝓛 g.signature (g.spec 𝓛 𝓜.mem 𝓡.returns) in let y : G.Ghost = ((tt, tt, tt, (a, (x1, (x2, (x3, (x4, (x5, (x6, (x7, tt)))))))), (h.0 ∷ [], (vint w32 x1 ∷ [], (vint w64 x2 ∷ [], (vint w32 x3 ∷ [], (vint w32 x4 ∷ [], (vint w32 x5 ∷ [], (vint w32 x6 ∷ [], (vint w32 x7 ∷ [], tt))))))))), tt) in
     nothing ! $ owned ! u32 (Is u32) (uint_Makes 𝓛 w32) x7 _ (refl, fits7) $ fjoin ! $ owned ! u32 (Is u32) (uint_Makes 𝓛 w32) x6 _ (refl, fits6) $ fjoin ! $ owned ! u32 (Is u32) (uint_Makes 𝓛 w32) x5 _ (refl, fits5) $ fjoin ! $ owned ! u32 (Is u32) (uint_Makes 𝓛 w32) x4 _ (refl, fits4) $ fjoin ! $ owned ! u32 (Is u32) (uint_Makes 𝓛 w32) x3 _ (refl, fits3) $ fjoin ! $ owned ! u64 (Is u64) (uint_Makes 𝓛 w64) x2 _ (refl, fits2) $ fjoin ! $ owned ! u32 (Is u32) (uint_Makes 𝓛 w32) x1 _ (refl, fits1) $ fjoin ! $ move ! (2 ∷ 0 ∷ []) $ fjoin ! $ nothing ! $ join ! $ nothing ! $ move ! (1 ∷ 0 ∷ []) $ join ! $ use1 𝓛 (raw (G.pre y)) (id⊢ 𝓤 (G.pre y)) $
     calls_at ! (framed 𝓤 𝓛.H 𝓜 𝓣) G (met 𝓤 𝓛 𝓜 𝓡 (code.calls-vt_session::session::begin 𝓡.env wired)) y (and_then ! (get ! refl) (and_then ! (get ! refl) (and_then ! (get ! refl) (and_then ! (get ! refl) (and_then ! (get ! refl) (and_then ! (get ! refl) (and_then ! (get ! refl) (and_then ! (get ! refl) (no_more !))))))))) (λ v.
-    use1 𝓛 (later (some (λ (r : R.Denot). (‵ ftrue ⊛ ‵ (R.own_val r (v ∷ []))) ⊛ some (λ (ws : Lasts g.ended tt (a, (x1, (x2, (x3, (x4, (x5, (x6, (x7, tt))))))))). ‵ (lasts g.ended tt (a, (x1, (x2, (x3, (x4, (x5, (x6, (x7, tt)))))))) ws) ⊛ raw (fact 𝓤 (Begins x1 x2 x3 x4 x5 x6 x7 r)))))) (id⊢ 𝓤 _) $
+    use1 𝓛 (later (some (λ (r : R.Denot). (‵ ftrue ⊛ ‵ (R.own_val r (v ∷ []))) ⊛ some (λ (ws : Lasts g.ended tt (a, (x1, (x2, (x3, (x4, (x5, (x6, (x7, tt))))))))). ‵ (lasts g.ended tt (a, (x1, (x2, (x3, (x4, (x5, (x6, (x7, tt)))))))) ws) ⊛ raw (fact 𝓤 (Begins x1 x2 (profile_of x3 x4 x5 x6 x7) r)))))) (id⊢ 𝓤 _) $
     await ! tt $ pick ! (λ r. split ! $ split ! $ drop ! $ peeks ! R (Is R) (shows 𝓛 R) r (v ∷ []) (λ is. let good = ((LR.lawful 𝓛).typed r (v ∷ []) is).0 in
-    lands_as ! refl refl good $ move ! (1 ∷ []) $ pick ! (λ _. split ! $ drop ! $ heard ! (Begins x1 x2 x3 x4 x5 x6 x7 r) (λ none.
+    lands_as ! refl refl good $ move ! (1 ∷ []) $ pick ! (λ _. split ! $ drop ! $ heard ! (Begins x1 x2 (profile_of x3 x4 x5 x6 x7) r) (λ none.
     -- [the state; the room; two that own nothing]
     assigns_last ! (of_opd ! (get ! refl)) (through ! refl (stop !)) (init ! 1 refl good) $
     exec ! 𝓣.C 𝓣.Λ (env code.Mir.locals l) code.Mir.t-2 (at_ret _ Post) $ sets ! (of_opd ! (unit_lit !)) refl (tt, tt) $
@@ -72,4 +72,4 @@ vt_init_spec 𝓤 𝓛 𝓜 𝓡 wired =
     rewrite ! 0 (λ (q : Ptr). ‵ (lies_at R full_share q r)) (sym e) refl $
     suffices ! _ (ends_at 𝓛 f.ended stayed c z vunit tt (tt, (tt, (tt, (tt, (tt, (tt, (tt, (tt, (tt, tt))))))))) (tt, (tt, (tt, (tt, (tt, (tt, (tt, (tt, (tt, tt)))))))))) $
     feq_i ! _ (vunit ∷ []) _ refl $ nothing ! $ nothing ! $ join ! $ nothing ! $ join ! $ nothing ! $ join ! $ nothing ! $ join ! $ nothing ! $ join ! $ nothing ! $ join ! $ nothing ! $ join ! $ nothing ! $ join ! $ nothing ! $ join ! $ nothing ! $ group ! 3 $ frame ! $
-    show ! (λ (after : R.Denot). sep 𝓤 (sem 𝓛 (lies_at R full_share p after)) (fact 𝓤 (Begins x1 x2 x3 x4 x5 x6 x7 after))) r $ says ! none $ done !))))))))
+    show ! (λ (after : R.Denot). sep 𝓤 (sem 𝓛 (lies_at R full_share p after)) (fact 𝓤 (Begins x1 x2 (profile_of x3 x4 x5 x6 x7) after))) r $ says ! none $ done !))))))))

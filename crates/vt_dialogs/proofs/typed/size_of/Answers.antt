@@ -1,4 +1,4 @@
-use Rattle.std.proofs.Common.{◌≡◌, ℕ, ◌*◌, ◌^◌, sym, ap, ap₂, ◌∙◌}
+use Rattle.std.proofs.Common.{ℕ, ◌*◌, ◌^◌, sym, ap, ◌∙◌}
 use Rattle.vt_dialogs.proofs.RawValues.{no_size}
 use Rattle.vt_dialogs.proofs.typed.size_of.Goals as goal
 

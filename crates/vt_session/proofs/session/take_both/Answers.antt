@@ -1,12 +1,11 @@
-use Rattle.std.proofs.Common.{◌≡◌, ℕ, ◌<◌, ◌^◌, List, [], ◌∷◌, inl, inr, take, Option, Some, refl, sym, ap, subst, ◌∙◌, arith}
+use Rattle.std.proofs.Common.{◌≡◌, ℕ, ◌<◌, ◌^◌, List, [], ◌∷◌, inl, inr, take, refl, sym, ap, subst, ◌∙◌, arith}
 use Rattle.vt_can.specs.declared.frames.frame.Frame.{Frame as CanFrame}
-use Rattle.vt_server.specs.declared.input.Input.{Input}
 use Rattle.vt_server.specs.declared.input.Input.TheVariants.{Frame}
 use Rattle.vt_server.specs.declared.output.Output.{Output}
 use Rattle.vt_server.specs.frame.Deadlines.{echo}
 use Rattle.vt_server.specs.States.{state_of, TakesInputs}
 use Rattle.vt_session.specs.declared.session.Session.{Session}
-use Rattle.vt_session.specs.Inputs.{frame_of, tick_at, time_of}
+use Rattle.vt_session.specs.Inputs.{frame_of, tick_at}
 use Rattle.vt_session.specs.Looks.{next_look}
 use Rattle.vt_session.specs.Sessions.{HasTaken, input_at}
 use Rattle.vt_session.proofs.Queue.{tick_alone}
