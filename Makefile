@@ -18,7 +18,7 @@ picture:
 pictures: build
 	@bash scripts/pictures.sh
 
-# Leaves quick builds of vt_replay, segyolant and segyolant_log in out/quick, to be run by their paths. They prove nothing.
+# Leaves quick builds of vt_replay, segyolant, segyolant_log and vt_live in out/quick, to be run by their paths. They prove nothing.
 quick:
 	@python3 scripts/quick.py
 
@@ -53,8 +53,8 @@ examples:
 wrong-bodies:
 	@python3 scripts/wrong_bodies.py $(CRATES)
 
-# Proves the programs and leaves them at crates/vt_replay/out/vt_replay, crates/segyolant/out/segyolant and
-# crates/segyolant_log/out/segyolant_log. Nothing is proved again that make prove has proved on this machine.
+# Proves the programs and leaves them at crates/vt_replay/out/vt_replay, crates/segyolant/out/segyolant, crates/segyolant_log/out/segyolant_log
+# and crates/vt_live/out/vt_live. Nothing is proved again that make prove has proved on this machine.
 build:
 	@python3 scripts/build.py
 

@@ -1,0 +1,4 @@
+-- Lemmas.
+pub mod Depths
+pub mod Listed
+pub mod Served

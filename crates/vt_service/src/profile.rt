@@ -1,0 +1,64 @@
+//! The profile of a terminal that a request begins.
+
+ghost use Rattle.std.specs.Prelude.{◌≡◌, ◌≤◌, IfOk};
+ghost use Rattle.serde_json.specs.View.{view};
+ghost use Rattle.vt_service.specs.Members.{most_of};
+ghost use Rattle.vt_service.specs.Requests.{number_or, profile_in};
+
+use crate::members::{Malformed, Member, number_in};
+use serde_json::Value;
+use vt_server::Profile;
+
+/// The profile of a request. A member that is not there has the number of the standard profile.
+pub(crate) fn profile_in(request: &Value) -> Result<Profile, Malformed>
+    ensures { result ≡ profile_in (view request.now) }
+{
+    let memory = number_or(request, Member::Memory, 1_048_576)? as u32;
+    let soft_key_width = byte_or(request, Member::SoftKeyWidth, 64)?;
+    let soft_key_height = byte_or(request, Member::SoftKeyHeight, 64)?;
+    let virtual_soft_keys = byte_or(request, Member::VirtualSoftKeys, 64)?;
+    let physical_soft_keys = byte_or(request, Member::PhysicalSoftKeys, 6)?;
+    let small_fonts = byte_or(request, Member::SmallFonts, 0x7F)?;
+    let large_fonts = byte_or(request, Member::LargeFonts, 0x7F)?;
+    let font_styles = byte_or(request, Member::FontStyles, 0)?;
+    let boot_time = byte_or(request, Member::BootTime, 0)?;
+    let graphic_type = byte_or(request, Member::GraphicType, 2)?;
+    let hardware = byte_or(request, Member::Hardware, 0)?;
+    let width = number_or(request, Member::Width, 480)? as u16;
+    let height = number_or(request, Member::Height, 480)? as u16;
+    Ok(Profile {
+        memory,
+        soft_key_width,
+        soft_key_height,
+        virtual_soft_keys,
+        physical_soft_keys,
+        small_fonts,
+        large_fonts,
+        font_styles,
+        boot_time,
+        graphic_type,
+        hardware,
+        width,
+        height,
+    })
+}
+
+/// The number of a member in 8 bits, or another one where the member is not there.
+fn byte_or(request: &Value, member: Member, standard: u8) -> Result<u8, Malformed>
+    requires { most_of member ≡ 255 }
+    ensures { result ≡ number_or (view request.now) member standard }
+{
+    Ok(number_or(request, member, u64::from(standard))? as u8)
+}
+
+/// The number of a member, or another one where the member is not there.
+fn number_or(request: &Value, member: Member, standard: u64) -> Result<u64, Malformed>
+    requires { standard ≤ most_of member }
+    ensures value { result ≡ number_or (view request.now) member standard }
+    ensures most { IfOk result (λ n. n ≤ most_of member) }
+{
+    if request.get(member.name()).is_none() {
+        return Ok(standard);
+    }
+    number_in(request, member)
+}

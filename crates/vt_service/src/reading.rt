@@ -1,0 +1,171 @@
+//! Reading of requests.
+
+ghost use Rattle.std.specs.Prelude.{◌≡◌, ◌⊎◌, Ok, Err, IfOk, IfErr, MatchOption};
+ghost use Rattle.serde_json.specs.View.{view};
+ghost use Rattle.vt_service.specs.Requests.{IsRefused, Names, Reads, action_in, command_in, command_value, place_in, question_in};
+ghost use Rattle.vt_service.specs.declared.members.Malformed.TheVariants as malformed;
+ghost use Rattle.vt_service.specs.declared.request.Kind.{Kind};
+
+use crate::members::{
+    Malformed, Member, bytes_in, frame_in, name_in, number_8, number_16, number_32, number_in,
+    typed_in,
+};
+use crate::profile::profile_in;
+use crate::request::{ActKind, Command, CommandKind, Kind, Question, QuestionKind, Request};
+use serde_json::Value;
+use std::alloc::Global;
+use vt_can::Action;
+
+/// Reads a request.
+pub(crate) fn read(alloc: Global, request: &Value) -> Result<Request, Malformed>
+    ensures ok { IfOk result (Reads (view request.now)) }
+    ensures err { IfErr result (IsRefused (view request.now)) }
+{
+    match kind_in(request) {
+        Some(Kind::Command(kind)) => Ok(Request::Command(command_in(alloc, request, kind)?)),
+        Some(Kind::Question(kind)) => Ok(Request::Question(question_in(request, kind)?)),
+        None => Err(Malformed::UnknownRequest),
+    }
+}
+
+/// The kind that a request names, if it names one.
+fn kind_in(request: &Value) -> Option<Kind>
+    ensures { MatchOption result ((kind : Kind) → Names (view request.now) kind → ⊥) (λ kind. Names (view request.now) kind) }
+{
+    match request.get("do").and_then(Value::as_str)? {
+        "begin" => Some(Kind::Command(CommandKind::Begin)),
+        "preload" => Some(Kind::Command(CommandKind::Preload)),
+        "frame" => Some(Kind::Command(CommandKind::Frame)),
+        "tick" => Some(Kind::Command(CommandKind::Tick)),
+        "press" => Some(Kind::Command(CommandKind::Act(ActKind::Press))),
+        "release" => Some(Kind::Command(CommandKind::Act(ActKind::Release))),
+        "select" => Some(Kind::Command(CommandKind::Act(ActKind::Select))),
+        "number" => Some(Kind::Command(CommandKind::Act(ActKind::Number))),
+        "set" => Some(Kind::Command(CommandKind::Act(ActKind::Set))),
+        "text" => Some(Kind::Command(CommandKind::Text)),
+        "claim" => Some(Kind::Command(CommandKind::Claim)),
+        "status" => Some(Kind::Command(CommandKind::Status)),
+        "screen" => Some(Kind::Question(QuestionKind::Screen)),
+        "picture" => Some(Kind::Question(QuestionKind::Picture)),
+        "part" => Some(Kind::Question(QuestionKind::Part)),
+        "elements" => Some(Kind::Question(QuestionKind::Elements)),
+        "object" => Some(Kind::Question(QuestionKind::Object)),
+        "sets" => Some(Kind::Question(QuestionKind::Sets)),
+        "limits" => Some(Kind::Question(QuestionKind::Limits)),
+        "raw" => Some(Kind::Question(QuestionKind::Raw)),
+        "touch" => Some(Kind::Question(QuestionKind::Touch)),
+        "words" => Some(Kind::Question(QuestionKind::Words)),
+        _ => None,
+    }
+}
+
+fn command_in(alloc: Global, request: &Value, kind: CommandKind) -> Result<Command, Malformed>
+    ensures ok { IfOk result (λ command. command_in (view request.now) kind ≡ Ok (command_value command)) }
+    ensures err { IfErr result (λ e. (e ≡ malformed.NoMemory) ⊎ (command_in (view request.now) kind ≡ Err e)) }
+{
+    match kind {
+        CommandKind::Begin => {
+            let own = number_8(request, Member::Own)?;
+            let name = name_in(request)?;
+            let profile = profile_in(request)?;
+            Ok(Command::Begin { own, name, profile })
+        }
+        CommandKind::Preload => {
+            let address = number_8(request, Member::Address)?;
+            let pool = bytes_in(alloc, request, Member::Pool)?;
+            Ok(Command::Preload { address, pool })
+        }
+        CommandKind::Frame => {
+            let time = number_in(request, Member::Time)?;
+            let frame = frame_in(request)?;
+            Ok(Command::Frame { time, frame })
+        }
+        CommandKind::Tick => {
+            let time = number_in(request, Member::Time)?;
+            Ok(Command::Tick { time })
+        }
+        CommandKind::Act(kind) => {
+            let time = number_in(request, Member::Time)?;
+            let action = action_in(request, kind)?;
+            Ok(Command::Act { time, action })
+        }
+        CommandKind::Text => {
+            let time = number_in(request, Member::Time)?;
+            let object = number_16(request, Member::Object)?;
+            let text = bytes_in(alloc, request, Member::Text)?;
+            Ok(Command::Text { time, object, text })
+        }
+        CommandKind::Claim => Ok(Command::Claim),
+        CommandKind::Status => Ok(Command::Status),
+    }
+}
+
+fn action_in(request: &Value, kind: ActKind) -> Result<Action<'static>, Malformed>
+    ensures { result ≡ action_in (view request.now) kind }
+{
+    match kind {
+        ActKind::Press => Ok(Action::Press(number_16(request, Member::Object)?)),
+        ActKind::Release => Ok(Action::Release(number_16(request, Member::Object)?)),
+        ActKind::Select => Ok(Action::Select(number_16(request, Member::Object)?)),
+        ActKind::Number => {
+            let object = number_16(request, Member::Object)?;
+            let value = number_32(request, Member::Value)?;
+            Ok(Action::Number(object, value))
+        }
+        ActKind::Set => Ok(Action::Set(number_8(request, Member::Address)?)),
+    }
+}
+
+fn question_in(request: &Value, kind: QuestionKind) -> Result<Question, Malformed>
+    ensures { result ≡ question_in (view request.now) kind }
+{
+    match kind {
+        QuestionKind::Screen => Ok(Question::Screen),
+        QuestionKind::Picture => {
+            let address = number_8(request, Member::Address)?;
+            let mask = number_16(request, Member::Mask)?;
+            Ok(Question::Picture { address, mask })
+        }
+        QuestionKind::Part => {
+            let (address, object) = place_in(request)?;
+            Ok(Question::Part { address, object })
+        }
+        QuestionKind::Elements => Ok(Question::Elements),
+        QuestionKind::Object => {
+            let (address, object) = place_in(request)?;
+            Ok(Question::Object { address, object })
+        }
+        QuestionKind::Sets => Ok(Question::Sets),
+        QuestionKind::Limits => {
+            let (address, object) = place_in(request)?;
+            Ok(Question::Limits { address, object })
+        }
+        QuestionKind::Raw => {
+            let (address, object) = place_in(request)?;
+            let typed = typed_in(request)?;
+            Ok(Question::Raw {
+                address,
+                object,
+                typed,
+            })
+        }
+        QuestionKind::Touch => {
+            let x = number_32(request, Member::X)?;
+            let y = number_32(request, Member::Y)?;
+            Ok(Question::Touch { x, y })
+        }
+        QuestionKind::Words => {
+            let frame = frame_in(request)?;
+            Ok(Question::Words { frame })
+        }
+    }
+}
+
+/// The address of a set, and the ID of an object of it.
+fn place_in(request: &Value) -> Result<(u8, u16), Malformed>
+    ensures { result ≡ place_in (view request.now) }
+{
+    let address = number_8(request, Member::Address)?;
+    let object = number_16(request, Member::Object)?;
+    Ok((address, object))
+}
