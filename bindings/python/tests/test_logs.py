@@ -1,0 +1,76 @@
+"""Replays, against what vt_replay printed of the same logs."""
+import io
+import re
+import unittest
+from unittest import mock
+
+from segyolant import Frame, LogError, NoPool, Refusal, replay, replay_text
+from segyolant.log_lines import FaultyLine, FrameLine
+from tests import stored
+from tests.support import EXAMPLES, SET, example
+
+COUNTS = re.compile(rb'lines \d+ frames \d+ operator \d+ skipped \d+ comments \d+ faults \d+\n')
+
+
+def text_of(run: stored.Run) -> bytes:
+    return replay_text(io.BytesIO(run.log), run.pools, run.own, run.name).encode('latin-1')
+
+
+class Stored(unittest.TestCase):
+    def test_logs_with_expectations(self) -> None:
+        runs = list(stored.logs_with_expectations())
+        self.assertGreater(len(runs), 130)
+        for run in runs:
+            with self.subTest(run.shown):
+                lines = text_of(run).splitlines(keepends=True)
+                self.assertRegex(lines[-1], COUNTS)
+                self.assertEqual([line.rstrip() for line in lines[:-1]], run.expected)
+
+    def test_command_lines_of_sessions(self) -> None:
+        runs = list(stored.runs_in_sessions())
+        self.assertGreater(len(runs), 40)
+        for run in runs:
+            with self.subTest(run.shown):
+                self.assertEqual(text_of(run), run.printed)
+
+
+class Steps(unittest.TestCase):
+    def test_a_step_a_line(self) -> None:
+        first, *steps = replay(EXAMPLES / 'hide.log', {SET: example('pool.iop')})
+        self.assertEqual((first.number, first.line, first.screen), (0, None, 'screen 80 mask 1000\ncontainer 100 10 5 50x20\n'))
+        self.assertEqual([step.number for step in steps], list(range(1, len(steps) + 1)))
+        hidden = next(step for step in steps if step.frames)
+        self.assertIsInstance(hidden.line, FrameLine)
+        self.assertEqual((hidden.frames, hidden.screen), ([Frame(0x14E68026, bytes.fromhex('A064000000FFFFFF'))], 'screen 80 mask 1000\n'))
+
+    def test_lines_in_text(self) -> None:
+        steps = list(replay(['# a log\n', '! press 400\n', 'x\n', '(2.500000) can0 18EA2680#00EE00']))
+        self.assertEqual([step.text for step in steps], [
+            'screen none\n', '', 'operator 9 NoSet\n', 'line 3 Time\n', '18EEFF26#01000000001D0020\n',
+        ])
+        self.assertEqual((steps[2].refusals, steps[3].line, steps[4].time), ([Refusal(9, 'NoSet')], FaultyLine(3, 'Time'), 2_500_000))
+
+    def test_many_lines_at_once(self) -> None:
+        lines = [b'(1.%06d) can0 18EA2680#00EE00\n' % k for k in range(120)]
+        with mock.patch('segyolant.logs.AT_ONCE', 50):
+            text = replay_text(lines)
+        self.assertEqual(text.count('18EEFF26#01000000001D0020\n'), 120)
+        self.assertTrue(text.endswith('lines 120 frames 120 operator 0 skipped 0 comments 0 faults 0\n'))
+
+    def test_a_line_that_is_too_long_comes_behind_those_before(self) -> None:
+        steps = replay([b'! press 1\n', b'#' * 5000])
+        self.assertEqual([next(steps).number, next(steps).number], [0, 1])
+        with self.assertRaisesRegex(LogError, 'line 2'):
+            next(steps)
+
+    def test_a_pool_that_is_none(self) -> None:
+        with self.assertRaises(NoPool):
+            list(replay([], {SET: b''}))
+
+    def test_a_log_that_is_not_there(self) -> None:
+        with self.assertRaises(OSError):
+            list(replay(EXAMPLES / 'none.log'))
+
+
+if __name__ == '__main__':
+    unittest.main()

@@ -1,0 +1,41 @@
+"""Names of objects."""
+import tempfile
+import unittest
+from pathlib import Path
+
+from segyolant import names_of
+from tests.support import EXAMPLES
+
+
+def names_in(text: bytes) -> 'dict[str, int]':
+    with tempfile.TemporaryDirectory() as folder:
+        path = Path(folder) / 'names'
+        path.write_bytes(text)
+        return names_of(path)
+
+
+class Names(unittest.TestCase):
+    def test_a_header(self) -> None:
+        text = b'/* keys */\r\n#define KEY_ON 2001 /* on */\r\n  #define KEY_OFF 0x7D2\n#define EMPTY\n#define TEXT "a"\n# define KEY 5\n'
+        self.assertEqual(names_in(text), {'KEY_ON': 2001, 'KEY_OFF': 2002})
+
+    def test_pairs(self) -> None:
+        self.assertEqual(names_in(b'1000,work mask\n0x3E9 , fold\nid,name\n70000,big\n5,\n7\n'), {'work mask': 1000, 'fold': 1001})
+
+    def test_a_later_line_is_taken(self) -> None:
+        self.assertEqual(names_in(b'#define a 1\n#define a 2\n'), {'a': 2})
+
+    def test_a_line_that_is_no_utf_8_is_passed_over(self) -> None:
+        self.assertEqual(names_in(b'1,\xff\n2,b\xc3\xbc\n'), {'b\xfc': 2})
+
+    def test_the_sprayer(self) -> None:
+        names = names_of(EXAMPLES / 'sprayer.h')
+        self.assertEqual((names['mask_work'], names['font_title']), (1000, 100))
+
+    def test_a_file_that_is_not_there(self) -> None:
+        with self.assertRaises(OSError):
+            names_of(EXAMPLES / 'none.h')
+
+
+if __name__ == '__main__':
+    unittest.main()
