@@ -4,7 +4,7 @@ ARGS ?= examples/seeder.log
 POOL ?= examples/sprayer.iop
 
 .PHONY: run picture pictures quick help test prove examples wrong-bodies build bench bench-hostile bench-counts refuse-memory test-c shared \
-	libs-aarch64
+	libs-aarch64 test-python wheel
 
 # Replays a log by the quick build of vt_replay, which proves nothing. Two minutes at first, a second later.
 run:
@@ -94,3 +94,12 @@ shared:
 # or make test-c left in this tree. make test-c then runs them too, if qemu-aarch64 and aarch64-linux-gnu-gcc are there.
 libs-aarch64:
 	@python3 scripts/static_libs.py --target aarch64-unknown-linux-gnu
+
+# Tests the package for Python by quick builds of the programs, and the recipes of docs/PYTHON.md.
+test-python:
+	@python3 scripts/quick.py
+	@cd bindings/python && SEGYOLANT_BIN=$(CURDIR)/out/quick python3 -B -W error -m unittest
+
+# Makes a package for Python with the proved programs, for x86-64 Linux, in out/wheel.
+wheel: build
+	@python3 -B bindings/python/make_wheel.py

@@ -6,6 +6,7 @@ from dataclasses import dataclass
 
 from . import checks
 from .frames import GLOBAL, NULL_ADDRESS, Frame, Refusal
+from .objects import NO_OBJECT
 from .outputs import Output
 from .terminal import Terminal
 
@@ -179,7 +180,8 @@ class Extras:
 
     def _select_error(self, address: int, object_id: int) -> int:
         """Why an input of a set cannot be selected, in the bits of the answer, or 0."""
-        if self.terminal.shown != address:
+        # (the ID 65535 asks that none be selected, which the core does not do)
+        if self.terminal.shown != address or object_id == NO_OBJECT:
             return OTHER_ERROR
         limits = self.terminal.limits(object_id)
         if limits is None:

@@ -16,7 +16,7 @@ def places(name: str) -> list[Path]:
     found: list[Path] = []
     named = os.environ.get(FOLDER_VARIABLE)
     if named:
-        found.append(Path(named) / name)
+        found.append(Path(named).absolute() / name)
     found.append(PACKAGE / 'bin' / name)
     top = checkout()
     if top is not None:
