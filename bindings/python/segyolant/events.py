@@ -2,7 +2,7 @@
 from __future__ import annotations
 
 import re
-from collections.abc import Mapping
+from collections.abc import Callable, Mapping
 from dataclasses import dataclass, fields
 from typing import Any
 
@@ -143,25 +143,33 @@ class AddressLost(Event):
     address: int
 
 
-# The name of an event in a line is that of its class, with hyphens: set-came.
-KINDS: Mapping[str, type[Event]] = {
-    re.sub('(?<=.)([A-Z])', r'-\1', kind.__name__).lower(): kind for kind in Event.__subclasses__()
+def name_of(kind: type[Event]) -> str:
+    """The name of an event in a line: that of its class with hyphens, as set-came."""
+    return re.sub('(?<=.)([A-Z])', r'-\1', kind.__name__).lower()
+
+
+KINDS: Mapping[str, Callable[..., Event]] = {name_of(kind): kind for kind in Event.__subclasses__()}
+MEMBERS: Mapping[str, tuple[str, ...]] = {
+    name_of(kind): tuple(each.name for each in fields(kind)) for kind in Event.__subclasses__()
 }
-MEMBERS: Mapping[str, tuple[str, ...]] = {name: tuple(each.name for each in fields(kind)) for name, kind in KINDS.items()}
 FAULT = re.compile(r'fault (?P<fault>\d+) (?P<name>\w+) at (?P<offset>\d+)')
 
 
 def event_of(line: Mapping[str, Any]) -> Event | None:
     """The event that a line of the core says, or None if it says none that this package knows."""
-    name = line.get('event')
-    kind = KINDS.get(str(name))
-    if kind is None:
+    name = str(line.get('event'))
+    if name not in KINDS:
         return None
-    if kind is PoolFaulty:
-        fault = FAULT.fullmatch(str(line.get('fault')))
-        if fault is None:
-            return None
-        return PoolFaulty(line['address'], int(fault['fault']), fault['name'], int(fault['offset']))
-    if any(member not in line for member in MEMBERS[str(name)]):
+    if name == 'pool-faulty':
+        return _faulty(line)
+    if any(member not in line for member in MEMBERS[name]):
         return None
-    return kind(*(line[member] for member in MEMBERS[str(name)]))
+    return KINDS[name](*(line[member] for member in MEMBERS[name]))
+
+
+def _faulty(line: Mapping[str, Any]) -> PoolFaulty | None:
+    """A faulty pool: its fault is a text, as `fault 1 Truncated at 3`."""
+    fault = FAULT.fullmatch(str(line.get('fault')))
+    if fault is None or 'address' not in line:
+        return None
+    return PoolFaulty(line['address'], int(fault['fault']), fault['name'], int(fault['offset']))

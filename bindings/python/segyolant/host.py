@@ -90,20 +90,24 @@ class Host:
             self._frames.append((checks.time(time), frame))
 
     def run(self, now: int) -> list[Output]:
-        """Does all that is due: hears the frames that wait, and then does what time brings. Returns what to send, show and notice."""
+        """Does all that is due: hears the frames that wait, and then does what time brings. Returns what to send, show and notice.
+
+        CoreEnded comes through: after `restart()` of the terminal the next run goes on, and nothing is lost.
+        """
         self._check_started(checks.time(now))
+        self._look_at_loss(now)
         if self._hear_all(now) and self._act_all(now):
             self._tick(now)
         self._say_status(now)
         if not self.is_over and now >= self._quiet_end:
-            self._outputs += self._extras.due(now)
+            self._say_extra(lambda: self._extras.due(now))
         return self._take_outputs()
 
     def act(self, now: int, action: Action) -> list[Output]:
         """Does what the operator did, as `lambda terminal, now: terminal.press(now, 400)`, once all frames that wait are heard.
 
-        Silent in the 250 milliseconds after a claim. What an action raises, as ValueError, comes through, and nothing is lost by it. Memory
-        that is refused is no error: `run` makes the action again.
+        Silent in the 250 milliseconds after a claim. What an action raises, as ValueError, comes through, and nothing is lost by it. Where
+        memory was refused, or the child ended (CoreEnded), the action waits, and `run` makes it again.
         """
         self._check_started(checks.time(now))
         if now < self._quiet_end:
@@ -184,8 +188,8 @@ class Host:
         return frame.source == self.terminal.own and (frame.group != CLAIMS or frame.data[:8] == own_claim)
 
     def _claim(self, now: int) -> None:
-        self._outputs += self._extras.before_claim()
-        self._outputs += self.terminal.claim()
+        claim = self.terminal.claim()
+        self._outputs += self._extras.before_claim() + claim
         self._quiet_end = self._next_tick = now + QUIET
         self._next_status = now + SECOND
 
@@ -193,31 +197,35 @@ class Host:
         """Hears the frames that wait. Returns whether none waits any more: memory may have been refused."""
         while self._frames and not self.is_over:
             time, frame = self._frames[0]
-            if not self._try(now, lambda: self._hear(time, frame)):
+            outputs = self._try(now, lambda: self._hear(time, frame))
+            if outputs is None:
                 return False
             self._frames.popleft()
+            is_quiet = time < self._quiet_end
+            self._say_extra(lambda: self._extras.heard(time, frame, outputs or [], is_quiet))
             self._look_at_loss(now)
         if self.is_over:
             self._frames.clear()
         return True
 
     def _hear(self, time: int, frame: Frame) -> list[Output]:
-        if time < self._quiet_end and frame.id >> 8 & 0x3FF00 not in (CLAIMS, REQUESTS):
+        """Hears a frame. In the silence after a claim one that might be answered with something else is passed over."""
+        if time < self._quiet_end and frame.group not in (CLAIMS, REQUESTS):
             return []
         outputs = self.terminal.hear(time, frame.id, frame.data)
         self._note_claim(frame)
-        return outputs + self._extras.heard(time, frame, outputs, is_quiet=time < self._quiet_end)
+        return outputs
 
     def _act_all(self, now: int) -> bool:
         """Does the actions that wait. Returns whether none waits any more."""
         while self._actions and not self.is_over:
             action = self._actions[0]
             try:
-                is_done = self._try(now, lambda: self._extras.acted(now, action(self.terminal, now)))
+                outputs = self._try(now, lambda: self._extras.acted(now, action(self.terminal, now)))
             except (ValueError, TypeError):
                 self._actions.popleft()
                 raise
-            if not is_done:
+            if outputs is None:
                 return False
             self._actions.popleft()
             self._look_at_loss(now)
@@ -225,21 +233,31 @@ class Host:
             self._actions.clear()
         return True
 
-    def _try(self, now: int, call: Callable[[], list[Output]]) -> bool:
-        """Makes a call, and keeps its outputs. Returns False where memory was refused and it is to be made again later."""
+    def _try(self, now: int, call: Callable[[], list[Output]]) -> list[Output] | None:
+        """Makes a call, keeps its outputs and returns them. None where memory was refused and it is to be made again later."""
         if self._tries > 0 and now < self._retry_at:
-            return False
+            return None
+        outputs: list[Output] = []
         try:
-            self._outputs += call()
+            outputs = call()
+            self._outputs += outputs
         except NoMemory as refused:
             self._outputs += refused.outputs
             self._tries += 1
             self._retry_at = now + RETRY_PAUSE
             if self._tries < TRIES:
-                return False
+                return None
             self.left_out += 1
         self._tries = 0
-        return True
+        return outputs
+
+    def _say_extra(self, call: Callable[[], list[Output]]) -> None:
+        """Says what an extra says. Where memory is refused to it, it is left out: what the core did is done."""
+        try:
+            self._outputs += call()
+        except NoMemory as refused:
+            self._outputs += refused.outputs
+            self.left_out += 1
 
     def _tick(self, now: int) -> None:
         """Tells the terminal the time, if that has something to do and the last tick is some time ago."""
@@ -277,16 +295,16 @@ class Host:
 
     def _look_at_loss(self, now: int) -> None:
         """Goes on at another address, if the own one is lost and another one is free."""
-        if not self.terminal.lost:
+        if self.is_over or not self.terminal.lost:
             return
         free = [each for each in self._addresses if each not in self._claims and each != self.terminal.own]
         if not free:
             self.is_over = True
             return
+        self.terminal.begin(free[0])
         self._addresses.remove(free[0])
         self._actions.clear()
-        self.terminal.begin(free[0])
-        for address, name in self._claims.items():
-            self.terminal.hear(now, CLAIM_TO_ALL | address, name)
         self._extras.begin()
+        for address, name in self._claims.items():
+            self._say_extra(lambda: self.terminal.hear(now, CLAIM_TO_ALL | address, name))
         self._claim(now)

@@ -11,7 +11,7 @@ from dataclasses import dataclass, field
 from typing import IO, Any
 
 from . import programs
-from .errors import CoreEnded, CoreError, ProtocolError, described, error_of, shortened
+from .errors import CoreEnded, CoreError, ProgramNotFound, ProtocolError, described, error_of, shortened
 
 Request = dict[str, object]
 Line = dict[str, Any]
@@ -41,16 +41,24 @@ class Live:
     """
 
     def __init__(self, program: str | os.PathLike[str] | None = None) -> None:
+        """Starts the program at that path, or where it is found by itself. ProgramNotFound if it is nowhere, or cannot be started."""
         self.program = os.fspath(programs.find('vt_live') if program is None else program)
         self._said = tempfile.TemporaryFile()
-        self._child = subprocess.Popen(
-            [self.program], bufsize=0, stdin=subprocess.PIPE, stdout=subprocess.PIPE, stderr=self._said, start_new_session=True
-        )
+        self._child = self._start()
         self._in, self._out = _open(self._child.stdin), _open(self._child.stdout)
         os.set_blocking(self._in, False)
         self._asked = 0
         self._rest = b''
         self._why = ''
+
+    def _start(self) -> subprocess.Popen[bytes]:
+        try:
+            return subprocess.Popen(
+                [self.program], bufsize=0, stdin=subprocess.PIPE, stdout=subprocess.PIPE, stderr=self._said, start_new_session=True
+            )
+        except OSError as error:
+            self._said.close()
+            raise ProgramNotFound(f'{self.program} cannot be started ({error.strerror}): a program for this processor is wanted') from error
 
     @property
     def pid(self) -> int:

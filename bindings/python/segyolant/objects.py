@@ -70,12 +70,14 @@ class Object:
     @property
     def children(self) -> tuple[Child, ...]:
         """The objects in it with their places; none for a kind that has no children."""
-        return self._list('children')
+        children: tuple[Child, ...] = self._list('children')
+        return children
 
     @property
     def macros(self) -> tuple[MacroOf, ...]:
         """Its events with their macros; none for a kind that has no macros."""
-        return self._list('macros')
+        macros: tuple[MacroOf, ...] = self._list('macros')
+        return macros
 
     @property
     def text(self) -> str:

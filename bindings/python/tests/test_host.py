@@ -3,7 +3,7 @@ import unittest
 from unittest import mock
 
 from segyolant import (
-    AddressLost, ExtraFrame, Frame, Host, Language, NoMemory, Output, Refusal, SegyolantError, SetSilent, Silent, Terminal,
+    AddressLost, CoreEnded, ExtraFrame, Frame, Host, Language, NoMemory, Output, Refusal, SegyolantError, SetSilent, Silent, Terminal,
 )
 from segyolant.extras import NAMES as EXTRAS
 from tests.support import CLAIM, FROM_SET, NAME, SET, command, example, upload
@@ -156,6 +156,28 @@ class Memory(WithHost):
             for later in range(1, 20):
                 outputs += host.run(QUIET_END + 1 + later * 1000)
         self.assertEqual((press.call_count, host.left_out, outputs), (10, 1, [Frame(1, b'')] * 10))
+
+
+    def test_an_extra_without_memory_is_left_out(self) -> None:
+        host = self.host('versions', pool='pool.iop')
+        host.receive(QUIET_END + 1, *GET_VERSIONS)
+        host.receive(QUIET_END + 2, FROM_SET, command('A0640000'))
+        with mock.patch.object(self.terminal, 'sets', side_effect=NoMemory('no-memory', {'do': 'sets'})):
+            self.assertEqual(texts(host.run(QUIET_END + 3)), ['14E68026#A064000000FFFFFF'])
+        self.assertEqual(host.left_out, 1)
+
+
+class Crash(WithHost):
+    def test_it_goes_on_with_another_child(self) -> None:
+        host = self.host(pool='pool.iop')
+        host.receive(QUIET_END + 1, FROM_SET, command('A0640000'))
+        self.terminal._live.kill()
+        host.receive(QUIET_END + 2, FROM_SET, command('A0640001'))
+        with self.assertRaises(CoreEnded):
+            host.run(QUIET_END + 3)
+        self.terminal.restart()
+        self.assertEqual(texts(host.run(QUIET_END + 4)), ['14E68026#A064000000FFFFFF', '14E68026#A064000100FFFFFF'])
+        self.assertEqual(self.terminal.screen(), 'screen 80 mask 1000\ncontainer 100 10 5 50x20\n')
 
 
 class Loss(WithHost):

@@ -7,7 +7,7 @@ import unittest
 from pathlib import Path
 from unittest import mock
 
-from segyolant import CoreEnded, ProtocolError
+from segyolant import CoreEnded, ProgramNotFound, ProtocolError
 from segyolant.live import Live
 from tests.support import SET, example
 
@@ -100,6 +100,10 @@ class Ends(unittest.TestCase):
         live = Live(program)
         self.addCleanup(live.close)
         return live
+
+    def test_what_cannot_be_started(self) -> None:
+        with self.assertRaisesRegex(ProgramNotFound, '/none cannot be started .No such file or directory.'):
+            Live('/none')
 
     def test_its_error_output_is_told(self) -> None:
         live = self.script('read line; echo "no more memory" >&2; exit 3')
