@@ -8,7 +8,7 @@ from decimal import Decimal
 from . import checks
 from .errors import NoMemory, SegyolantError
 from .extras import Extras, Language
-from .frames import NULL_ADDRESS, Frame, group_of
+from .frames import NULL_ADDRESS, Frame
 from .outputs import Output
 from .terminal import Terminal
 

@@ -6,7 +6,7 @@ from segyolant import (
     AddressLost, CoreEnded, ExtraFrame, Frame, Host, Language, NoMemory, Output, Refusal, SegyolantError, SetSilent, Silent, Terminal,
 )
 from segyolant.extras import NAMES as EXTRAS
-from tests.support import CLAIM, FROM_SET, NAME, SET, command, example, upload
+from tests.support import FROM_SET, NAME, SET, command, example, upload
 
 MAINTENANCE = (FROM_SET, command('FF01'))
 GET_VERSIONS = (FROM_SET, command('DF'))

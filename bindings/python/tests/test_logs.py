@@ -1,7 +1,9 @@
 """Replays, against what vt_replay printed of the same logs."""
 import io
+import os
 import re
 import unittest
+from concurrent.futures import ThreadPoolExecutor
 from unittest import mock
 
 from segyolant import Frame, LogError, NoPool, Refusal, replay, replay_text
@@ -16,22 +18,28 @@ def text_of(run: stored.Run) -> bytes:
     return replay_text(io.BytesIO(run.log), run.pools, run.own, run.name).encode('latin-1')
 
 
+def texts_of(runs: 'list[stored.Run]') -> 'list[tuple[stored.Run, bytes]]':
+    """The runs with their texts, made side by side: each waits for a child of its own."""
+    with ThreadPoolExecutor(len(os.sched_getaffinity(0))) as pool:
+        return list(zip(runs, pool.map(text_of, runs)))
+
+
 class Stored(unittest.TestCase):
     def test_logs_with_expectations(self) -> None:
         runs = list(stored.logs_with_expectations())
         self.assertGreater(len(runs), 130)
-        for run in runs:
+        for run, text in texts_of(runs):
             with self.subTest(run.shown):
-                lines = text_of(run).splitlines(keepends=True)
+                lines = text.splitlines(keepends=True)
                 self.assertRegex(lines[-1], COUNTS)
                 self.assertEqual([line.rstrip() for line in lines[:-1]], run.expected)
 
     def test_command_lines_of_sessions(self) -> None:
         runs = list(stored.runs_in_sessions())
         self.assertGreater(len(runs), 40)
-        for run in runs:
+        for run, text in texts_of(runs):
             with self.subTest(run.shown):
-                self.assertEqual(text_of(run), run.printed)
+                self.assertEqual(text, run.printed)
 
 
 class Steps(unittest.TestCase):

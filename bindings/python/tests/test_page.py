@@ -8,7 +8,6 @@ import types
 import unittest
 from pathlib import Path
 
-from segyolant import Frame
 from segyolant.extras import NAMES
 from segyolant.host import Host
 from tests.support import TOP
@@ -73,7 +72,7 @@ class Tables(unittest.TestCase):
             rows = re.findall(r'^ *\| (`[a-z-]+`) \| (.*) \|$', text, re.M)
             self.assertEqual([name.strip('`') for name, _ in rows], list(NAMES))
         on_page = re.findall(r'^\| `[a-z-]+` \| .* \|$', PAGE, re.M)
-        self.assertEqual(on_page, re.findall(r'^ +(\| `[a-z-]+` \| .* \|)$', Host.__doc__ or '', re.M))
+        self.assertEqual(on_page, re.findall(r'^ *(\| `[a-z-]+` \| .* \|)$', Host.__doc__ or '', re.M))
 
     def test_the_page_is_short(self) -> None:
         self.assertLessEqual(PAGE.count('\n'), 120)
