@@ -6,7 +6,7 @@ import tempfile
 from collections.abc import Iterator
 from itertools import islice
 
-from .live import Request
+from .live import Request, encoded
 
 # How many requests are read at once.
 PART = 1000
@@ -36,7 +36,7 @@ class Journal:
         """Adds a command that was done."""
         if not self.is_whole:
             return
-        line = json.dumps(request, separators=(',', ':')).encode('ascii') + b'\n'
+        line = encoded(request).encode('ascii') + b'\n'
         self._size += len(line)
         if self._size > self.most:
             self.is_whole = False

@@ -17,6 +17,8 @@ Request = dict[str, object]
 Line = dict[str, Any]
 
 READ = 1 << 16
+# A request as a text, in ASCII and without blanks.
+encoded = json.JSONEncoder(separators=(',', ':')).encode
 # How long a child whose input is closed may take to end, in seconds.
 END_SECONDS = 5.0
 
@@ -175,7 +177,7 @@ class _Exchange:
         """Takes a line of the child: an output or event of the request that is being served, or its answer."""
         reply = self.replies[min(self.done, len(self.replies) - 1)]
         try:
-            said: Line = json.loads(line)
+            said: Line = json.loads(line.decode('utf-8'))
         except ValueError:
             raise ProtocolError('a line that is no JSON', reply.request, f': {shortened(line.decode("latin-1"))}') from None
         if 'answer' not in said:
@@ -189,7 +191,7 @@ class _Exchange:
 
 def _line_of(request: Request, number: int) -> bytes:
     """A request as a line, with its number."""
-    return json.dumps({'id': number, **request}, separators=(',', ':')).encode('ascii') + b'\n'
+    return encoded({'id': number, **request}).encode('ascii') + b'\n'
 
 
 def _open(pipe: IO[bytes] | None) -> int:
