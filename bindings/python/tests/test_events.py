@@ -46,12 +46,6 @@ class Outputs(unittest.TestCase):
         self.assertEqual(outputs, [Frame(0x14E68026, b'\xa0\x64'), Refusal(1, 'NotShown'), Frame(0x18EEFF26, b'')])
         self.assertEqual([str(each) for each in outputs], ['14E68026#A064', 'operator 1 NotShown', '18EEFF26#'])
 
-    def test_fields_of_an_identifier(self) -> None:
-        answer, claim = Frame(0x14E68026, b''), Frame(0x18EEFF26, b'')
-        self.assertEqual((answer.group, answer.destination, answer.source), (0xE600, 0x80, 0x26))
-        self.assertEqual((claim.group, claim.destination), (0xEE00, 0xFF))
-        self.assertEqual((Frame(0x1CFE0D80, b'').group, Frame(0x1CFE0D80, b'').destination), (0xFE0D, None))
-
 
 if __name__ == '__main__':
     unittest.main()
