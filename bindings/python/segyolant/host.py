@@ -119,6 +119,11 @@ class Host:
             self._actions.append(action)
         return self._take_outputs()
 
+    def forget(self) -> None:
+        """Leaves out the frames and actions that wait, as after the end of the child at one of them, which may end it again."""
+        self._frames.clear()
+        self._actions.clear()
+
     def wake(self) -> int | None:
         """The time at which `run` is to be called if nothing comes before, or None if it is over."""
         if self.is_over:

@@ -25,6 +25,7 @@ QUIET = 250_000
 SILENCE = 3 * SECOND  # without a status message of the terminal
 ANSWER = 1_500_000  # for an answer to a command
 VERDICT = 10 * SECOND  # for the answer to the end of a pool
+TRIES = 3  # commands without an answer, after which the terminal is met anew
 RELEASED, PRESSED, STILL_HELD = 0, 1, 2
 # Where an answer has its error, which is 0 where the command was done.
 ERROR_AT = {0xA0: 4, 0xA1: 4, 0xA3: 1, 0xA4: 1, 0xA5: 5, 0xA6: 3, 0xA7: 4, 0xA8: 3, 0xA9: 3, 0xAA: 3, 0xAB: 3, 0xAC: 3, 0xAD: 3, 0xAE: 5,
@@ -46,7 +47,6 @@ class _Task:
     data: bytes
     answer: int | None
     patience: int = ANSWER
-    tries: int = 3
 
 
 class Implement:
@@ -323,14 +323,10 @@ class Implement:
         """An answer did not come: what belongs to the upload is sent again, and a terminal that answers no command is met anew."""
         task, self._task, self._task_end = self._task, None, None
         self._unanswered += 1
-        if task and task.answer in (commands.GET_MEMORY, commands.END_OF_POOL):
-            task.tries -= 1
-            if task.tries == 0:
-                self._fail('the terminal does not answer')
-            else:
-                self._tasks.appendleft(task)
-        elif self._unanswered == 3:
+        if self._unanswered == TRIES:
             self._register_again()
+        elif task and task.answer in (commands.GET_MEMORY, commands.END_OF_POOL):
+            self._tasks.appendleft(task)
 
     def _put(self, group: int, data: bytes, priority: int = 5, source: int | None = None) -> None:
         """Puts a frame among those to send. Only pieces of a pool are not filled up to eight bytes."""

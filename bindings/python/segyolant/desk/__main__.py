@@ -91,7 +91,8 @@ def make_desk(chosen: argparse.Namespace) -> Desk:
         return Terminal(chosen.own if own is None else own, chosen.name, program=chosen.program)
 
     recorder = Recorder(chosen.record) if chosen.record is not None else None
-    desk = Desk(make_terminal, line, by_id(names), recorder, {address: path.read_bytes() for address, path in chosen.pool})
+    desk = Desk(make_terminal, line, by_id(names), recorder, {address: path.read_bytes() for address, path in chosen.pool},
+                chosen.extras)
     if isinstance(line, LogLine):
         line.act = desk.play_action
         line.told = lambda: desk.audience.tell(line.state)

@@ -49,7 +49,7 @@ class Page:
         while True:
             await self._is_waiting.wait()
             self._is_waiting.clear()
-            await asyncio.wait_for(send(json.dumps(self._taken(), separators=(',', ':'))), PATIENCE)
+            await _in_time(send(json.dumps(self._taken(), separators=(',', ':'))))
 
     def _taken(self) -> list[Message]:
         messages = [*self._states.values(), *self._notes]
@@ -111,3 +111,16 @@ class Audience:
         self._history.extend(lines)
         for page in self.pages:
             page.add_lines(lines)
+
+
+async def _in_time(sending: Awaitable[None]) -> None:
+    """Waits for a message to be sent. TimeoutError if it takes too long. (Before Python 3.12 asyncio.wait_for may lose a cancellation.)"""
+    task = asyncio.ensure_future(sending)
+    try:
+        done, _ = await asyncio.wait({task}, timeout=PATIENCE)
+    finally:
+        if not task.done():
+            task.cancel()
+    if not done:
+        raise asyncio.TimeoutError
+    task.result()

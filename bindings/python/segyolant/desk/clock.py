@@ -44,15 +44,19 @@ class SlowClock(Clock):
 
 
 class PlayClock(Clock):
-    """The clock of a log. It can stand still, go faster or slower, and be put forward; it never goes back."""
+    """The clock of a log. It can stand still, go faster or slower, and be put forward; it never goes back.
+
+    It does not go beyond `limit`, the time of what is played next, so that a slow terminal does not see time run away from its frames.
+    """
 
     def __init__(self, start: int, speed: float = 1.0) -> None:
+        self.limit = start
         self._at, self._since, self._speed, self._runs = start, super().now(), speed, False
 
     def now(self) -> int:
         if not self._runs:
             return self._at
-        return self._at + round((super().now() - self._since) * self._speed)
+        return max(self._at, min(self._at + round((super().now() - self._since) * self._speed), self.limit))
 
     def seconds_until(self, moment: int) -> float | None:
         return max(moment - self.now(), 0) / SECOND / self._speed if self._runs else None

@@ -31,11 +31,11 @@ class Desk:
     """Gives the terminal what comes from the line and from the pages, and tells the pages what comes of it."""
 
     def __init__(self, make_terminal: Callable[[int | None], Terminal], line: Line, names: Mapping[int, str] = {},
-                 recorder: Recorder | None = None, pools: Mapping[int, bytes] = {}) -> None:
-        self._make_terminal, self.line, self.names, self.recorder = make_terminal, line, names, recorder
+                 recorder: Recorder | None = None, pools: Mapping[int, bytes] = {}, extras: Sequence[str] = ()) -> None:
+        self._make_terminal, self.line, self.names, self.recorder, self._extras = make_terminal, line, names, recorder, extras
         self.clock = line.clock
         self.terminal = make_terminal(None)
-        self.host = Host(self.terminal)
+        self.host = Host(self.terminal, extras=extras)
         self.audience = Audience()
         self.trace = Trace(self)
         self.painter = Painter(self)
@@ -256,7 +256,7 @@ class Desk:
         """Makes a new terminal, at the same address or another one, and claims that."""
         self.terminal.close()
         self.terminal = self._make_terminal(self.terminal.own if own is None else own)
-        self.host = Host(self.terminal)
+        self.host = Host(self.terminal, extras=self._extras)
         self.speaks_for = set(self.pools)
         for address, pool in self.pools.items():
             if address != self.terminal.own:

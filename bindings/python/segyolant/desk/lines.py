@@ -151,6 +151,7 @@ class LogLine:
 
     def open(self, hear: Hear) -> None:
         self._hear = hear
+        self._set_limit()
         self.clock.set(runs=True)
         self._plan()
 
@@ -182,16 +183,25 @@ class LogLine:
         self._plan()
 
     def _play_line(self) -> None:
-        line, self._next = self._next, self._next_line()
+        line = self._next
         if line is None:
             return
         self.position = line.number
         if isinstance(line, ActionLine):
             self.act(line)
-            return
-        self.clock.set(at_least=line.time + self._shift)
-        if line.frame.source != self.own:
-            self._hear([(line.time + self._shift, line.frame.id, line.frame.data)])
+        else:
+            self.clock.set(at_least=line.time + self._shift)
+            if line.frame.source != self.own:
+                self._hear([(line.time + self._shift, line.frame.id, line.frame.data)])
+        self._next = self._next_line()
+        self._set_limit()
+
+    def _set_limit(self) -> None:
+        """The clock goes up to the next line. At the end it stands still, and what is shown stays."""
+        if isinstance(self._next, FrameLine):
+            self.clock.limit = max(self._next.time + self._shift, self.clock.limit)
+        elif self._next is None:
+            self.clock.set(runs=False)
 
     def _next_line(self) -> FrameLine | ActionLine | None:
         """The next line that does something."""

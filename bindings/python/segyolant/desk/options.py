@@ -4,6 +4,7 @@ from __future__ import annotations
 import argparse
 from pathlib import Path
 
+EXTRAS = ['request-claims', 'versions', 'language']
 USAGE = """examples:
   python3 -m segyolant.desk                                      a simulated sprayer
   python3 -m segyolant.desk --bus socketcan:can0                 your implement, on a bus of python-can
@@ -27,6 +28,8 @@ def parse(words: list[str] | None = None) -> argparse.Namespace:
     parser.add_argument('--record', metavar='FILE', type=Path, help='record the bus as candump does')
     parser.add_argument('--own', metavar='AA', type=_address, default=0x26, help="the terminal's address in hexadecimal (26)")
     parser.add_argument('--name', metavar='NAME', type=_name, default=0x20001D0000000001, help='its NAME, 16 hexadecimal digits')
+    parser.add_argument('--extras', metavar='NAME,..', type=lambda text: [each for each in text.split(',') if each], default=EXTRAS,
+                        help=f'what is said beside the core, as segyolant.host has it ({",".join(EXTRAS)})')
     parser.add_argument('--program', metavar='FILE', type=_file, help='the program vt_live')
     parser.add_argument('--port', type=int, default=8099, help='the port of the page (8099), 0 for any free one')
     parser.add_argument('--host', default='127.0.0.1', help='the address of the page; all but loopback opens it to a network')

@@ -75,7 +75,7 @@ def dialog(terminal: Terminal, object: int, names: Names) -> dict[str, Any] | No
     limits = terminal.limits(object)
     if limits is None:
         return None
-    told: dict[str, Any] = {'object': object, 'name': names.get(object, ''), 'kind': ACTIVE[limits.kind], 'enabled': limits.enabled,
+    told: dict[str, Any] = {'object': object, 'name': names.get(object, ''), 'input': ACTIVE[limits.kind], 'enabled': limits.enabled,
                             'value': limits.value}
     if limits.kind == INPUT_NUMBER:
         told.update(number_limits(limits))

@@ -186,8 +186,8 @@ let entry = null; // the input that is asked for, and how its value is sent
 
 function ask(message) {
   const fields = { number: askNumber, text: askText, list: askChoice, boolean: askChoice };
-  entry = { object: message.object, ...fields[message.kind](message) };
-  $('dialog-title').textContent = `${message.kind} ${message.object}${message.name ? ` ${message.name}` : ''}`;
+  entry = { object: message.object, ...fields[message.input](message) };
+  $('dialog-title').textContent = `${message.input} ${message.object}${message.name ? ` ${message.name}` : ''}`;
   $('hint').textContent = message.enabled ? entry.hint : 'This input is disabled.';
   $('fault').textContent = '';
   $('entry').replaceChildren(...entry.elements);
