@@ -4,7 +4,7 @@ ARGS ?= examples/seeder.log
 POOL ?= examples/sprayer.iop
 
 .PHONY: run picture pictures quick help test prove examples wrong-bodies build bench bench-hostile bench-counts refuse-memory test-c shared \
-	libs-aarch64 test-python wheel
+	libs-aarch64 test-python wheel desk test-desk
 
 # Replays a log by the quick build of vt_replay, which proves nothing. Two minutes at first, a second later.
 run:
@@ -103,3 +103,12 @@ test-python:
 # Makes a package for Python with the proved programs, for x86-64 Linux, in out/wheel.
 wheel: build
 	@python3 -B bindings/python/make_wheel.py
+
+# Runs the terminal on the desk: a page in the browser with the live mask and the bus, for a simulated sprayer, or as ARGS say:
+# make desk ARGS="--bus socketcan:can0" (docs/DESK.md).
+desk:
+	@python3 scripts/desk.py run $(if $(filter command line,$(origin ARGS)),$(ARGS))
+
+# Tests the desk, the test bench and the simulated implement: the server, and the page in headless Chromium. Pictures of it go to out/desk.
+test-desk:
+	@python3 scripts/desk.py test
