@@ -17,6 +17,8 @@ from pathlib import Path
 HERE = Path(__file__).resolve().parent
 TOP = HERE.parents[1]
 PROGRAMS = ('vt_live', 'segyolant', 'vt_replay')
+# What the simulated sprayer of the desk lives on.
+EXAMPLES = ('sprayer.iop', 'sprayer.h')
 TAG = 'py3-none-linux_x86_64'
 # The earliest date that a zip file can say.
 DATE = (1980, 1, 1, 0, 0, 0)
@@ -39,8 +41,9 @@ def metadata() -> str:
 def files(pattern: str) -> list[tuple[str, bytes, int]]:
     """The files of the wheel but its RECORD: path, bytes and mode."""
     package = HERE / 'segyolant'
-    modules = sorted([*package.glob('*.py'), package / 'py.typed'])
-    made = [(f'segyolant/{path.name}', path.read_bytes(), 0o644) for path in modules]
+    modules = sorted([*package.glob('*.py'), *package.glob('desk/*.py'), *package.glob('desk/static/*'), package / 'py.typed'])
+    made = [(f'segyolant/{path.relative_to(package)}', path.read_bytes(), 0o644) for path in modules]
+    made += [(f'segyolant/examples/{name}', (TOP / 'examples' / name).read_bytes(), 0o644) for name in EXAMPLES]
     for name in PROGRAMS:
         path = TOP / pattern.replace('{}', name)
         if not path.is_file():

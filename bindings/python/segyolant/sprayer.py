@@ -12,7 +12,7 @@ from struct import pack
 from . import commands
 from .implement import SECOND, Implement
 from .objects import objects_in
-from .programs import checkout
+from .programs import PACKAGE, checkout
 
 WORKING_SET, MASK_WORK, MASK_FOLD = 1, 1000, 1500
 V_RATE, V_SPEED, V_TANK, S_FIELD = 200, 201, 202, 203
@@ -133,11 +133,12 @@ class Sprayer(Implement):
 
 
 def sprayer_file(kind: str) -> Path:
-    """The path of `sprayer.iop` or `sprayer.h` in the repository. FileNotFoundError where this package stands alone."""
+    """The path of `sprayer.iop` or `sprayer.h`, in this package or in the repository. FileNotFoundError where they are in neither."""
     top = checkout()
-    if top is None:
-        raise FileNotFoundError(f'sprayer.{kind} is in the folder examples of the repository, and this package stands outside of it')
-    return top / 'examples' / f'sprayer.{kind}'
+    path = (PACKAGE if top is None else top) / 'examples' / f'sprayer.{kind}'
+    if not path.is_file():
+        raise FileNotFoundError(f'{path} is not there: the simulated sprayer needs it, from the folder examples of the repository')
+    return path
 
 
 def full_pool(pool: bytes) -> bytes:
