@@ -49,7 +49,8 @@ class Operating(WithPage):
         self.open_sprayer()
         browser = self.browser
         browser.until(lambda: browser.all('#picture img'), 'the picture')
-        self.assertEqual(browser.script('const i = document.querySelector("#picture img"); return [i.naturalWidth, i.naturalHeight]'), [552, 480])
+        size = browser.script('const image = document.querySelector("#picture img"); return [image.naturalWidth, image.naturalHeight]')
+        self.assertEqual(size, [552, 480])
         browser.until(lambda: browser.all('#sets button img'), 'the designator')
         browser.until(lambda: any('the pool of 80 is accepted' in line.text for line in browser.all('#lines .good')), 'the acceptance')
         browser.until(lambda: 'Change Numeric Value: Number Variable 200 `v_rate`' in browser.text('#lines'), 'words')
@@ -296,7 +297,8 @@ class Latency(WithPage):
         self.assertGreater(len(seconds), 40)
         median, most = statistics.median(seconds), seconds[int(len(seconds) * 0.95)]
         program = str(self.desk.desk.terminal._live.program)
-        print(f'\nfrom the frame to the page, {len(seconds)} changes by {program}: median {median * 1000:.0f} ms, 95 % under {most * 1000:.0f} ms')
+        print(f'\nfrom the frame to the page, {len(seconds)} changes by {program}: '
+              f'median {median * 1000:.0f} ms, 95 % under {most * 1000:.0f} ms')
         if 'out/quick' in program:
             self.skipTest('the times are promised of the proved program: a quick build draws slowly')
         self.assertLess(median, MEDIAN)

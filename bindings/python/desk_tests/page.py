@@ -68,8 +68,7 @@ class Browser:
 
     def __init__(self) -> None:
         options = webdriver.ChromeOptions()
-        for word in ('--headless=new', '--no-sandbox', '--disable-dev-shm-usage', '--window-size=1500,900', '--force-prefers-reduced-motion',
-                     '--disable-gpu', '--mute-audio'):
+        for word in ('--headless=new', '--no-sandbox', '--disable-dev-shm-usage', '--window-size=1500,900', '--disable-gpu', '--mute-audio'):
             options.add_argument(word)
         options.set_capability('goog:loggingPrefs', {'browser': 'ALL'})
         self.driver = webdriver.Chrome(service=Service('/usr/bin/chromedriver'), options=options)
@@ -89,7 +88,8 @@ class Browser:
                 return found
             if time.monotonic() > end:
                 self.shot('failure')
-                raise AssertionError(f'{what}: not within {seconds} s; the page says {self.script("return document.body.innerText")[:600]!r}')
+                says = self.script('return document.body.innerText')[:600]
+                raise AssertionError(f'{what}: not within {seconds} s; the page says {says!r}')
             time.sleep(0.03)
 
     def all(self, selector: str) -> list[WebElement]:

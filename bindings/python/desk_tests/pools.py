@@ -65,4 +65,5 @@ def hostile() -> bytes:
 def plain(title: str = 'The second set') -> bytes:
     """A pool with a text, a text input and a key."""
     return b''.join([working_set((3000, 0, 0), colour=RED), font(), text(3000, title.encode('latin-1')), text(3101, b'GO'),
-                     input_text(3200, b'my name         '), key(KEY, (3101, 4, 20)), soft_keys(KEY), mask((3000, 4, 4), (3200, 4, 40), keys=KEYS)])
+                     input_text(3200, b'my name         '), key(KEY, (3101, 4, 20)), soft_keys(KEY),
+                     mask((3000, 4, 4), (3200, 4, 40), keys=KEYS)])

@@ -197,8 +197,8 @@ class Bench:
         before = len(self.refusals)
         self.bus.send(self.node, self.node.act(self.bus.time, action, *arguments))
         if len(self.refusals) > before:
-            shown = ' '.join([self.name(arguments[0]), *(repr(each) for each in arguments[1:])]) if words != 'choose' else f'{arguments[0]:02X}'
-            raise self._refused(self.refusals[-1], f'{words} {shown}')
+            first = f'{arguments[0]:02X}' if action == 'choose' else self.name(arguments[0])
+            raise self._refused(self.refusals[-1], ' '.join([words, first, *(repr(each) for each in arguments[1:])]))
 
     def _refused(self, refusal: Refusal, what: str) -> Refused:
         return Refused(refusal, f'{what}: refused, {refusal.number} {refusal.name}\n{self.state()}')
@@ -213,7 +213,7 @@ class Bench:
     @property
     def shown(self) -> Probe:
         """The address of the shown set."""
-        return Probe(self, 'the shown set', lambda: self.terminal.shown, show=lambda address: 'none' if address is None else f'{address:02X}')
+        return Probe(self, 'the shown set', lambda: self.terminal.shown, show=lambda at: 'none' if at is None else f'{at:02X}')
 
     @property
     def alarm(self) -> Probe:
@@ -280,7 +280,8 @@ class Bench:
         return None if found is None else found[attribute]
 
     def _mask(self) -> int | None:
-        return self._once('mask', lambda: next((each.mask for each in self.terminal.sets() if each.shown), None))  # type: ignore[no-any-return]
+        mask: int | None = self._once('mask', lambda: next((each.mask for each in self.terminal.sets() if each.shown), None))
+        return mask
 
     def _alarm(self) -> int | None:
         mask = self._mask()
@@ -288,7 +289,7 @@ class Bench:
         return mask if found is not None and found.kind_name == 'Alarm Mask' else None
 
     def _screen(self) -> str:
-        return self._once('screen', self.terminal.screen)  # type: ignore[no-any-return]
+        return str(self._once('screen', self.terminal.screen))
 
     def _once(self, key: Any, ask: Callable[[], Any]) -> Any:
         """What the terminal is asked, once until it may have changed."""

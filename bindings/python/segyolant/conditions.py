@@ -151,7 +151,9 @@ class Screen:
     def _nearest(self, part: str) -> str:
         lines = self.text.splitlines()
         near = difflib.get_close_matches(part, lines, 3, 0.4) or [line for line in lines if part.split(' ')[0] in line][:3]
-        return 'the nearest lines of the screen:\n' + '\n'.join(f'  {line}' for line in near) if near else 'no line of the screen is like it'
+        if not near:
+            return 'no line of the screen is like it'
+        return '\n'.join(['the nearest lines of the screen:', *(f'  {line}' for line in near)])
 
     def _difference(self, wanted: list[str]) -> str:
         lines = difflib.unified_diff(wanted, self.text.strip().splitlines(), 'expected', 'shown', lineterm='', n=1)

@@ -149,7 +149,8 @@ def full_pool(pool: bytes) -> bytes:
     alarm = pack('<HBBHBBBB', ALARM, 2, RED, ALARM_KEYS, 1, 0, 2, 0) + _children((ALARM_TITLE, 40, 60), (ALARM_TANK, 40, 140))
     tank = pack('<HBHHBHBHII', ALARM_TANK, 12, 200, 32, RED, FONT_TITLE, 1, V_TANK, 0, 0) + PLAIN + pack('<BB', 0, 0)
     field = pack('<HBHHBHHBHBB16sBB', IN_FIELD, 8, 200, 20, 1, FONT_INPUT, NULL, 0, S_FIELD, 0, 16, b' ' * 16, 1, 0)
-    added = [alarm, pack('<HBBBBHH', ALARM_KEYS, 4, SILVER, 2, 0, KEY_OK, KEY_FILL), _key(KEY_OK, 20, OK_TEXT), _key(KEY_FILL, 21, FILL_TEXT),
+    keys = pack('<HBBBBHH', ALARM_KEYS, 4, SILVER, 2, 0, KEY_OK, KEY_FILL)
+    added = [alarm, keys, _key(KEY_OK, 20, OK_TEXT), _key(KEY_FILL, 21, FILL_TEXT),
              _string(ALARM_TITLE, FONT_TITLE, 'THE TANK IS LOW', 400, 28), tank, _string(OK_TEXT, FONT_KEY, 'OK', 56, 14),
              _string(FILL_TEXT, FONT_KEY, 'FILL', 56, 14), field, _string(FIELD_LABEL, FONT_LABEL, 'Field', 100, 12),
              _with_children(pool, (FIELD_LABEL, 12, 399), (IN_FIELD, 12, 413))]

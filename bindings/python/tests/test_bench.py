@@ -19,6 +19,7 @@ from segyolant.implement import Implement
 from segyolant.sprayer import NAMES, Sprayer
 from tests.support import EXAMPLES, PYTHON, TOP, example
 
+APT = 'apt-get install -y --no-install-recommends'
 ALL_NAMES = {**names_of(EXAMPLES / 'sprayer.h'), **NAMES}
 
 
@@ -176,12 +177,12 @@ class Failures(WithSprayer):
         self.assertIn('the pool of 80 is accepted\nits phase is failed: the pool is refused: error 2, parent 1000', said)
 
 
-@unittest.skipUnless(importlib.util.find_spec('pytest'), f'{sys.executable} has no pytest: apt-get install -y --no-install-recommends python3-pytest')
+@unittest.skipUnless(importlib.util.find_spec('pytest'), f'{sys.executable} has no pytest: {APT} python3-pytest')
 class Fixtures(unittest.TestCase):
     def run_pytest(self, *words: str, cwd: Path = TOP) -> subprocess.CompletedProcess[str]:
         environment = {**os.environ, 'PYTHONPATH': str(PYTHON), 'PYTHONDONTWRITEBYTECODE': '1'}
-        return subprocess.run([sys.executable, '-m', 'pytest', '-q', '-p', 'no:cacheprovider', *words], cwd=cwd, capture_output=True, text=True,
-                              env=environment)
+        command = [sys.executable, '-m', 'pytest', '-q', '-p', 'no:cacheprovider', *words]
+        return subprocess.run(command, cwd=cwd, capture_output=True, text=True, env=environment)
 
     def test_the_sprayers_suite(self) -> None:
         ran = self.run_pytest('examples/sprayer_bench')

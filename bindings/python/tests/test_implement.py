@@ -198,8 +198,8 @@ class Life(World):
             self.bus.send(node, node.act(self.bus.time, action, *arguments))
             self.bus.run(SECOND // 10)
         heard = [(each.what, each.object, each.value) for each in implement.heard]
-        self.assertEqual(heard, [('key', 2001, True), ('key', 2001, False), ('button', 360, True), ('button', 360, False), ('number', 351, 250),
-                                 ('number', 354, 2), ('text', 3020, b'South field 7')])
+        self.assertEqual(heard, [('key', 2001, True), ('key', 2001, False), ('button', 360, True), ('button', 360, False),
+                                 ('number', 351, 250), ('number', 354, 2), ('text', 3020, b'South field 7')])
 
     def test_a_refused_command_is_kept(self) -> None:
         implement = self.live(Implement(POOL))

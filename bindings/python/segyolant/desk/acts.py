@@ -144,5 +144,6 @@ WHY = {
     'Busy': 'the implement has not taken the text before it yet', 'NoSet': 'no set is shown',
 }
 ACTS: dict[str, Callable[[Desk, Page, dict[str, Any]], None]] = {
-    'press': press, 'release': release, 'open': open_dialog, 'enter': enter, 'choose': choose, 'begin': begin, 'record': record, 'play': play,
+    'press': press, 'release': release, 'open': open_dialog, 'enter': enter, 'choose': choose, 'begin': begin, 'record': record,
+    'play': play,
 }

@@ -24,7 +24,8 @@ def parse(words: list[str] | None = None) -> argparse.Namespace:
     parser.add_argument('--bitrate', type=int, help='the bits a second, for interfaces that set them')
     parser.add_argument('--pool', metavar='AA=FILE', type=_pool, action='append', default=[],
                         help='a pool that is there from the start, at an address in hexadecimal')
-    parser.add_argument('--names', metavar='FILE', type=_file, action='append', default=[], help='the names of objects, as a pool editor writes them')
+    parser.add_argument('--names', metavar='FILE', type=_file, action='append', default=[],
+                        help='the names of objects, as a pool editor writes them')
     parser.add_argument('--record', metavar='FILE', type=Path, help='record the bus as candump does')
     parser.add_argument('--own', metavar='AA', type=_address, default=0x26, help="the terminal's address in hexadecimal (26)")
     parser.add_argument('--name', metavar='NAME', type=_name, default=0x20001D0000000001, help='its NAME, 16 hexadecimal digits')

@@ -53,7 +53,8 @@ class _Reader:
             return
         x, y, width, height = (int(attributes[key]) if key in attributes else None for key in ('x', 'y', 'width', 'height'))
         around = self._areas[-1] if self._areas else _Area(0, 0, 0, 0, width or 0, height or 0, False)
-        area = _Area(around.x + (x or 0), around.y + (y or 0), around.left, around.top, around.right, around.bottom, 'data-id' in attributes)
+        corner = around.x + (x or 0), around.y + (y or 0)
+        area = _Area(*corner, around.left, around.top, around.right, around.bottom, 'data-id' in attributes)
         # (an element without a size, as a Working Set, clips nothing)
         if attributes.get('overflow') != 'visible' and not (area.is_element and width is None):
             area.left, area.top = max(area.x, area.left), max(area.y, area.top)

@@ -107,7 +107,8 @@ def items(terminal: Terminal, object: int) -> list[dict[str, Any]]:
 def allowed(terminal: Terminal, object: int) -> dict[str, Any]:
     """The characters that the input's attributes name: those that are allowed, or those that are not."""
     found = terminal.object(object)
-    attributes = None if found is None or found.number('input_attributes') == NO_OBJECT else terminal.object(found.number('input_attributes'))
+    id = NO_OBJECT if found is None else found.number('input_attributes')
+    attributes = None if id == NO_OBJECT else terminal.object(id)
     if attributes is None:
         return {}
     return {'characters': attributes.text, 'are_forbidden': attributes.number('validation_type') == 1}
@@ -119,7 +120,8 @@ def event_words(event: Event, names: Names) -> tuple[str, str] | None:
     if isinstance(event, PoolFaulty):
         return f'the pool of {at} is refused: fault {event.fault} {event.name} at {event.offset}', 'bad'
     if isinstance(event, PoolRefused):
-        return f'the pool of {at} is refused: rule {event.rule}{_named(event.object, names)}{_named(event.other, names, ", which names ")}', 'bad'
+        objects = _named(event.object, names) + _named(event.other, names, ', which names ')
+        return f'the pool of {at} is refused: rule {event.rule}{objects}', 'bad'
     plain: dict[type, tuple[str, str]] = {
         SetCame: (f'set {at} came', 'plain'), SetSilent: (f'set {at} fell silent and is closed', 'bad'),
         SetClosed: (f'set {at} is closed: its NAME does not hold the address any more', 'bad'),

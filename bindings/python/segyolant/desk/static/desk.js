@@ -82,7 +82,8 @@ function placePicture(picture) {
   picture.height = size ? +size[2] : 0;
   $('mask').hidden = !size;
   $('nothing').hidden = Boolean(size);
-  $('nothing').textContent = picture.too_long ? `The picture has ${picture.too_long} characters and is not shown.` : 'No working set is shown.';
+  $('nothing').textContent = picture.too_long
+    ? `The picture has ${picture.too_long} characters and is not shown.` : 'No working set is shown.';
   fit();
   placeHits(picture);
   $('said').replaceChildren(...picture.lines.map(line => make('li', { textContent: line })));
@@ -111,8 +112,8 @@ function placeHits(picture) {
   for (const [key, hit] of wanted) {
     const button = $(key) ?? make('button', { type: 'button', id: key });
     if (last ? last.nextSibling !== button : $('hits').firstChild !== button) last ? last.after(button) : $('hits').prepend(button);
-    const style = { left: hit.x / picture.width, top: hit.y / picture.height, width: hit.width / picture.width, height: hit.height / picture.height };
-    for (const [side, part] of Object.entries(style)) button.style[side] = `${part * 100}%`;
+    for (const [side, pixels] of [['left', hit.x], ['width', hit.width]]) button.style[side] = `${pixels / picture.width * 100}%`;
+    for (const [side, pixels] of [['top', hit.y], ['height', hit.height]]) button.style[side] = `${pixels / picture.height * 100}%`;
     button.dataset.object = hit.id;
     button.dataset.kind = hit.kind;
     button.className = `hit ${hit.kind}${hit.off ? ' off' : ''}${held === hit.id ? ' held' : ''}`;
@@ -176,7 +177,11 @@ $('hits').addEventListener('keydown', event => {
   if (event.repeat) return;
   if (isPressed(button)) { isKeyDown = true; press(button); } else open(button);
 });
-window.addEventListener('keyup', event => { if (isKeyDown && (event.key === 'Enter' || event.key === ' ')) { isKeyDown = false; release(); } });
+window.addEventListener('keyup', event => {
+  if (!isKeyDown || (event.key !== 'Enter' && event.key !== ' ')) return;
+  isKeyDown = false;
+  release();
+});
 for (const name of ['pointerup', 'pointercancel']) window.addEventListener(name, () => { if (!isKeyDown) release(); });
 for (const name of ['blur', 'pagehide']) window.addEventListener(name, () => { isKeyDown = false; release(); });
 
@@ -192,12 +197,13 @@ function ask(message) {
   $('fault').textContent = '';
   $('entry').replaceChildren(...entry.elements);
   if (!$('dialog').open) $('dialog').showModal();
-  (entry.elements.find(element => element.querySelector?.(':checked'))?.querySelector('input') ?? $('entry').querySelector('input'))?.focus();
+  ($('entry').querySelector('input:checked') ?? $('entry').querySelector('input'))?.focus();
   if (entry.field) entry.field.select();
 }
 
 function askNumber(message) {
-  const field = make('input', { type: 'text', inputMode: 'decimal', autocomplete: 'off', value: message.shown, maxLength: 17, ariaLabel: 'Value' });
+  const field = make('input', { type: 'text', inputMode: 'decimal', autocomplete: 'off', value: message.shown, maxLength: 17 });
+  field.ariaLabel = 'Value';
   const hint = message.none ? 'No number is accepted.' : `from ${message.least} to ${message.greatest}`;
   return { elements: [field], field, hint, value: () => ({ typed: field.value }) };
 }
@@ -242,7 +248,8 @@ function entered(message) {
 
 function showState(message) {
   desk.state = message;
-  const mask = message.mask === null ? '' : `, ${message.alarm ? 'alarm mask' : 'mask'} ${message.mask}${message.mask_name ? ` ${message.mask_name}` : ''}`;
+  const named = message.mask_name ? ` ${message.mask_name}` : '';
+  const mask = message.mask === null ? '' : `, ${message.alarm ? 'alarm mask' : 'mask'} ${message.mask}${named}`;
   $('shown').textContent = message.shown === null ? 'no set' : `set ${hex(message.shown)}${mask}`;
   $('mask').classList.toggle('alarm', message.alarm !== null);
   banner('alarm', message.alarm ? `Alarm, priority ${message.alarm.priority}` : '');
@@ -263,7 +270,9 @@ function showSets(sets) {
     button.disabled = !set.pool;
     button.lastChild.textContent = hex(set.address) + (set.pool ? '' : ' (no pool)');
     const icon = set.icon.trim();
-    if (button.dataset.icon !== icon) { button.dataset.icon = icon; icon ? putImage(button.firstChild, icon) : button.firstChild.replaceChildren(); }
+    if (button.dataset.icon === icon) continue;
+    button.dataset.icon = icon;
+    icon ? putImage(button.firstChild, icon) : button.firstChild.replaceChildren();
   }
 }
 
@@ -272,7 +281,7 @@ function banner(why, text, ...elements) {
   text ? banners.set(why, [text, ...elements]) : banners.delete(why);
   const top = [...banners.values()].at(-1);
   $('banner').hidden = !top;
-  if (JSON.stringify(top) !== $('banner').dataset.top) { $('banner').dataset.top = JSON.stringify(top); $('banner').replaceChildren(...(top ?? [])); }
+  $('banner').replaceChildren(...(top ?? []));
 }
 
 function tell(text, mood = '') {
@@ -288,7 +297,10 @@ function note(message) {
 function showDesk(message) {
   $('bus').textContent = `${message.bus}, terminal ${hex(message.own)}`;
   $('record-switch').hidden = message.recording === null;
-  if (message.recording) { $('record').checked = message.recording.on; $('record-switch').title = message.recording.fault || message.recording.path; }
+  if (message.recording) {
+    $('record').checked = message.recording.on;
+    $('record-switch').title = message.recording.fault || message.recording.path;
+  }
   banner('ended', message.ended);
   const again = make('button', { type: 'button', textContent: `Begin anew at ${hex((message.own + 1) % 254)}` });
   again.addEventListener('click', () => send({ do: 'begin', own: (message.own + 1) % 254 }));
@@ -305,13 +317,22 @@ function showUpload(message) {
 
 // ---- sounds
 
-let audio = null, gain = null, alarmTimer = null;
+let audio = null, gain = null, volume = 100, alarmTimer = null;
 
 function startSound() {
-  if (!audio) { audio = new AudioContext(); gain = audio.createGain(); gain.connect(audio.destination); }
+  if (!audio) {
+    audio = new AudioContext();
+    gain = audio.createGain();
+    gain.connect(audio.destination);
+    setVolume();
+  }
   if (audio.state === 'suspended') audio.resume();
 }
 window.addEventListener('keydown', startSound, { once: true });
+
+function setVolume() {
+  if (gain) gain.gain.value = Math.min(volume, 100) / 100;
+}
 
 function beep(frequency, from, milliseconds) {
   if (!audio || !$('sound').checked) return;
@@ -351,7 +372,7 @@ function addLines(lines) {
     if ($('quiet').checked && QUIET.test(frame)) continue;
     if (find && !`${words} ${frame}`.toLowerCase().includes(find)) continue;
     elements.push(make('li', { className: direction, title: frame },
-      make('span', { textContent: timeText(time) }), make('span', { textContent: signs[direction] ?? '' }), make('span', { textContent: words || frame })));
+      ...[timeText(time), signs[direction] ?? '', words || frame].map(text => make('span', { textContent: text }))));
   }
   list.append(...elements);
   while (list.children.length > MOST_LINES) list.firstChild.remove();
@@ -359,10 +380,11 @@ function addLines(lines) {
 }
 
 function showLines(message) {
-  if (message.left_out) addLines([[message.lines[0]?.[0] ?? 0, 'left-out', '', `${message.left_out} lines were left out: this page was too slow`]]);
+  const slow = `${message.left_out} lines were left out: this page was too slow`;
+  if (message.left_out) addLines([[message.lines[0]?.[0] ?? 0, 'left-out', '', slow]]);
   addLines(message.lines);
 }
-$('hold').addEventListener('click', () => $('hold').setAttribute('aria-pressed', $('hold').getAttribute('aria-pressed') !== 'true'));
+$('hold').addEventListener('click', () => $('hold').setAttribute('aria-pressed', $('hold').ariaPressed !== 'true'));
 
 // ---- the player of a log
 
@@ -372,7 +394,8 @@ function showPlayer(message) {
   $('play').disabled = $('step').disabled = message.over;
   $('speed').value = message.speed;
   $('player').querySelector('progress').value = message.part;
-  $('player').lastElementChild.textContent = message.fault || `line ${message.line}, ${message.time.toFixed(1)} s${message.over ? ', the end' : ''}`;
+  const end = message.over ? ', the end' : '';
+  $('player').lastElementChild.textContent = message.fault || `line ${message.line}, ${message.time.toFixed(1)} s${end}`;
 }
 $('speed').append(...SPEEDS.map(speed => make('option', { value: speed, textContent: `${speed} times` })));
 $('speed').addEventListener('change', () => send({ do: 'play', speed: +$('speed').value }));
@@ -380,7 +403,7 @@ $('play').addEventListener('click', () => send({ do: 'play', runs: $('play').tex
 $('step').addEventListener('click', () => send({ do: 'play', step: true }));
 
 const TOLD = {
-  picture: showPicture, state: showState, desk: showDesk, dialog: ask, entered, note, lines: showLines, upload: showUpload, player: showPlayer,
-  sound: soundAlarm, beep: soundSignal, volume: message => { if (gain) gain.gain.value = Math.min(message.percent, 100) / 100; },
+  picture: showPicture, state: showState, desk: showDesk, dialog: ask, entered, note, lines: showLines, upload: showUpload,
+  player: showPlayer, sound: soundAlarm, beep: soundSignal, volume: message => { volume = message.percent; setVolume(); },
 };
 connect();
