@@ -22,6 +22,9 @@ from .trace import Trace
 from .views import event_words
 
 SECOND = 1_000_000
+TURN, SOME = 0.03, 10  # seconds that frames are heard before the pages have their turn, and how many are heard together
+MOST_WAITING = 200_000  # frames; where the terminal is so far behind the bus, the oldest are lost
+BEHIND = 0.5  # seconds that the terminal may be behind the bus before the pages are told
 LATE, CATCH_UP = 0.3, 0.05  # seconds: a loop that wakes so late has stood still, and first lets the frames that wait come in
 MOST_CRASHES, CRASH_TIME = 5, 60.0
 MAINTENANCE = b'\xff\x00\x03\xff\xff\xff\xff\xff'
@@ -45,6 +48,8 @@ class Desk:
         self._to_release: dict[int, int] = {}
         self._acting: Page | None = None
         self._crashes: deque[float] = deque(maxlen=MOST_CRASHES)
+        self._waiting: deque[Received] = deque(maxlen=MOST_WAITING)
+        self._is_hearing = False
         self._timer: asyncio.TimerHandle | None = None
         self._wanted = 0.0
         self._next_maintenance = 0
@@ -82,14 +87,45 @@ class Desk:
         for moment, id, data in frames:
             self.speaks_for.discard(id & 0xFF)
             self.trace.add('in', moment, id, data)
-            self.host.receive(moment, id, data)
-        self.run(frames[0][0] if frames else None)
+        self._waiting.extend(frames)
+        if len(self._waiting) == MOST_WAITING:
+            self.note('frames are lost: the terminal is too far behind the bus', 'bad')
+        if not self._is_hearing:
+            self._hear_waiting()
+
+    def now(self) -> int:
+        """The time for the terminal: that of the next frame that waits, if one does, as no time may pass before that is heard."""
+        return min(self._waiting[0][0], self.clock.now()) if self._waiting else self.clock.now()
+
+    def _hear_waiting(self) -> None:
+        """Hears frames for a while. If some still wait then, the pages have their turn before them."""
+        self._is_hearing, end = True, time.monotonic() + TURN
+        try:
+            while self._waiting and time.monotonic() < end:
+                since = self._waiting[0][0]
+                for _ in range(min(SOME, len(self._waiting))):
+                    self.host.receive(*self._waiting.popleft())
+                self.run(since)
+        finally:
+            self._is_hearing = False
+        if self._waiting:
+            asyncio.get_running_loop().call_soon(self._hear_more)
+        self._tell_behind()
+
+    def _hear_more(self) -> None:
+        if not self._is_hearing and not self.ended:
+            self._hear_waiting()
+
+    def _tell_behind(self) -> None:
+        """Tells the pages how far the terminal is behind the bus, in whole seconds."""
+        behind = (self.clock.now() - self._waiting[0][0]) / SECOND if self._waiting else 0.0
+        self.audience.tell({'kind': 'behind', 'seconds': round(behind) if behind > BEHIND else 0})
 
     def run(self, since: int | None = None) -> None:
         """Does what is due, and plans when to do so again. `since` is the time of the first frame that is heard now."""
         if self.ended:
             return
-        now = self.clock.now()
+        now = self.now()
         self._maintain(now)
         self.take(self.guarded(lambda: self.host.run(now)) or [])
         self.painter.note_change(now if since is None else since)
@@ -103,7 +139,7 @@ class Desk:
         self.trace.add_action(action, arguments)
         self._acting = page
         try:
-            outputs = self.guarded(lambda: getattr(self.host, action)(self.clock.now(), *arguments))
+            outputs = self.guarded(lambda: getattr(self.host, action)(self.now(), *arguments))
             if outputs is not None:
                 self.take(outputs)
         finally:

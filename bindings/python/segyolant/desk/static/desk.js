@@ -7,8 +7,7 @@ const TOKEN = document.querySelector('meta[name=token]').content;
 const MOST_LINES = 500, QUIET = /^..E6FF..#FE|^..E7....#FF|^..(EB|C7)/;
 const SIGNALS = [{ frequency: 1400, period: 250 }, { frequency: 900, period: 500 }, { frequency: 600, period: 1000 }];
 const SPEEDS = [0.25, 0.5, 1, 2, 4, 8, 16, 64];
-const desk = { changes: [], errors: [], picture: null, state: null };
-window.desk = desk;
+const desk = window.desk = { changes: [], errors: [], picture: null, state: null };
 window.addEventListener('error', event => desk.errors.push(String(event.message)));
 
 const make = (tag, properties = {}, ...children) => {
@@ -41,9 +40,7 @@ async function reload() {
   setTimeout(reload, 1000);
 }
 
-function send(message) {
-  if (socket.readyState === WebSocket.OPEN) socket.send(JSON.stringify(message));
-}
+const send = message => { if (socket.readyState === WebSocket.OPEN) socket.send(JSON.stringify(message)); };
 
 // ---- the picture
 
@@ -126,7 +123,7 @@ function placeHits(picture) {
 
 // ---- keys and buttons
 
-let held = null;
+let held = null, isKeyDown = false; // the object that is held on this page, and whether by a key of the keyboard
 const isPressed = button => button.dataset.kind === 'key' || button.dataset.kind === 'button';
 const hitOf = event => event.target instanceof Element ? event.target.closest('.hit') : null;
 
@@ -139,16 +136,14 @@ function press(button) {
 }
 
 function release() {
+  isKeyDown = false;
   if (held === null) return;
   send({ do: 'release', object: held });
   held = null;
   for (const button of document.querySelectorAll('.hit.held')) button.classList.remove('held');
 }
 
-function open(button) {
-  tell('');
-  send({ do: 'open', object: +button.dataset.object });
-}
+const open = button => { tell(''); send({ do: 'open', object: +button.dataset.object }); };
 
 $('hits').addEventListener('pointerdown', event => {
   const button = hitOf(event);
@@ -161,15 +156,13 @@ $('hits').addEventListener('pointerdown', event => {
   if (isPressed(button)) press(button);
 });
 $('hits').addEventListener('click', event => {
-  const button = hitOf(event);
-  if (button && !isPressed(button)) open(button);
+  if (hitOf(event) && !isPressed(hitOf(event))) open(hitOf(event));
 });
 $('hits').addEventListener('pointerout', event => {
   const button = hitOf(event);
   if (button && +button.dataset.object === held && !button.contains(event.relatedTarget) && !isKeyDown) release();
 });
 $('hits').addEventListener('contextmenu', event => event.preventDefault());
-let isKeyDown = false;
 $('hits').addEventListener('keydown', event => {
   const button = hitOf(event);
   if (!button || (event.key !== 'Enter' && event.key !== ' ')) return;
@@ -179,11 +172,10 @@ $('hits').addEventListener('keydown', event => {
 });
 window.addEventListener('keyup', event => {
   if (!isKeyDown || (event.key !== 'Enter' && event.key !== ' ')) return;
-  isKeyDown = false;
   release();
 });
 for (const name of ['pointerup', 'pointercancel']) window.addEventListener(name, () => { if (!isKeyDown) release(); });
-for (const name of ['blur', 'pagehide']) window.addEventListener(name, () => { isKeyDown = false; release(); });
+for (const name of ['blur', 'pagehide']) window.addEventListener(name, release);
 
 // ---- dialogs
 
@@ -198,7 +190,7 @@ function ask(message) {
   $('entry').replaceChildren(...entry.elements);
   if (!$('dialog').open) $('dialog').showModal();
   ($('entry').querySelector('input:checked') ?? $('entry').querySelector('input'))?.focus();
-  if (entry.field) entry.field.select();
+  entry.field?.select();
 }
 
 function askNumber(message) {
@@ -284,10 +276,7 @@ function banner(why, text, ...elements) {
   $('banner').replaceChildren(...(top ?? []));
 }
 
-function tell(text, mood = '') {
-  $('note').textContent = text;
-  $('note').className = mood;
-}
+const tell = (text, mood = '') => Object.assign($('note'), { textContent: text, className: mood });
 
 function note(message) {
   tell(message.text, message.mood);
@@ -307,6 +296,10 @@ function showDesk(message) {
   banner('lost', message.lost ? `Another node took the address ${hex(message.own)}. ` : '', again);
 }
 $('record').addEventListener('change', () => send({ do: 'record', on: $('record').checked }));
+
+function showBehind(message) {
+  banner('behind', message.seconds ? `The terminal is ${message.seconds} s behind the bus: the program is too slow, or the bus too fast.` : '');
+}
 
 function showUpload(message) {
   $('upload').hidden = message.address === null || message.received >= message.announced && message.announced > message.received;
@@ -330,9 +323,7 @@ function startSound() {
 }
 window.addEventListener('keydown', startSound, { once: true });
 
-function setVolume() {
-  if (gain) gain.gain.value = Math.min(volume, 100) / 100;
-}
+const setVolume = () => { if (gain) gain.gain.value = Math.min(volume, 100) / 100; };
 
 function beep(frequency, from, milliseconds) {
   if (!audio || !$('sound').checked) return;
@@ -345,9 +336,8 @@ function beep(frequency, from, milliseconds) {
 
 function soundAlarm(message) {
   clearInterval(alarmTimer);
-  const signal = SIGNALS[message.signal];
+  const signal = SIGNALS[message.signal], sound = () => beep(signal.frequency, 0, signal.period / 2);
   if (!signal) return;
-  const sound = () => beep(signal.frequency, 0, signal.period / 2);
   sound();
   alarmTimer = setInterval(sound, signal.period);
 }
@@ -404,6 +394,6 @@ $('step').addEventListener('click', () => send({ do: 'play', step: true }));
 
 const TOLD = {
   picture: showPicture, state: showState, desk: showDesk, dialog: ask, entered, note, lines: showLines, upload: showUpload,
-  player: showPlayer, sound: soundAlarm, beep: soundSignal, volume: message => { volume = message.percent; setVolume(); },
+  behind: showBehind, player: showPlayer, sound: soundAlarm, beep: soundSignal, volume: message => { volume = message.percent; setVolume(); },
 };
 connect();
