@@ -33,6 +33,7 @@ class CanLine:
         self._is_told = False
         self._to_send: queue.SimpleQueue[Frame | None] = queue.SimpleQueue()
         self._is_open = False
+        self._threads: list[threading.Thread] = []
         self._latest = 0
 
     def open(self, hear: Hear) -> None:
