@@ -306,8 +306,9 @@ class Latency(WithPage):
 
     def change(self, sprayer: Sprayer, k: int) -> None:
         """The sprayer says another value, now."""
-        sprayer.send(commands.number(202, 100 + k))
         line = self.desk.line
+        line._advance()
+        sprayer.send(commands.number(202, 100 + k))
         line.bus.send(sprayer, sprayer.tick(line.clock.now()))
         line._plan()
 
