@@ -13,6 +13,7 @@ from desk_tests.page import TOP, Browser, RunningDesk
 from segyolant import commands
 from segyolant.implement import Implement
 from segyolant.sprayer import Sprayer
+from tests.support import is_quick
 
 MEDIAN, MOST = 0.050, 0.150  # seconds from a frame to the changed page
 
@@ -299,7 +300,7 @@ class Latency(WithPage):
         program = str(self.desk.desk.terminal._live.program)
         print(f'\nfrom the frame to the page, {len(seconds)} changes by {program}: '
               f'median {median * 1000:.0f} ms, 95 % under {most * 1000:.0f} ms')
-        if 'out/quick' in program:
+        if is_quick():
             self.skipTest('the times are promised of the proved program: a quick build draws slowly')
         self.assertLess(median, MEDIAN)
         self.assertLess(most, MOST)

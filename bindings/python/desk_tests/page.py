@@ -61,6 +61,7 @@ class RunningDesk:
         self.call(end)
         self.loop.call_soon_threadsafe(self.loop.stop)
         self._thread.join(10)
+        self.loop.close()
 
 
 class Browser:

@@ -75,11 +75,18 @@ def bench(request: pytest.FixtureRequest, terminal: Terminal, bus: Bus, implemen
 
 @pytest.hookimpl(hookwrapper=True)
 def pytest_runtest_makereport(item: pytest.Item, call: pytest.CallInfo[None]) -> Generator[None, Any, None]:
-    """Adds the last frames and the picture of the mask to the report of a failed test, where its message does not have them."""
+    """Adds the last frames and the picture of the mask to the report of a failed test, where its message does not have them.
+
+    A test that passed leaves no picture, as of a refusal that it expected.
+    """
     outcome = yield
     report = outcome.get_result()
     bench = getattr(item, 'funcargs', {}).get('bench')
-    if call.when != 'call' or not report.failed or not isinstance(bench, Bench) or call.excinfo is None:
+    if call.when != 'call' or not isinstance(bench, Bench):
+        return
+    if report.passed:
+        _picture(item).unlink(missing_ok=True)
+    if not report.failed or call.excinfo is None:
         return
     if not call.excinfo.errisinstance((Unmet, Refused)):
         report.sections.append(('bench', bench.state()))

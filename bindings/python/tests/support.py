@@ -4,6 +4,8 @@ from __future__ import annotations
 import sys
 from pathlib import Path
 
+from segyolant import programs
+
 TOP = Path(__file__).resolve().parents[3]
 EXAMPLES = TOP / 'examples'
 PYTHON = TOP / 'bindings' / 'python'
@@ -16,6 +18,11 @@ OWN, NAME, SET = 0x26, 0x20001D0000000001, 0x80
 CLAIM = (0x18EEFF80, bytes.fromhex('01000000001D0020'))
 MASTER = (0x1CFE0D80, bytes.fromhex('01FFFFFFFFFFFFFF'))
 FROM_SET = 0x14E72680
+
+
+def is_quick() -> bool:
+    """Whether the program is a quick build, which takes milliseconds for a frame."""
+    return programs.find('vt_live').parent.name == 'quick'
 
 
 def example(name: str) -> bytes:

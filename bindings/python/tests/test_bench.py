@@ -17,7 +17,7 @@ from segyolant.bus import SECOND, Bus
 from segyolant.frames import Frame
 from segyolant.implement import Implement
 from segyolant.sprayer import NAMES, Sprayer
-from tests.support import EXAMPLES, PYTHON, TOP, example
+from tests.support import EXAMPLES, PYTHON, TOP, example, is_quick
 
 APT = 'apt-get install -y --no-install-recommends'
 ALL_NAMES = {**names_of(EXAMPLES / 'sprayer.h'), **NAMES}
@@ -185,9 +185,12 @@ class Fixtures(unittest.TestCase):
         return subprocess.run(command, cwd=cwd, capture_output=True, text=True, env=environment)
 
     def test_the_sprayers_suite(self) -> None:
-        ran = self.run_pytest('examples/sprayer_bench')
+        # (a quick build takes two seconds for each upload)
+        some = ['-k', 'refused or keys'] if is_quick() else []
+        ran = self.run_pytest('examples/sprayer_bench', *some)
         self.assertEqual(ran.returncode, 0, ran.stdout[-3000:] + ran.stderr)
-        self.assertRegex(ran.stdout, '20 passed')
+        self.assertRegex(ran.stdout, '3 passed, 17 deselected' if some else '20 passed')
+        self.assertEqual([*(EXAMPLES / 'sprayer_bench').glob('*.svg')], [])
 
     def test_a_pool_of_ones_own_and_the_report_of_a_failure(self) -> None:
         with tempfile.TemporaryDirectory() as folder:
@@ -202,7 +205,7 @@ class Fixtures(unittest.TestCase):
                 'def test_alone(terminal, bus):\n    assert terminal.screen() == "screen none\\n" and bus.time == 0\n')
             ran = self.run_pytest(cwd=place)
             self.assertIn('1 failed, 2 passed', ran.stdout, ran.stdout + ran.stderr)
-            self.assertIn('the active mask is 2000; the active mask is mask', ran.stdout)
+            self.assertIn('assert the active mask: mask == 2000', ran.stdout)
             self.assertIn(f'the mask: {place}/test_mine.test_bad.svg', ran.stdout)
             self.assertTrue((place / 'test_mine.test_bad.svg').exists())
             self.assertIn('End of Object Pool: accepted', ran.stdout)

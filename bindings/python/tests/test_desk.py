@@ -8,9 +8,11 @@ import sys
 import tempfile
 import time
 import unittest
+import warnings
 from collections.abc import Callable, Sequence
 from pathlib import Path
 from typing import Any
+from unittest import mock
 
 from segyolant import Terminal, names_of
 from segyolant.desk import acts
@@ -247,6 +249,9 @@ class ADesk(WithDesk):
         desk = self.desk(wire)
         page = self.page(desk)
         await self.quiet(desk)
+        patch = mock.patch('segyolant.desk.trace.MOST_WORDS', 20.0)
+        patch.start()
+        self.addCleanup(patch.stop)
         wire.say((0x18EEFF80, '21000000001D00A0'), (0x1CFE0D80, '01FFFFFFFFFFFFFF'), (0x14E72680, '1101'), (0x14E72680, '12FFFFFFFFFFFFFF'))
         await self.until(lambda: any(each.startswith('the pool of 80 is refused: fault 1 Truncated at 0') for each in self.notes(page)))
         self.assertIn('set 80 came', self.notes(page))
@@ -390,9 +395,11 @@ class Simulated(WithDesk):
 @unittest.skipUnless(HAS_CAN, f'{sys.executable} has no python-can: {APT}')
 class OnPythonCan(WithDesk):
     async def test_an_implement_on_a_virtual_bus(self) -> None:
-        import can
-
         from segyolant.desk.python_can import CanLine
+
+        with warnings.catch_warnings():
+            warnings.simplefilter('ignore')  # (python-can of Debian 12 warns of what it calls itself)
+            import can
 
         desk = self.desk(CanLine('virtual', 'test-desk'))
         other, implement, clock = can.Bus(interface='virtual', channel='test-desk'), Implement(example('pool.iop')), Clock()
@@ -427,9 +434,10 @@ class TheServer(WithDesk):
         self.addAsyncCleanup(self.client.close)
         self.url = self.server.url.rstrip('/')
 
-    async def socket(self, token: str | None = None, origin: str | None = None) -> Any:
+    def socket(self, token: str | None = None, origin: str | None = None) -> Any:
+        """A WebSocket to be opened, by `await` or `async with`."""
         headers = {'Origin': self.url if origin is None else origin}
-        return await self.client.ws_connect(f'{self.url}/ws?token={self.server.token if token is None else token}', headers=headers)
+        return self.client.ws_connect(f'{self.url}/ws?token={self.server.token if token is None else token}', headers=headers)
 
     async def test_the_page_and_its_headers(self) -> None:
         for path, kind in (('/', 'text/html'), ('/desk.css', 'text/css'), ('/desk.js', 'text/javascript')):
@@ -440,9 +448,19 @@ class TheServer(WithDesk):
                 self.assertNotIn('content="TOKEN"', await answer.text())
 
     async def test_no_other_path(self) -> None:
+        from yarl import URL
+
         for path in ('/index.html', '/static/', '/desk.py', '/../server.py', '/%2e%2e/server.py', '//etc/passwd', '/ws/../desk.js?x'):
-            async with self.client.get(self.url + path) as answer:
+            async with self.client.get(URL(self.url + path, encoded=True)) as answer:
                 self.assertIn(answer.status, (400, 403, 404) if 'desk.js' not in path else (200, 404), path)
+
+    async def test_a_port_that_is_taken(self) -> None:
+        from segyolant.desk.server import Server
+
+        other = Server(self.server.desk, port=self.server.port)
+        self.addAsyncCleanup(other.close)
+        with self.assertRaisesRegex(OSError, f'the port {self.server.port} is taken'):
+            await other.start()
 
     async def test_names_of_other_machines_are_refused(self) -> None:
         async with self.client.get(self.url, headers={'Host': 'evil.example:8099'}) as answer:
@@ -457,7 +475,7 @@ class TheServer(WithDesk):
             self.assertEqual(caught.exception.status, 403)
 
     async def test_a_page_is_told_and_acts(self) -> None:
-        async with await self.socket() as socket:
+        async with self.socket() as socket:
             kinds: set[str] = set()
             while not {'picture', 'state', 'desk'} <= kinds:
                 kinds |= {each['kind'] for each in await socket.receive_json(timeout=20)}
@@ -467,13 +485,13 @@ class TheServer(WithDesk):
         await self.until(lambda: '14E68026#0000D107E8030AFF' in self.wire.texts())
 
     async def test_a_page_that_talks_nonsense_is_closed(self) -> None:
-        async with await self.socket() as socket:
+        async with self.socket() as socket:
             for _ in range(20):
                 await socket.send_str('nonsense')
             while not (message := await socket.receive(timeout=20)).type.name.startswith('CLOS'):
                 pass
             self.assertEqual(message.type.name, 'CLOSE')
-        async with await self.socket() as socket:
+        async with self.socket() as socket:
             await socket.send_str('x' * 10_000)
             while not (message := await socket.receive(timeout=20)).type.name.startswith('CLOS'):
                 pass

@@ -6,13 +6,13 @@ import unittest
 from concurrent.futures import ThreadPoolExecutor
 from unittest import mock
 
-from segyolant import Frame, LogError, NoPool, Refusal, programs, replay, replay_text
+from segyolant import Frame, LogError, NoPool, Refusal, replay, replay_text
 from segyolant.log_lines import FaultyLine, FrameLine
 from tests import stored
-from tests.support import EXAMPLES, SET, example
+from tests.support import EXAMPLES, SET, example, is_quick
 
 # A quick build takes some milliseconds a line: it replays no longer logs than this, and a proved program all.
-MOST_LINES = 700
+MOST_LINES = 300
 COUNTS = re.compile(rb'lines \d+ frames \d+ operator \d+ skipped \d+ comments \d+ faults \d+\n')
 
 
@@ -26,18 +26,13 @@ def texts_of(runs: 'list[stored.Run]') -> 'list[tuple[stored.Run, bytes]]':
         return list(zip(runs, pool.map(text_of, runs)))
 
 
-def is_quick() -> bool:
-    """Whether the program is a quick build."""
-    return programs.find('vt_live').parent.name == 'quick'
-
-
 class Stored(unittest.TestCase):
     def test_logs_with_expectations(self) -> None:
         runs = list(stored.logs_with_expectations())
         self.assertGreater(len(runs), 130)
         if is_quick():
             runs = [run for run in runs if run.log.count(b'\n') <= MOST_LINES]
-            self.assertGreater(len(runs), 120)
+            self.assertGreater(len(runs), 110)
         for run, text in texts_of(runs):
             with self.subTest(run.shown):
                 lines = text.splitlines(keepends=True)

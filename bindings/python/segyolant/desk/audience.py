@@ -116,6 +116,7 @@ class Audience:
 async def _in_time(sending: Awaitable[None]) -> None:
     """Waits for a message to be sent. TimeoutError if it takes too long. (Before Python 3.12 asyncio.wait_for may lose a cancellation.)"""
     task = asyncio.ensure_future(sending)
+    task.add_done_callback(lambda each: each.cancelled() or each.exception())  # (a page that goes is no fault)
     try:
         done, _ = await asyncio.wait({task}, timeout=PATIENCE)
     finally:

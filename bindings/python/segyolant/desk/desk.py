@@ -196,7 +196,8 @@ class Desk:
                 self._tell_event(each)
 
     def note(self, text: str, mood: str = 'plain', only: Page | None = None, **more: Any) -> None:
-        """Tells the pages, or one, of something in a sentence; the mood is `good`, `bad` or `plain`."""
+        """Tells the pages, or one, of something in a sentence; the mood is `good`, `bad` or `plain`. It is in the lines of all."""
+        self.trace.add_note(text, mood)
         self.audience.note({'kind': 'note', 'text': text, 'mood': mood, **more}, only)
 
     def tell_state(self) -> None:

@@ -2,6 +2,7 @@
 from __future__ import annotations
 
 import asyncio
+import errno
 import hmac
 import ipaddress
 import secrets
@@ -49,7 +50,12 @@ class Server:
         app.add_routes([web.get('/', self._index), web.get('/ws', self._socket), *(web.get(path, self._file) for path in self._files)])
         self._runner = web.AppRunner(app, access_log=None)
         await self._runner.setup()
-        await web.TCPSite(self._runner, self.host, self.port).start()
+        try:
+            await web.TCPSite(self._runner, self.host, self.port).start()
+        except OSError as error:
+            if error.errno != errno.EADDRINUSE:
+                raise
+            raise OSError(f'the port {self.port} is taken, perhaps by another desk: give another one by --port') from None
         self.port = self._runner.addresses[0][1]
 
     async def close(self) -> None:

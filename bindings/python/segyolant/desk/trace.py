@@ -21,10 +21,11 @@ ACTIONS = {'enter_raw': 'number', 'enter_text': 'text', 'enter_number': 'number'
 
 
 class Trace:
-    """Lines of the bus for the pages and for the recording. A line is its time of day, `in`, `out` or `operator`, the frame, and words.
+    """Lines of the bus for the pages and for the recording.
 
-    The words are asked for when the lines are told, and not before each frame is heard, so that they hold up no picture. Where a pool came
-    or went in that twentieth of a second, an object may be told by its ID alone.
+    A line is its time of day, `in`, `out`, `operator` or the mood of a note, the frame, and words. The words are asked for when the lines
+    are told, and not before each frame is heard, so that they hold up no picture. Where a pool came or went in that twentieth of a second,
+    an object may be told by its ID alone.
     """
 
     def __init__(self, desk: Desk) -> None:
@@ -50,12 +51,16 @@ class Trace:
         wall = self.desk.clock.wall(self.desk.clock.now())
         self._add([round(wall, 6), 'operator', '', words + (f' `{named}`' if named else '')])
 
+    def add_note(self, text: str, mood: str) -> None:
+        """What the pages are told in a sentence. It comes behind the frames that it speaks of."""
+        self._add([round(self.desk.clock.wall(self.desk.clock.now()), 6), mood, '', text], is_kept=True)
+
     def timers(self) -> tuple[asyncio.TimerHandle | None, ...]:
         """What is to be cancelled at the end."""
         return (self._timer,)
 
-    def _add(self, line: list[Any]) -> None:
-        if len(self._lines) < MOST_IN_GAP:
+    def _add(self, line: list[Any], is_kept: bool = False) -> None:
+        if is_kept or len(self._lines) < MOST_IN_GAP:
             self._lines.append(line)
         else:
             self._left_out += 1

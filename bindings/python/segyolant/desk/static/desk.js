@@ -278,10 +278,7 @@ function banner(why, text, ...elements) {
 
 const tell = (text, mood = '') => Object.assign($('note'), { textContent: text, className: mood });
 
-function note(message) {
-  tell(message.text, message.mood);
-  addLines([[Date.now() / 1000, message.mood, '', message.text]]);
-}
+const note = message => tell(message.text, message.mood);
 
 function showDesk(message) {
   $('bus').textContent = `${message.bus}, terminal ${hex(message.own)}`;
@@ -355,7 +352,7 @@ function timeText(seconds) {
 
 function addLines(lines) {
   if ($('hold').getAttribute('aria-pressed') === 'true') return;
-  const list = $('lines'), find = $('find').value.toLowerCase(), isAtEnd = list.scrollHeight - list.scrollTop - list.clientHeight < 40;
+  const list = $('lines'), find = $('find').value.toLowerCase();
   const signs = { in: '<', out: '>', operator: '!' };
   const elements = [];
   for (const [time, direction, frame, words] of lines) {
@@ -366,8 +363,17 @@ function addLines(lines) {
   }
   list.append(...elements);
   while (list.children.length > MOST_LINES) list.firstChild.remove();
-  if (isAtEnd) list.scrollTop = list.scrollHeight;
+  showEnd();
 }
+
+// The panel stays at its end, also where something above it takes of its room, unless it was scrolled away from there.
+let isAtEnd = true;
+const showEnd = () => { if (isAtEnd) $('lines').scrollTop = $('lines').scrollHeight; };
+$('lines').addEventListener('scroll', () => {
+  const { scrollHeight, scrollTop, clientHeight } = $('lines');
+  isAtEnd = scrollHeight - scrollTop - clientHeight < 40;
+});
+new ResizeObserver(showEnd).observe($('lines'));
 
 function showLines(message) {
   const slow = `${message.left_out} lines were left out: this page was too slow`;
