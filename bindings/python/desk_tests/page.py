@@ -38,7 +38,7 @@ class RunningDesk:
 
     async def _start(self) -> None:
         self.line = InternalLine(self._implements) if self._log is None else LogLine(self._log, 0x26)
-        names = by_id({**names_of(sprayer_file('h')), **NAMES})
+        names = by_id({**names_of(sprayer_file('h')), **NAMES}) if self._log is None else {}
         self.desk = Desk(lambda own: Terminal(0x26 if own is None else own), self.line, names, pools=self._pools)
         if isinstance(self.line, LogLine):
             line = self.line

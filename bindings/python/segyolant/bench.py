@@ -1,4 +1,4 @@
-"""A test bench in simulated time: a terminal and implements on one bus, with one clock. A test of ten minutes takes a second or two.
+"""A test bench in simulated time: a terminal and implements on one bus, with one clock. No test waits.
 
     bench = Bench(Sprayer(), names=names_of('examples/sprayer.h'))
     bench.start()

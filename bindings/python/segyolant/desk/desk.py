@@ -273,7 +273,7 @@ class Desk:
 
     def _restart(self, error: CoreEnded) -> None:
         now = time.monotonic()
-        self.note(f'the terminal ended: {error}', 'bad')
+        self.note(f'the terminal ended: {str(error).partition("; restart()")[0]}', 'bad')
         if len(self._crashes) == MOST_CRASHES and now - self._crashes[0] < CRASH_TIME:
             self.ended = f'the terminal ended {MOST_CRASHES} times within a minute: {error}'
             self.tell_state()

@@ -6,6 +6,7 @@ const $ = id => document.getElementById(id);
 const TOKEN = document.querySelector('meta[name=token]').content;
 const MOST_LINES = 500, QUIET = /^..E6FF..#FE|^..E7....#FF|^..(EB|C7)/;
 const SIGNALS = [{ frequency: 1400, period: 250 }, { frequency: 900, period: 500 }, { frequency: 600, period: 1000 }];
+const NARROW = window.matchMedia('(max-width: 60rem)');
 const SPEEDS = [0.25, 0.5, 1, 2, 4, 8, 16, 64];
 const desk = window.desk = { changes: [], errors: [], picture: null, state: null };
 window.addEventListener('error', event => desk.errors.push(String(event.message)));
@@ -90,7 +91,9 @@ function fit() {
   const picture = desk.picture;
   if (!picture || !picture.width) return;
   const room = $('stage').getBoundingClientRect();
-  const scale = Math.max(0.5, Math.min((room.width - 16) / picture.width, (Math.max(room.height, 480) - 70) / picture.height));
+  // (on a narrow page the bus is below the mask, and the stage is as high as the mask itself)
+  const height = NARROW.matches ? window.innerHeight * 0.8 : Math.max(room.height, 480) - 70;
+  const scale = Math.max(0.5, Math.min((room.width - 16) / picture.width, height / picture.height));
   $('mask').style.width = `${Math.round(picture.width * scale) + 6}px`;
   $('mask').style.height = `${Math.round(picture.height * scale) + 6}px`;
 }
@@ -228,7 +231,10 @@ $('entry').addEventListener('keydown', event => {
   if (event.key === 'Enter' && event.target.type === 'radio') { event.preventDefault(); $('dialog').querySelector('form').requestSubmit(); }
 });
 $('cancel').addEventListener('click', () => $('dialog').close());
-$('dialog').addEventListener('close', () => document.querySelector(`.hit[data-object="${entry.object}"]`)?.focus({ focusVisible: false }));
+$('dialog').addEventListener('close', () => {
+  $('entry').replaceChildren();
+  document.querySelector(`.hit[data-object="${entry.object}"]`)?.focus({ focusVisible: false });
+});
 
 function entered(message) {
   if (!$('dialog').open || entry.object !== message.object) return;
