@@ -270,10 +270,15 @@ class ADesk(WithDesk):
                 turns += 1
                 await asyncio.sleep(0)
 
-        counting = asyncio.ensure_future(count())
-        self.addCleanup(counting.cancel)
-        # (the set is alive by what it said, however long the terminal takes to hear it)
-        wire.say(*[(0x14E72680, MAINTENANCE.hex()) if k % 100 == 0 else (0x18FF0090 + k % 8, f'{k:016X}') for k in range(600)])
+        async def live() -> None:
+            while True:
+                wire.say((0x14E72680, MAINTENANCE.hex()))
+                await asyncio.sleep(0.2)
+
+        # (the set is alive by what it says, however long the terminal takes to hear it)
+        wire.say(*[(0x18FF0090 + k % 8, f'{k:016X}') for k in range(600)])
+        for task in (asyncio.ensure_future(count()), asyncio.ensure_future(live())):
+            self.addCleanup(task.cancel)
         await self.until(lambda: not desk._waiting, 60)
         self.assertGreater(turns, 3)
         self.assertEqual(desk.terminal.shown, 0x80)
