@@ -143,7 +143,7 @@ class ADesk(WithDesk):
     async def test_a_preloaded_set_stays(self) -> None:
         wire = Wire()
         desk = self.desk(wire, {0x80: example('pool.iop')})
-        await asyncio.sleep(4.5)
+        await asyncio.sleep(3.6)  # (a set that is silent for 3 seconds is closed)
         self.assertEqual(desk.terminal.shown, 0x80)
         self.assertNotIn(0xFF, [each.data[0] for each in wire.sent if each.id & 0xFF == 0x80])
 

@@ -12,7 +12,7 @@ from tests import stored
 from tests.support import EXAMPLES, SET, example, is_quick
 
 # A quick build takes some milliseconds a line: it replays no longer logs than this, and a proved program all.
-MOST_LINES = 300
+MOST_LINES = 200
 COUNTS = re.compile(rb'lines \d+ frames \d+ operator \d+ skipped \d+ comments \d+ faults \d+\n')
 
 
@@ -32,7 +32,7 @@ class Stored(unittest.TestCase):
         self.assertGreater(len(runs), 130)
         if is_quick():
             runs = [run for run in runs if run.log.count(b'\n') <= MOST_LINES]
-            self.assertGreater(len(runs), 110)
+            self.assertGreater(len(runs), 100)
         for run, text in texts_of(runs):
             with self.subTest(run.shown):
                 lines = text.splitlines(keepends=True)
