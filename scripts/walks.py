@@ -328,7 +328,8 @@ def beginning(args):
     ends = "nothing ! $ " + "nothing ! $ join ! $ " * (n + 2) + "nothing !"
 
     def said(after):
-        return " ".join(["Begins", *xs, after])
+        own, name, *profile = xs
+        return f"Begins {own} {name} (profile_of {' '.join(profile)}) {after}"
 
     return f"""-- A walk: a state is made, and moved into the room behind the pointer.
 use Rattle.std.proofs.Common.{{◌≡◌, ℕ, List, [], ◌∷◌, ◌++◌, refl, sym, ap, ◌∙◌, subst, w32, w64}}
@@ -362,7 +363,7 @@ use borrow.Table.OneValue.{{part_in}}
 use Rattle.std.proofs.cell.Inside.{{Good, one}}
 use Rattle.std.specs.contracts.alloc.Global as heap
 use Rattle.std.proofs.alloc.Global.TheLaws as heap_laws
-use Rattle.vt_session.specs.Sessions.{{Begins}}
+use Rattle.vt_session.specs.Sessions.{{Begins, profile_of}}
 use Rattle.vt_session.specs.contracts.session.Session.{{the_row as R}}
 use Rattle.vt_session.proofs.session.Session.TheLaws.{{the_row_laws as LR}}
 use Rattle.vt_session.specs.contracts.session.begin as g
