@@ -1,4 +1,4 @@
-"""Checks of numbers before they are sent: a wrong one is named with its value and what is wanted."""
+"""Checks of numbers before they are sent: a wrong one is named with its value and what is expected."""
 from __future__ import annotations
 
 # The greatest time, in microseconds. The number above it stands for the latest time so far (docs/LIVE.md).
@@ -6,12 +6,12 @@ LAST_TIME = 2**64 - 2
 LATEST = 2**64 - 1
 
 
-def number(name: str, value: object, most: int, wanted: str = '') -> int:
+def number(name: str, value: object, most: int, meaning: str = 'a number') -> int:
     """The value, if it is an int from 0 to `most`. TypeError for another type, ValueError for another number; both name it."""
     if isinstance(value, bool) or not isinstance(value, int):
-        raise TypeError(f'{name} is {value!r}: {wanted or "a number"}, an int from 0 to {most}, is wanted')
+        raise TypeError(f'{name} is {value!r}: expected {meaning}, an int from 0 to {most}')
     if not 0 <= value <= most:
-        raise ValueError(f'{name} is {value}: {wanted or "a number"} from 0 to {most} is wanted')
+        raise ValueError(f'{name} is {value}: expected {meaning} from 0 to {most}')
     return value
 
 
@@ -46,5 +46,5 @@ def data(value: object) -> bytes:
 def in_bytes(name: str, value: object) -> bytes:
     """Bytes, also those of a bytearray or a memoryview."""
     if not isinstance(value, (bytes, bytearray, memoryview)):
-        raise TypeError(f'{name} is {type(value).__name__}: bytes are wanted')
+        raise TypeError(f'{name} is {type(value).__name__}: expected bytes')
     return bytes(value)

@@ -54,7 +54,7 @@ class Language:
 
     def __post_init__(self) -> None:
         if len(self.code) != 2 or not self.code.isascii() or not self.code.isalpha():
-            raise ValueError(f'code is {self.code!r}: two letters of ISO 639 are wanted, as en')
+            raise ValueError(f'code is {self.code!r}: expected two letters of ISO 639, such as en')
         checks.number('date', self.date, 255)
         for name in ('point', 'time', 'distance', 'area', 'volume', 'mass', 'temperature', 'pressure', 'force', 'units'):
             checks.number(name, getattr(self, name), 3)
@@ -81,7 +81,7 @@ class Extras:
     def __init__(self, terminal: Terminal, names: Collection[str], language: Language) -> None:
         unknown = sorted(set(names) - set(NAMES))
         if isinstance(names, str) or unknown:
-            raise ValueError(f'extras is {names!r}: a collection of {", ".join(NAMES)} is wanted')
+            raise ValueError(f'extras is {names!r}: expected a collection of {", ".join(NAMES)}')
         self.terminal = terminal
         self.names = frozenset(names)
         self.language = language

@@ -108,7 +108,7 @@ class Implement:
 
     @property
     def deadline(self) -> int | None:
-        """The time at which `tick` is wanted, or `None`."""
+        """The time at which `tick` is due, or `None`."""
         times = (self._quiet_end, self._status_end, self._maintenance, self._work, self._task_end, self._receiver.deadline,
                  self._sender.deadline if self._sender else None)
         return min((time for time in times if time is not None), default=None)

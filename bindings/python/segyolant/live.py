@@ -60,7 +60,7 @@ class Live:
             )
         except OSError as error:
             self._said.close()
-            raise ProgramNotFound(f'{self.program} cannot be started ({error.strerror}): a program for this processor is wanted') from error
+            raise ProgramNotFound(f'{self.program} cannot be started ({error.strerror}): expected a program for this processor') from error
 
     @property
     def pid(self) -> int:

@@ -80,7 +80,7 @@ def read_log(lines: Iterable[str | bytes]) -> Iterator[Line]:
         if text.endswith(b'\n'):
             text = text[:-1]
         if len(text) > LONGEST:
-            raise LogError(f'line {number} of the log is longer than {LONGEST} bytes: a log is wanted, as `candump -L` writes it')
+            raise LogError(f'line {number} of the log is longer than {LONGEST} bytes: expected a log as `candump -L` writes it')
         yield read_line(number, text)
 
 

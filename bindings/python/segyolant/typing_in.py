@@ -18,10 +18,10 @@ def number_text(typed: str | int | Decimal) -> str:
     if isinstance(typed, float):
         raise TypeError(f'typed is the float {typed!r}, which is {Decimal(typed)} exactly: give {str(typed)!r} or a Decimal in its place')
     if isinstance(typed, bool) or not isinstance(typed, (str, int, Decimal)):
-        raise TypeError(f'typed is {typed!r}: a number as a str, an int or a Decimal is wanted')
+        raise TypeError(f'typed is {typed!r}: expected a number as a str, an int or a Decimal')
     text = format(typed, 'f') if isinstance(typed, Decimal) else str(typed)
     if NUMBER.fullmatch(text) is None:
-        raise ValueError(f'typed is {text!r}: a number is wanted, as -12.5, with a point, without blanks and without a plus')
+        raise ValueError(f'typed is {text!r}: expected a number such as -12.5, with a point, without blanks and without a plus')
     digits = sum(each.isdigit() for each in text)
     if digits > MOST_DIGITS:
         raise ValueError(f'typed is {text!r}, which has {digits} digits: at most {MOST_DIGITS} are taken')
@@ -33,7 +33,7 @@ def text_bytes(text: str | bytes) -> bytes:
     if isinstance(text, (bytes, bytearray)):
         return bytes(text)
     if not isinstance(text, str):
-        raise TypeError(f'text is {type(text).__name__}: a str or bytes are wanted')
+        raise TypeError(f'text is {type(text).__name__}: expected a str or bytes')
     try:
         return text.encode('latin-1')
     except UnicodeEncodeError as error:
@@ -53,5 +53,5 @@ def no_raw_value(object_id: int, text: str, limits: Limits) -> str:
 def whole_number(object_id: int, text: str) -> int:
     """The raw value of an object that is no Input Number. ValueError if the text is none."""
     if not text.isdigit() or int(text) >= 2**32:
-        raise ValueError(f'{text} is no raw value of object {object_id}, which is no Input Number: 0 to {2**32 - 1} is wanted')
+        raise ValueError(f'{text} is no raw value of object {object_id}, which is no Input Number: expected 0 to {2**32 - 1}')
     return int(text)

@@ -194,27 +194,27 @@ class Arguments(WithTerminal):
     def test_each_wrong_number_is_named(self) -> None:
         terminal = self.terminal
         for call, words in (
-            (lambda: terminal.hear(-1, 1, b''), 'time is -1: a time in microseconds from 0'),
+            (lambda: terminal.hear(-1, 1, b''), 'time is -1: expected a time in microseconds from 0'),
             (lambda: terminal.hear(2**64 - 1, 1, b''), 'time is 18446744073709551615'),
-            (lambda: terminal.hear(1, 0x20000000, b''), 'id is 536870912: an identifier of 29 bits'),
+            (lambda: terminal.hear(1, 0x20000000, b''), 'id is 536870912: expected an identifier of 29 bits'),
             (lambda: terminal.hear(1, 1, bytes(9)), 'data has 9 bytes: a frame has at most 8'),
-            (lambda: terminal.press(1, 70000), 'object is 70000: the ID of an object from 0 to 65535'),
-            (lambda: terminal.enter_raw(1, 1, -20), 'value is -20: a raw value'),
+            (lambda: terminal.press(1, 70000), 'object is 70000: expected the ID of an object from 0 to 65535'),
+            (lambda: terminal.enter_raw(1, 1, -20), 'value is -20: expected a raw value'),
             (lambda: terminal.choose(1, 256), 'address is 256'),
             (lambda: terminal.object(65536), 'id is 65536'),
             (lambda: terminal.picture(SET, 65536), 'mask is 65536'),
-            (lambda: terminal.touch(2**32, 0), 'x is 4294967296: a column'),
+            (lambda: terminal.touch(2**32, 0), 'x is 4294967296: expected a column'),
             (lambda: Terminal(254), 'own is 254'),
-            (lambda: Terminal(1, 2**64), 'name is 18446744073709551616: a NAME'),
+            (lambda: Terminal(1, 2**64), 'name is 18446744073709551616: expected a NAME'),
             (lambda: Profile(width=65536), 'width is 65536'),
             (lambda: Profile(hardware=256), 'hardware is 256'),
         ):
             with self.assertRaisesRegex(ValueError, words):
                 call()
         for wrong, words in (
-            (lambda: terminal.tick(1.5), 'time is 1.5: a time in microseconds, an int from 0'),  # type: ignore[arg-type]
+            (lambda: terminal.tick(1.5), 'time is 1.5: expected a time in microseconds, an int from 0'),  # type: ignore[arg-type]
             (lambda: terminal.press(None, True), 'object is True'),
-            (lambda: terminal.preload(1, 'pool.iop'), 'pool is str: bytes are wanted'),  # type: ignore[arg-type]
+            (lambda: terminal.preload(1, 'pool.iop'), 'pool is str: expected bytes'),  # type: ignore[arg-type]
         ):
             with self.assertRaisesRegex(TypeError, words):
                 wrong()

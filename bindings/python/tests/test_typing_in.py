@@ -16,7 +16,7 @@ class Numbers(unittest.TestCase):
 
     def test_other_forms_are_refused(self) -> None:
         for typed in ('', '+5', ' 5', '5 ', '12,5', '.5', '5.', '1e3', '٣', Decimal('NaN'), Decimal('Infinity'), '-'):
-            with self.subTest(typed=typed), self.assertRaisesRegex(ValueError, 'a number is wanted'):
+            with self.subTest(typed=typed), self.assertRaisesRegex(ValueError, 'expected a number'):
                 number_text(typed)
         with self.assertRaisesRegex(TypeError, 'typed is True'):
             number_text(True)

@@ -7,7 +7,7 @@ use Rattle.vt_session.specs.declared.session.Session.{Session}
 use Rattle.vt_session.specs.Sessions.{waiting}
 use Rattle.vt_service.specs.Answers.{refusal_data}
 use Rattle.vt_service.specs.Requests.{IsRefused, Reads}
-use Rattle.vt_service.specs.Service.{IsAsked, Serves, answered, number_of, refused, served}
+use Rattle.vt_service.specs.Service.{IsAsked, Serves, answered, number_of, refused, served, unanswered}
 use Rattle.vt_service.specs.declared.members.Malformed.{Malformed}
 use Rattle.vt_service.specs.declared.members.Malformed.TheVariants.{NoMemory}
 use Rattle.vt_service.specs.declared.request.Question.{Question}
@@ -30,7 +30,12 @@ module _ (session : Session) (line : List ℕ) (d : Data) (old new : List (Optio
     lines = lines;
     taken = none;
   }
-  asked_so question reads (inr lines) = turned_down (number_of d) NoMemory refl (inl refl) lines
+  asked_so question reads (inr lines) = record {
+    told = Some (refusal_data (number_of d) NoMemory) ∷ [];
+    answered = served d session (Some (refusal_data (number_of d) NoMemory) ∷ []) utf8 is (unanswered question reads);
+    lines = lines;
+    taken = none;
+  }
 
   pub asked : (number : Option ℕ) (question : Question) → number ≡ number_of d → Reads d (requests.Question question) → IsAsked session number question old new
       → Serves session line session old new

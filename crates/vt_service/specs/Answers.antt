@@ -6,7 +6,7 @@ use Rattle.vt_server.specs.frame.Deadlines.{IsDue}
 use Rattle.vt_server.specs.shown.Screens.{redraws}
 use Rattle.vt_session.specs.declared.session.Session.{Session}
 use Rattle.vt_session.specs.Sessions.{state}
-use Rattle.vt_session.specs.Statuses.{DONE, NO_MEMORY, NO_POOL, NOT_BEGUN}
+use Rattle.vt_session.specs.Statuses.{DONE, NO_MEMORY, NO_POOL, NO_SUCH, NOT_BEGUN}
 use Rattle.vt_service.specs.Members.{member_name}
 use Rattle.vt_service.specs.Values.{number_data, number_or_null}
 use Rattle.vt_service.specs.declared.answers.Told.{Told}
@@ -20,7 +20,8 @@ result_name status =
     else if status == NO_MEMORY then codes "no-memory"
     else if status == NO_POOL then codes "no-pool"
     else if status == NOT_BEGUN then codes "not-begun"
-    else codes "no-such"
+    else if status == NO_SUCH then codes "no-such"
+    else codes "unknown-status"
 
 -- what a host asks of the terminal of a session
 pub record IsTold (session : Session) (told : Told) : Type 0 where

@@ -41,7 +41,7 @@ member_name members.Hardware = codes "hardware"
 member_name members.Width = codes "width"
 member_name members.Height = codes "height"
 
--- the greatest number of a member that is one
+-- the greatest number of a member that is one, and 0 for a text
 abbrev pub most_of : Member → ℕ
 most_of members.Own = 253
 most_of members.Time = 2 ^ 64 - 1
@@ -53,7 +53,22 @@ most_of members.Object = 2 ^ 16 - 1
 most_of members.Mask = 2 ^ 16 - 1
 most_of members.Width = 2 ^ 16 - 1
 most_of members.Height = 2 ^ 16 - 1
-most_of _ = 255
+most_of members.Address = 255
+most_of members.SoftKeyWidth = 255
+most_of members.SoftKeyHeight = 255
+most_of members.VirtualSoftKeys = 255
+most_of members.PhysicalSoftKeys = 255
+most_of members.SmallFonts = 255
+most_of members.LargeFonts = 255
+most_of members.FontStyles = 255
+most_of members.BootTime = 255
+most_of members.GraphicType = 255
+most_of members.Hardware = 255
+most_of members.Name = 0
+most_of members.Frame = 0
+most_of members.Pool = 0
+most_of members.Text = 0
+most_of members.Typed = 0
 
 abbrev pub number_if : Member → Option ℕ → Result ℕ Malformed
 number_if member None = Err (WrongMember member)

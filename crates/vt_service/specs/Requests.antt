@@ -1,5 +1,5 @@
 -- What a line asks for (docs/LIVE.md, "Requests").
-use Rattle.std.specs.Prelude.{◌≡◌, ◌⊎◌, ℕ, List, codes, Option, Some, None, option_and_then, Result, Ok, Err}
+use Rattle.std.specs.Prelude.{◌≡◌, ◌⊎◌, ℕ, Bool, true, false, List, codes, Option, Some, None, option_and_then, Result, Ok, Err}
 use Rattle.serde_json.specs.Data.{Data}
 use Rattle.serde_json.specs.Find.{as_str, get}
 use Rattle.vt_can.specs.declared.frames.frame.Frame.{Frame}
@@ -7,6 +7,7 @@ use Rattle.vt_can.specs.declared.lines.line.Action.{Action}
 use Rattle.vt_can.specs.declared.lines.line.Action.TheVariants as actions
 use Rattle.vt_dialogs.specs.declared.typed.Typed.{Typed}
 use Rattle.vt_node.specs.declared.profile.Profile.{Profile}
+use Rattle.vt_node.specs.Profile.{standard}
 use Rattle.vt_service.specs.Members.{bytes_in, frame_in, member_name, name_in, number_in, typed_in}
 use Rattle.vt_service.specs.declared.members.Malformed.{Malformed}
 use Rattle.vt_service.specs.declared.members.Malformed.TheVariants as malformed
@@ -71,22 +72,23 @@ then (Err e) next = Err e
 
 -- the number of a member, or another one where it is not there
 abbrev pub number_if_there : Option Data → ℕ → Result ℕ Malformed → Result ℕ Malformed
-number_if_there None standard found = Ok standard
-number_if_there (Some value) standard found = found
+number_if_there None other found = Ok other
+number_if_there (Some value) other found = found
 
 abbrev pub number_or : Data → Member → ℕ → Result ℕ Malformed
-number_or d member standard = number_if_there (get (member_name member) d) standard (number_in d member)
+number_or d member other = number_if_there (get (member_name member) d) other (number_in d member)
 
 -- the profile of a request: what it has, and else what the standard profile has
 abbrev pub profile_in : Data → Result Profile Malformed
 profile_in d =
-    then (number_or d members.Memory 1048576) (λ memory. then (number_or d members.SoftKeyWidth 64) (λ key_width.
-    then (number_or d members.SoftKeyHeight 64) (λ key_height. then (number_or d members.VirtualSoftKeys 64) (λ virtual.
-    then (number_or d members.PhysicalSoftKeys 6) (λ physical. then (number_or d members.SmallFonts 0x7F) (λ small.
-    then (number_or d members.LargeFonts 0x7F) (λ large. then (number_or d members.FontStyles 0) (λ styles.
-    then (number_or d members.BootTime 0) (λ boot. then (number_or d members.GraphicType 2) (λ graphic.
-    then (number_or d members.Hardware 0) (λ hardware. then (number_or d members.Width 480) (λ width.
-    then (number_or d members.Height 480) (λ height.
+    then (number_or d members.Memory standard.memory) (λ memory. then (number_or d members.SoftKeyWidth standard.soft_key_width) (λ key_width.
+    then (number_or d members.SoftKeyHeight standard.soft_key_height) (λ key_height.
+    then (number_or d members.VirtualSoftKeys standard.virtual_soft_keys) (λ virtual.
+    then (number_or d members.PhysicalSoftKeys standard.physical_soft_keys) (λ physical.
+    then (number_or d members.SmallFonts standard.small_fonts) (λ small. then (number_or d members.LargeFonts standard.large_fonts) (λ large.
+    then (number_or d members.FontStyles standard.font_styles) (λ styles. then (number_or d members.BootTime standard.boot_time) (λ boot.
+    then (number_or d members.GraphicType standard.graphic_type) (λ graphic. then (number_or d members.Hardware standard.hardware) (λ hardware.
+    then (number_or d members.Width standard.width) (λ width. then (number_or d members.Height standard.height) (λ height.
     Ok (record {
       memory = memory;
       soft_key_width = key_width;
@@ -170,13 +172,26 @@ abbrev pub Reads : Data → Request → Type 0
 Reads d (requests.Command command) = (kind : CommandKind) × Names d (kinds.Command kind) × (command_in d kind ≡ Ok (command_value command))
 Reads d (requests.Question question) = (kind : QuestionKind) × Names d (kinds.Question kind) × (question_in d kind ≡ Ok question)
 
--- A request of a kind lacks a member that it needs.
-abbrev pub Lacks : Data → Kind → Malformed → Type 0
-Lacks d (kinds.Command kind) e = command_in d kind ≡ Err e
-Lacks d (kinds.Question kind) e = question_in d kind ≡ Err e
+-- whether a command takes memory for bytes of its own
+abbrev pub copies_bytes : CommandKind → Bool
+copies_bytes Begin = false
+copies_bytes Preload = true
+copies_bytes FrameKind = false
+copies_bytes Tick = false
+copies_bytes (Act kind) = false
+copies_bytes Text = true
+copies_bytes Claim = false
+copies_bytes Status = false
 
--- Why a value reads as no request: memory was refused, it names no kind, or it lacks a member that its kind needs.
+-- Why a value that names a command reads as none: memory was refused to its bytes, or it lacks a member.
+abbrev pub IsNoCommand : Data → CommandKind → Malformed → Type 0
+IsNoCommand d kind e = ((e ≡ malformed.NoMemory) × (copies_bytes kind ≡ true)) ⊎ (command_in d kind ≡ Err e)
+
+abbrev pub IsNoRequest : Data → Kind → Malformed → Type 0
+IsNoRequest d (kinds.Command kind) e = IsNoCommand d kind e
+IsNoRequest d (kinds.Question kind) e = question_in d kind ≡ Err e
+
+-- Why a value reads as no request: it names none, or it is none of the kind that it names.
 abbrev pub IsRefused : Data → Malformed → Type 0
 IsRefused d e =
-    (e ≡ malformed.NoMemory)
-    ⊎ (((e ≡ malformed.UnknownRequest) × ((kind : Kind) → Names d kind → ⊥)) ⊎ ((kind : Kind) × Names d kind × Lacks d kind e))
+    ((e ≡ malformed.UnknownRequest) × ((kind : Kind) → Names d kind → ⊥)) ⊎ ((kind : Kind) × Names d kind × IsNoRequest d kind e)

@@ -1,5 +1,5 @@
 -- What becomes of a line (docs/LIVE.md).
-use Rattle.std.specs.Prelude.{◌≡◌, ◌⊎◌, ℕ, List, [], ◌∷◌, ◌++◌, map, codes, Option, Some, None, IsUtf8, option_and_then}
+use Rattle.std.specs.Prelude.{◌≡◌, ◌⊎◌, ◌<◌, ℕ, List, [], ◌∷◌, ◌++◌, length, map, codes, Option, Some, None, IsUtf8, option_and_then}
 use Rattle.serde_json.specs.Data.{Data}
 use Rattle.serde_json.specs.Find.{as_number, as_u64, get}
 use Rattle.serde_json.specs.Read.{read}
@@ -37,12 +37,13 @@ IsAsked session number question old new =
     ((value : Data) × IsValue (state session) question value × (new ≡ old ++ Some (answer_data number value) ∷ []))
     ⊎ (new ≡ old ++ Some (refusal_data number NoMemory) ∷ [])
 
--- What a value that was read does to the session, and what is told. Memory may be refused to any request, and then nothing is changed.
+-- What a value that was read does to the session, and what is told. A question, or a command with bytes, can be refused for want of memory.
 pub data IsServed (d : Data) (before : Session) : Session → List (Option Data) → Type 0 where
   done : (command : Command) (after : Session) (told : List (Option Data)) → Reads d (requests.Command command)
       → IsDone before command (number_of d) after told → IsServed d before after told
   answered : (question : Question) (value : Data) → Reads d (requests.Question question) → IsValue (state before) question value
       → IsServed d before before (Some (answer_data (number_of d) value) ∷ [])
+  unanswered : (question : Question) → Reads d (requests.Question question) → IsServed d before before (Some (refusal_data (number_of d) NoMemory) ∷ [])
   refused : (why : Malformed) → IsRefused d why → IsServed d before before (Some (refusal_data (number_of d) why) ∷ [])
 
 -- What a line does to the session, and what is told.
@@ -50,7 +51,7 @@ pub data IsAnswered (line : List ℕ) (before : Session) : Session → List (Opt
   served : (d : Data) (after : Session) (told : List (Option Data)) → IsUtf8 line → read line ≡ Some d → IsServed d before after told
       → IsAnswered line before after told
   not_json : (IsUtf8 line → read line ≡ None) → IsAnswered line before before (Some (refusal_data None NotJson) ∷ [])
-  no_memory : IsAnswered line before before (Some (refusal_data None NoMemory) ∷ [])
+  no_memory : 0 < length line → IsAnswered line before before (Some (refusal_data None NoMemory) ∷ [])
 
 -- The lines of the answer are appended, and no output waits.
 pub record Serves (before : Session) (line : List ℕ) (after : Session) (old new : List (Option Data)) : Type 0 where

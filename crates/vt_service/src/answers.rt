@@ -100,7 +100,8 @@ fn result_name(status: u32) -> &'static str
         NO_MEMORY => "no-memory",
         NO_POOL => "no-pool",
         NOT_BEGUN => "not-begun",
-        _ => "no-such",
+        NO_SUCH => "no-such",
+        _ => "unknown-status",
     }
 }
 

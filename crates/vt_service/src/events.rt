@@ -7,6 +7,7 @@ ghost use Rattle.vt_service.specs.Values.{id_data};
 
 use serde_json::{Value, json};
 use std::alloc::{AllocError, Global};
+use vt_can::assigned::NULL_ADDRESS;
 use vt_host_events::{Alarm, HostEvent};
 use vt_machine::Signal;
 use vt_objects::ObjectId;
@@ -79,7 +80,7 @@ fn uploaded(alloc: Global, address: u8, progress: Progress) -> Result<Value, All
 fn shown(alloc: Global, display: ShownMasks) -> Result<Value, AllocError>
     ensures { IfOk result (λ v. view v ≡ json_of.shown display) }
 {
-    let address = if display.address == 254 {
+    let address = if display.address == NULL_ADDRESS {
         Value::Null
     } else {
         Value::from(display.address)

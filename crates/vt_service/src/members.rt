@@ -91,7 +91,7 @@ impl Member {
         }
     }
 
-    /// The greatest number of a member that is one.
+    /// The greatest number of a member that is one, and 0 for a text.
     fn most(self) -> u64
         ensures { result ≡ most_of self }
     {
@@ -100,7 +100,18 @@ impl Member {
             Member::Time => u64::MAX,
             Member::Value | Member::X | Member::Y | Member::Memory => 0xFFFF_FFFF,
             Member::Object | Member::Mask | Member::Width | Member::Height => 0xFFFF,
-            _ => 0xFF,
+            Member::Address
+            | Member::SoftKeyWidth
+            | Member::SoftKeyHeight
+            | Member::VirtualSoftKeys
+            | Member::PhysicalSoftKeys
+            | Member::SmallFonts
+            | Member::LargeFonts
+            | Member::FontStyles
+            | Member::BootTime
+            | Member::GraphicType
+            | Member::Hardware => 0xFF,
+            Member::Name | Member::Frame | Member::Pool | Member::Text | Member::Typed => 0,
         }
     }
 }

@@ -13,19 +13,20 @@ use vt_server::Profile;
 pub(crate) fn profile_in(request: &Value) -> Result<Profile, Malformed>
     ensures { result ≡ profile_in (view request.now) }
 {
-    let memory = number_or(request, Member::Memory, 1_048_576)? as u32;
-    let soft_key_width = byte_or(request, Member::SoftKeyWidth, 64)?;
-    let soft_key_height = byte_or(request, Member::SoftKeyHeight, 64)?;
-    let virtual_soft_keys = byte_or(request, Member::VirtualSoftKeys, 64)?;
-    let physical_soft_keys = byte_or(request, Member::PhysicalSoftKeys, 6)?;
-    let small_fonts = byte_or(request, Member::SmallFonts, 0x7F)?;
-    let large_fonts = byte_or(request, Member::LargeFonts, 0x7F)?;
-    let font_styles = byte_or(request, Member::FontStyles, 0)?;
-    let boot_time = byte_or(request, Member::BootTime, 0)?;
-    let graphic_type = byte_or(request, Member::GraphicType, 2)?;
-    let hardware = byte_or(request, Member::Hardware, 0)?;
-    let width = number_or(request, Member::Width, 480)? as u16;
-    let height = number_or(request, Member::Height, 480)? as u16;
+    let standard = Profile::standard();
+    let memory = number_or(request, Member::Memory, u64::from(standard.memory))? as u32;
+    let soft_key_width = byte_or(request, Member::SoftKeyWidth, standard.soft_key_width)?;
+    let soft_key_height = byte_or(request, Member::SoftKeyHeight, standard.soft_key_height)?;
+    let virtual_soft_keys = byte_or(request, Member::VirtualSoftKeys, standard.virtual_soft_keys)?;
+    let physical_soft_keys = byte_or(request, Member::PhysicalSoftKeys, standard.physical_soft_keys)?;
+    let small_fonts = byte_or(request, Member::SmallFonts, standard.small_fonts)?;
+    let large_fonts = byte_or(request, Member::LargeFonts, standard.large_fonts)?;
+    let font_styles = byte_or(request, Member::FontStyles, standard.font_styles)?;
+    let boot_time = byte_or(request, Member::BootTime, standard.boot_time)?;
+    let graphic_type = byte_or(request, Member::GraphicType, standard.graphic_type)?;
+    let hardware = byte_or(request, Member::Hardware, standard.hardware)?;
+    let width = number_or(request, Member::Width, u64::from(standard.width))? as u16;
+    let height = number_or(request, Member::Height, u64::from(standard.height))? as u16;
     Ok(Profile {
         memory,
         soft_key_width,

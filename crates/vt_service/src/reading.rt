@@ -1,9 +1,8 @@
 //! Reading of requests.
 
-ghost use Rattle.std.specs.Prelude.{◌≡◌, ◌⊎◌, Ok, Err, IfOk, IfErr, MatchOption};
+ghost use Rattle.std.specs.Prelude.{◌≡◌, Ok, IfOk, IfErr, MatchOption};
 ghost use Rattle.serde_json.specs.View.{view};
-ghost use Rattle.vt_service.specs.Requests.{IsRefused, Names, Reads, action_in, command_in, command_value, place_in, question_in};
-ghost use Rattle.vt_service.specs.declared.members.Malformed.TheVariants as malformed;
+ghost use Rattle.vt_service.specs.Requests.{IsNoCommand, IsRefused, Names, Reads, action_in, command_in, command_value, place_in, question_in};
 ghost use Rattle.vt_service.specs.declared.request.Kind.{Kind};
 
 use crate::members::{
@@ -61,7 +60,7 @@ fn kind_in(request: &Value) -> Option<Kind>
 
 fn command_in(alloc: Global, request: &Value, kind: CommandKind) -> Result<Command, Malformed>
     ensures ok { IfOk result (λ command. command_in (view request.now) kind ≡ Ok (command_value command)) }
-    ensures err { IfErr result (λ e. (e ≡ malformed.NoMemory) ⊎ (command_in (view request.now) kind ≡ Err e)) }
+    ensures err { IfErr result (IsNoCommand (view request.now) kind) }
 {
     match kind {
         CommandKind::Begin => {

@@ -3,7 +3,9 @@
 ghost use Rattle.std.specs.Prelude.{◌≡◌, ◌++◌, ◌≤◌, ◌∷◌, [], Some, OnOk};
 ghost use Rattle.serde_json.specs.Data.{depth};
 ghost use Rattle.serde_json.specs.View.{view};
-ghost use Rattle.vt_session.specs.Sessions.{waiting};
+ghost use Rattle.vt_can.specs.Assigned.{NULL_ADDRESS};
+ghost use Rattle.vt_node.specs.Profile.{standard};
+ghost use Rattle.vt_session.specs.Sessions.{Begins, waiting};
 ghost use Rattle.vt_service.specs.Answers.{refusal_data};
 ghost use Rattle.vt_service.specs.Lines.{lines_data};
 ghost use Rattle.vt_service.specs.Service.{IsAsked, Serves, number_of};
@@ -24,7 +26,7 @@ use vt_session::session::begin_with;
 
 /// A session without a terminal: each command but `begin` is answered with `not-begun`.
 pub fn new_session(alloc: Global) -> Session
-    ensures { waiting result ≡ [] }
+    ensures { Begins NULL_ADDRESS 0 standard result }
 {
     begin_with(alloc, u32::from(NULL_ADDRESS), 0, Profile::standard())
 }

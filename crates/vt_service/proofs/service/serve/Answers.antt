@@ -15,7 +15,13 @@ not_true : false ≡ true → ⊥
 not_true is = cc is
 
 pub returns-in-Err : goal.returns-in-Err
-returns-in-Err c = on_ok c.refuse.result c.refuse.ensures (λ is. record { told = _; answered = no_memory; lines = is; taken = c.requires })
+returns-in-Err c =
+    on_ok c.refuse.result c.refuse.ensures (λ is. record {
+      told = _;
+      answered = no_memory (c.in-Err.ensures.memory (c.if-is_memory.ensures.0 refl));
+      lines = is;
+      taken = c.requires;
+    })
 
 pub returns-in-Err-2 : goal.returns-in-Err-2
 returns-in-Err-2 c =
