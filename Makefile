@@ -95,10 +95,9 @@ shared:
 libs-aarch64:
 	@python3 scripts/static_libs.py --target aarch64-unknown-linux-gnu
 
-# Tests the package for Python by quick builds of the programs, and the recipes of docs/PYTHON.md.
+# Tests the package for Python, and the recipes of docs/PYTHON.md. GATE=1 takes the proved programs that make prove left.
 test-python:
-	@python3 scripts/quick.py
-	@cd bindings/python && SEGYOLANT_BIN=$(CURDIR)/out/quick python3 -B -W error -m unittest
+	@python3 scripts/python_tests.py package $(if $(GATE),--gate)
 
 # Makes a package for Python with the proved programs, for x86-64 Linux, in out/wheel.
 wheel: build
@@ -107,8 +106,9 @@ wheel: build
 # Runs the terminal on the desk: a page in the browser with the live mask and the bus, for a simulated sprayer, or as ARGS say:
 # make desk ARGS="--bus socketcan:can0" (docs/DESK.md).
 desk:
-	@python3 scripts/desk.py run $(if $(filter command line,$(origin ARGS)),$(ARGS))
+	@python3 scripts/desk.py $(if $(filter command line,$(origin ARGS)),$(ARGS))
 
 # Tests the desk, the test bench and the simulated implement: the server, and the page in headless Chromium. Pictures of it go to out/desk.
+# GATE=1 takes the proved program, and the page alone.
 test-desk:
-	@python3 scripts/desk.py test
+	@python3 scripts/python_tests.py desk $(if $(GATE),--gate)

@@ -1,5 +1,5 @@
 #!/usr/bin/env bash
-# Runs the tests, the gate and the tests in C, tells what each takes, and ends with the count of them all.
+# Runs the tests, the gate, and the tests in C and in Python, tells what each takes, and ends with the count of them all.
 set -u
 cd "$(dirname "$0")/.."
 said=$(mktemp)
@@ -13,10 +13,10 @@ look_at_clock() {
 }
 
 status=0
-for step in test prove test-c; do
+for step in test prove test-c test-python test-desk; do
     look_at_clock
     before=$used begun=$(date +%s)
-    make "$step" 2>&1 | tee -a "$said"
+    make "$step" GATE=1 2>&1 | tee -a "$said"
     status=${PIPESTATUS[0]}
     look_at_clock
     echo "gate: make $step took $(($(date +%s) - begun)) seconds, and $((used - before)) of processor"
