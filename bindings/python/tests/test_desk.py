@@ -28,7 +28,7 @@ from segyolant.implement import Implement
 from segyolant.log_lines import ActionLine, FrameLine, read_log
 from segyolant.naming import by_id
 from segyolant.sprayer import NAMES, Sprayer
-from tests.support import EXAMPLES, example
+from tests.support import EXAMPLES, TOP, example, is_quick
 
 APT = 'apt-get install -y --no-install-recommends python3-can python3-aiohttp'
 HAS_AIOHTTP = importlib.util.find_spec('aiohttp') is not None
@@ -399,28 +399,58 @@ class Simulated(WithDesk):
 
 @unittest.skipUnless(HAS_CAN, f'{sys.executable} has no python-can: {APT}')
 class OnPythonCan(WithDesk):
-    async def test_an_implement_on_a_virtual_bus(self) -> None:
+    async def asyncSetUp(self) -> None:
         from segyolant.desk.python_can import CanLine
 
         with warnings.catch_warnings():
             warnings.simplefilter('ignore')  # (python-can of Debian 12 warns of what it calls itself)
             import can
 
-        desk = self.desk(CanLine('virtual', 'test-desk'))
-        other, implement, clock = can.Bus(interface='virtual', channel='test-desk'), Implement(example('pool.iop')), Clock()
-        self.addCleanup(other.shutdown)
+        await super().asyncSetUp()
+        self.message, channel = can.Message, self.id()
+        self.running = self.desk(CanLine('virtual', channel))
+        self.other = can.Bus(interface='virtual', channel=channel)
+        self.addCleanup(self.other.shutdown)
 
-        def send(frames: Sequence[Frame]) -> None:
-            for frame in frames:
-                other.send(can.Message(arbitration_id=frame.id, data=frame.data, is_extended_id=True))
+    def send(self, frames: Sequence[Frame]) -> None:
+        for frame in frames:
+            self.other.send(self.message(arbitration_id=frame.id, data=frame.data, is_extended_id=True))
 
-        send(implement.start(clock.now()))
+    def received(self) -> Frame | None:
+        message = self.other.recv(0)
+        return None if message is None else Frame(message.arbitration_id, bytes(message.data))
+
+    async def test_an_implement_on_a_virtual_bus(self) -> None:
+        implement, clock = Implement(example('pool.iop')), Clock()
+        self.send(implement.start(clock.now()))
         end = time.monotonic() + 30
         while implement.phase != 'live' and time.monotonic() < end:
-            message, now = other.recv(0), clock.now()
-            send(implement.tick(now) if message is None else implement.hear(now, message.arbitration_id, bytes(message.data)))
+            frame, now = self.received(), clock.now()
+            self.send(implement.tick(now) if frame is None else implement.hear(now, frame.id, frame.data))
             await asyncio.sleep(0.001)
-        self.assertEqual((implement.phase, desk.terminal.shown), ('live', 0x80))
+        self.assertEqual((implement.phase, self.running.terminal.shown), ('live', 0x80))
+
+    async def test_the_sender_of_linux(self) -> None:
+        await asyncio.sleep(0.3)  # (the silence after the claim)
+        answers: list[Frame] = []
+
+        def answer() -> Frame | None:
+            while (frame := self.received()) is not None:
+                if frame.id in (0x1CEC8026, 0x1CC88026):
+                    answers.append(frame)
+            return answers.pop(0) if answers else None
+
+        logs = sorted((TOP / 'tests' / 'bus' / 'linux').glob('*.log'))
+        self.assertEqual(len(logs), 9)
+        for path in [path for path in logs if not is_quick() or path.stat().st_size < 20_000]:
+            for line in read_log(path.read_bytes().splitlines()):
+                if not isinstance(line, FrameLine):
+                    continue
+                if line.frame.id & 0xFF == 0x80:
+                    self.send([line.frame])
+                else:
+                    self.assertEqual(await self.until(answer), line.frame, f'{path.name}:{line.number}')
+        self.assertIsNone(answer())
 
 
 @unittest.skipUnless(HAS_AIOHTTP, f'{sys.executable} has no aiohttp: {APT}')
