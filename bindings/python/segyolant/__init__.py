@@ -21,7 +21,7 @@ from .pools import Finding, check, draw, report
 from .state import Element, Limits, Profile, WorkingSet
 from .terminal import Terminal
 
-__version__ = '0.1.0'
+__version__ = '0.2.0'
 
 __all__ = [
     'AddressLost', 'Alarm', 'AlarmOver', 'CoreEnded', 'CoreError', 'Element', 'Event', 'ExtraFrame', 'Finding', 'Frame', 'Host', 'Language',

@@ -9,6 +9,7 @@ import unittest
 import zipfile
 from pathlib import Path
 
+from segyolant import __version__ as VERSION
 from segyolant import programs
 from tests.support import PYTHON
 
@@ -28,7 +29,7 @@ class Wheel(unittest.TestCase):
         for name in ('segyolant', 'vt_replay'):
             (self.folder / 'found' / name).write_text('another program')
         wheel = make_wheel.make(self.folder, f'{self.folder}/found/{{}}')
-        self.assertEqual(wheel.name, 'segyolant-0.1.0-py3-none-linux_x86_64.whl')
+        self.assertEqual(wheel.name, f'segyolant-{VERSION}-py3-none-linux_x86_64.whl')
         with zipfile.ZipFile(wheel) as archive:
             self.assertIsNone(archive.testzip())
             self.check_record(archive)
@@ -41,7 +42,7 @@ class Wheel(unittest.TestCase):
         self.assertEqual((ran.stdout, ran.stderr), (f'{self.folder.resolve()}/there/segyolant/bin/vt_live\nscreen none\n', ''))
 
     def check_record(self, archive: zipfile.ZipFile) -> None:
-        record = archive.read('segyolant-0.1.0.dist-info/RECORD').decode().splitlines()
+        record = archive.read(f'segyolant-{VERSION}.dist-info/RECORD').decode().splitlines()
         self.assertEqual([line.split(',')[0] for line in record], archive.namelist())
         for line in record[:-1]:
             name, checksum, size = line.split(',')

@@ -53,7 +53,7 @@ the lines of check. A log is replayed by the terminal of vt_replay. Status: 0 dr
 /// The command line.
 pub(crate) const SEGYOLANT: CommandLine<'static> = CommandLine {
     name: "segyolant",
-    version: "0.1.0",
+    version: "0.2.0",
     about: "Checks object pools for makers of ISOBUS implements: every fault at once, with its place and its cause",
     after_help: AFTER_HELP,
     subcommands: &[CHECK, WHY, NEEDS, DIFF, DRAW],

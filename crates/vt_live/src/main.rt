@@ -20,7 +20,7 @@ Usage: vt_live [--help | --version]
 A request that asks for the screen is {\"id\": 1, \"do\": \"screen\"}. docs/LIVE.md lists all requests and answers.
 ";
 
-const VERSION: &str = "vt_live 0.1.0\n";
+const VERSION: &str = "vt_live 0.2.0\n";
 
 fn main(rt: HostRuntime) -> io::Result<ExitCode> {
     let code = match run_words(&rt) {

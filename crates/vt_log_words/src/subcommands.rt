@@ -56,7 +56,7 @@ Status: 0 each line prints what is expected of it, 1 some line prints something 
 /// The command line of `segyolant_log`.
 pub(crate) const SEGYOLANT_LOG: CommandLine<'static> = CommandLine {
     name: "segyolant_log",
-    version: "0.1.0",
+    version: "0.2.0",
     about: "Tells what recorded logs of an ISOBUS hold: uploaded pools, what was said and shown, and what differs",
     after_help: AFTER_HELP,
     subcommands: &[POOLS, OPERATOR, TRACE, COMPARE, DRAW, STATS, TEST],

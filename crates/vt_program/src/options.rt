@@ -175,7 +175,7 @@ fn command<'a>(alloc: Global) -> Result<Command<'a>, AllocError>
     let owner = valued_option(alloc, "owner", "AA", "The address of that working set");
     let report = report_flag(alloc);
     Command::new(alloc, "vt_replay")
-        .version("0.1.0")
+        .version("0.2.0")
         .about(
             "Replays a CAN log to a virtual terminal and prints what it answers, or checks an \
              object pool and prints its report",
