@@ -4,7 +4,7 @@ ARGS ?= examples/seeder.log
 POOL ?= examples/sprayer.iop
 
 .PHONY: run picture pictures quick help test prove examples wrong-bodies build bench bench-hostile bench-counts refuse-memory test-c shared \
-	libs-aarch64 test-python wheel desk test-desk
+	libs-aarch64 install dist reference test-python wheel desk test-desk
 
 # Replays a log by the quick build of vt_replay, which proves nothing. Two minutes at first, a second later.
 run:
@@ -38,8 +38,10 @@ prove:
 	@python3 scripts/crates.py
 	@python3 scripts/links.py
 	@python3 scripts/records.py
+	@python3 scripts/version.py
 	@bash scripts/examples.sh --check
 	@python3 scripts/build.py --gate
+	@python3 scripts/reference.py --check --programs '$(CURDIR)/crates/{}/out/{}'
 	@python3 scripts/run_tests.py --programs 'crates/{}/out/{}'
 	@python3 scripts/run_tests.py --programs 'crates/{}/out/{}.by-rattle'
 	@python3 scripts/wrong_bodies.py --gate
@@ -89,6 +91,21 @@ test-c:
 shared:
 	@python3 scripts/static_libs.py
 	@python3 scripts/shared_lib.py $(if $(PREFIX),--prefix $(PREFIX) --root "$(DESTDIR)")
+
+# Installs the proved programs, the libraries, man pages, completions and documents: make install PREFIX=/usr/local. DESTDIR is put before
+# that path.
+install: build
+	@python3 scripts/static_libs.py
+	@python3 scripts/dist.py --prefix $(or $(PREFIX),/usr/local) --root "$(DESTDIR)"
+
+# Packs the same into dist/segyolant-VERSION-x86_64-linux.tar.gz. QUICK=1 packs quick builds of the programs alone, in some two minutes.
+dist: $(if $(QUICK),quick,build)
+	@$(if $(QUICK),,python3 scripts/static_libs.py)
+	@python3 scripts/dist.py $(if $(QUICK),--quick)
+
+# Writes the reference pages of the command lines anew, docs/VT_REPLAY.md, SEGYOLANT.md and SEGYOLANT_LOG.md.
+reference: quick
+	@python3 scripts/reference.py
 
 # Proves the static libraries for aarch64 and leaves them at crates/*/out/aarch64-unknown-linux-gnu, over the libraries that make prove
 # or make test-c left in this tree. make test-c then runs them too, if qemu-aarch64 and aarch64-linux-gnu-gcc are there.

@@ -1,4 +1,3 @@
-#!/usr/bin/env python3
 """The command lines of the programs, read from their own help.
 
 Pages, man pages and completions are made of this, so none of them can say something else than the program.
@@ -49,12 +48,12 @@ def of_help(name, text):
     lines = text.splitlines()
     found = CommandLine(name, lines[0])
     rows = {'Commands:': found.commands, 'Arguments:': found.arguments, 'Options:': found.options}
-    section, blocks, seen = None, [[]], False
+    section, blocks = None, [[]]
     for line in lines[1:]:
         if line.startswith('Usage: '):
             found.usage = line[len('Usage: '):]
         elif line in SECTIONS:
-            section, seen = rows[line], True
+            section = rows[line]
         elif not line:
             section = None
             blocks.append([])
@@ -62,7 +61,6 @@ def of_help(name, text):
             word, meaning = re.fullmatch(r' +(\S.*?)  +(\S.*)', line).groups()
             section.append(Row(word, meaning))
         else:
-            assert seen, f'{name}: the help has a line before its words: {line}'
             blocks[-1].append(line)
     found.after = [block for block in blocks if block]
     return found

@@ -2,7 +2,7 @@
 """Writes the reference pages of the command lines: reference.py [--check] [--programs PATH]
 
 A page is made of the program's help and of the sessions in tests/reference, which are tests. With --check it says which page is not what
-would be written. PATH has {} for the name of a program, and is that of the quick builds unless given.
+would be written. PATH has {} where the name of a program stands; the quick builds are taken unless it is given.
 """
 import argparse
 import os
@@ -95,7 +95,7 @@ def main():
     words = parser.parse_args()
     wrong = []
     for program, name in PROGRAMS.items():
-        path, page = f'{ROOT}/docs/{name}.md', page_of(program, words.programs.format(program))
+        path, page = f'{ROOT}/docs/{name}.md', page_of(program, words.programs.replace('{}', program))
         if not words.check:
             with open(path, 'w', encoding='utf-8') as file:
                 file.write(page)

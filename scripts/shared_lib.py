@@ -5,7 +5,7 @@ It leaves out/lib/libsegyolant.so, which exports the functions of vt_terminal.h 
 The static libraries are there already (scripts/static_libs.py). It needs gcc.
 
 With --prefix it also copies the libraries to FOLDER/lib, the headers to FOLDER/include/segyolant, and files for pkg-config and CMake.
---root is put before that path where files are written, as for a package.
+--root is put before that path where files are written, as for a package. scripts/dist.py installs the programs too.
 """
 import argparse
 import os
@@ -13,11 +13,12 @@ import shutil
 import subprocess
 import sys
 
+from version import version
+
 ROOT = os.path.dirname(os.path.dirname(os.path.abspath(__file__)))
-VERSION = '0.2.0'
 ARCHIVES = [f'{ROOT}/crates/{name}/out/lib{name}.a' for name in ('vt_terminal', 'vt_check')]
 PACKAGING, OUT = f'{ROOT}/packaging', f'{ROOT}/out/lib'
-NAMES = ['libsegyolant.so', f'libsegyolant.so.{VERSION.split(".")[0]}', f'libsegyolant.so.{VERSION}']
+NAMES = ['libsegyolant.so', f'libsegyolant.so.{version().split(".")[0]}', f'libsegyolant.so.{version()}']
 
 
 def link():
@@ -50,13 +51,14 @@ def copy(path, folder):
 def write_file(name, folder, prefix):
     """Writes a file of `packaging` with its names filled in."""
     with open(f'{PACKAGING}/{name}.in', encoding='utf-8') as file:
-        text = file.read().replace('@PREFIX@', prefix).replace('@VERSION@', VERSION)
+        text = file.read().replace('@PREFIX@', prefix).replace('@VERSION@', version())
     os.makedirs(folder, exist_ok=True)
     with open(f'{folder}/{name}', 'w', encoding='utf-8') as file:
         file.write(text)
 
 
 def install(prefix, root):
+    """Copies the libraries to lib, the headers to include/segyolant, and files for pkg-config and CMake, below root + prefix."""
     at = root + prefix
     for path in [f'{OUT}/{NAMES[2]}', *ARCHIVES]:
         copy(path, f'{at}/lib')
@@ -64,20 +66,25 @@ def install(prefix, root):
     for name in sorted(os.listdir(f'{ROOT}/include')):
         copy(f'{ROOT}/include/{name}', f'{at}/include/segyolant')
     for name in ('segyolant.pc', 'segyolant-static.pc'):
-        write_file(name, f'{at}/lib/pkgconfig', prefix)
+        write_file(name, f'{at}/lib/pkgconfig', prefix or '${pcfiledir}/../..')
     write_file('segyolantConfig.cmake', f'{at}/lib/cmake/segyolant', prefix)
 
 
-def main():
-    parser = argparse.ArgumentParser(description=__doc__.split('\n')[0])
-    parser.add_argument('--prefix', metavar='FOLDER', help='as /usr/local')
-    parser.add_argument('--root', metavar='FOLDER', default='')
-    words = parser.parse_args()
+def make():
+    """Links the library from the static ones, which have to be there."""
     missing = [path for path in ARCHIVES if not os.path.exists(path)]
     if missing:
         sys.exit(f'{missing[0]} is not there: scripts/static_libs.py makes it')
     link()
     print(f'made out/lib/{NAMES[2]}')
+
+
+def main():
+    parser = argparse.ArgumentParser(description=__doc__.split('\n')[0])
+    parser.add_argument('--prefix', metavar='FOLDER', help='such as /usr/local')
+    parser.add_argument('--root', metavar='FOLDER', default='')
+    words = parser.parse_args()
+    make()
     if words.prefix:
         install(os.path.abspath(words.prefix), words.root)
         print(f'installed in {words.root}{words.prefix}')

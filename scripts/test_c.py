@@ -27,6 +27,7 @@ from c.live import test_live
 from c.looks import test_looks
 from c.memory import test_memory
 from c.misuse import test_misuse
+from c.packed import test_package
 from c.parts import test_parts
 from c.programs import CHECKING, LIBRARY, Programs
 from c.readings import test_readings
@@ -58,6 +59,7 @@ def test_all(tests, folder, cases):
     test_live(tests, programs)
     test_other_languages(tests, folder)
     test_shared(tests, folder)
+    test_package(tests, f'{folder}/package')
     test_dialogs(tests)
     test_words(tests, programs)
 
