@@ -1,7 +1,7 @@
 #!/usr/bin/env python3
 """Writes the reference pages of the command lines: reference.py [--check] [--programs PATH]
 
-A page is made of the program's help and of the sessions in tests/reference, which are tests. With --check it says which page is not what
+A page is made of the program's help, and of tests/reference: sessions, which are tests, and tables of what is printed. With --check it says which page is not what
 would be written. PATH has {} where the name of a program stands; the quick builds are taken unless it is given.
 """
 import argparse
@@ -30,7 +30,7 @@ def page_of(program, path):
              f'{line.about}. {GUIDES[program]}', code([line.usage])]
     if line.commands:
         parts.append(table('Subcommand', [row for row in line.commands if row.word != 'help']))
-    parts += details_of(line, examples.get('', []))
+    parts += details_of(line, notes_of(program) + examples.get('', []))
     for each in line.subcommands:
         parts += [f'## {each.name}', f'{each.about}.', code([each.usage])]
         parts += details_of(each, examples.get(each.name.split()[1], []))
@@ -43,6 +43,12 @@ def details_of(line, examples):
     parts = [table('Word', rows)] if rows else []
     parts += [code([row[2:] for row in block]) if block[0].startswith('  ') else text(block) for block in line.after]
     return parts + examples
+
+
+def notes_of(program):
+    """What tests/reference/PROGRAM.md has besides, if there is one."""
+    path = f'{ROOT}/tests/reference/{program}.md'
+    return [open(path, encoding='utf-8').read().strip()] if os.path.exists(path) else []
 
 
 def table(head, rows):
