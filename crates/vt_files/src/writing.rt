@@ -48,8 +48,8 @@ fn is_done<E: Write>(
 /// What may be done about an error.
 fn cure_of(error: &Error) -> &'static str {
     match error.kind() {
-        ErrorKind::NotFound => "; the folder around it is wanted first",
-        ErrorKind::NotADirectory => "; a folder is wanted there",
+        ErrorKind::NotFound => "; make the folder around it first",
+        ErrorKind::NotADirectory => "; expected a folder there",
         _ => "",
     }
 }

@@ -94,7 +94,7 @@ fn cure_of<'a>(
         ),
         (StateFault::Pool, Some(start)) => (start.set.pool, "; segyolant check says why"),
         (StateFault::Replay(ReplayFault::TooLong), _) => {
-            (log, "; a log is wanted, as candump -L writes it")
+            (log, "; expected a log such as candump -L writes")
         }
         _ => (log, ""),
     }

@@ -147,44 +147,44 @@ impl fmt::Display for UsageError<'_> {
             UsageError::Size(value) => {
                 writeln!(
                     f,
-                    "error: --size {value}: a width and a height are wanted, as 480x480"
+                    "error: --size {value}: expected a width and a height, such as 480x480"
                 )
             }
             UsageError::KeySize(value) => {
                 writeln!(
                     f,
-                    "error: --key-size {value}: a width and a height are wanted, as 64x64"
+                    "error: --key-size {value}: expected a width and a height, such as 64x64"
                 )
             }
             UsageError::Mask(value) => writeln!(
                 f,
-                "error: --mask {value}: the ID of a mask is wanted, as 1000, or all"
+                "error: --mask {value}: expected the ID of a mask, such as 1000, or all"
             ),
             UsageError::AllMasks => writeln!(
                 f,
-                "error: --mask all draws a file for each mask, so a folder is wanted, as --mask all --out masks"
+                "error: --mask all draws a file for each mask, so it needs a folder, such as --mask all --out masks"
             ),
             UsageError::NoPool => writeln!(
                 f,
-                "error: a pool is wanted, as segyolant draw my.iop, or a log, as segyolant draw --state my.log"
+                "error: expected a pool, such as segyolant draw my.iop, or a log, such as segyolant draw --state my.log"
             ),
             UsageError::Owner(value) => writeln!(
                 f,
-                "error: --owner {value}: two hex digits up to FD are wanted, as 81, but not 26, the terminal's own address"
+                "error: --owner {value}: expected two hex digits up to FD, such as 81, but not 26, the terminal's own address"
             ),
             UsageError::OwnerAlone => writeln!(
                 f,
-                "error: --owner is the address at which a log finds the pool, so both are wanted, as my.iop --state my.log --owner 81"
+                "error: --owner is the address at which a log finds the pool, so both are needed, such as my.iop --state my.log --owner 81"
             ),
             UsageError::Event(value) => {
                 writeln!(
                     f,
-                    "error: {value}: an object's ID and an event's number are wanted, as 2002:24; events are 0 to 26"
+                    "error: {value}: expected an object's ID and an event's number, such as 2002:24; events are 0 to 26"
                 )
             }
             UsageError::NoSubcommand => writeln!(
                 f,
-                "error: a subcommand is wanted: check, why, needs, diff or draw; segyolant --help says what each does"
+                "error: expected a subcommand: check, why, needs, diff or draw; segyolant --help says what each does"
             ),
             UsageError::InputTwice => writeln!(
                 f,

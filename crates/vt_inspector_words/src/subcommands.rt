@@ -8,7 +8,7 @@ use vt_command_line::{CommandLine, Subcommand};
 
 /// The text of help after the subcommands.
 const AFTER_HELP: &str = "\
-Status: 0 nothing found, 1 something found, 2 not judged or not drawn (words, file, memory, or a pool that the subcommand cannot take)
+Status: 0 nothing found, 1 something found, 2 not judged or not drawn (command line, file, memory, or a pool that the subcommand cannot take)
 
   segyolant check my.iop                                every fault, and warnings
   segyolant check my.iop --names my.h --format github   the same, by names, for a workflow

@@ -126,7 +126,7 @@ impl<'a> Replay<'a> {
 pub fn tell_no_frame<F: Program, E: Write>(path: &str, files: &F, errors: &mut E) {
     let _ = writeln!(
         errors,
-        "{}: {path}: no frame could be read; a log is wanted, as candump -L writes it, and --interface names one of its interfaces",
+        "{}: {path}: no frame could be read; expected a log such as candump -L writes, and with --interface one of its interfaces",
         files.name()
     );
 }

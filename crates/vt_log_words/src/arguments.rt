@@ -39,7 +39,7 @@ pub(crate) const NAMES: Argument<'static> = Argument {
 
 pub(crate) const INTERFACE: Argument<'static> = Argument {
     name: "interface",
-    help: "Only the frames of this interface, as can0 [default: all are one bus]",
+    help: "Only the frames of this interface, such as can0 [default: all are one bus]",
     form: Form::Setting("NAME", Allowed::Any),
 };
 

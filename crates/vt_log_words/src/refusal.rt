@@ -59,23 +59,23 @@ impl fmt::Display for UsageError<'_> {
             UsageError::Words(error) => write!(f, "{error}"),
             UsageError::Own(value) => writeln!(
                 f,
-                "error: --own {value}: two hex digits up to FD are wanted, as 26, the address of the recorded terminal"
+                "error: --own {value}: expected two hex digits up to FD, such as 26, the address of the recorded terminal"
             ),
             UsageError::Owner(value) => writeln!(
                 f,
-                "error: --owner {value}: two hex digits up to FD are wanted, as 81, but not the terminal's own address"
+                "error: --owner {value}: expected two hex digits up to FD, such as 81, but not the terminal's own address"
             ),
             UsageError::Name(value) => writeln!(
                 f,
-                "error: --name {value}: 16 hex digits are wanted, as 20001D0000000001"
+                "error: --name {value}: expected 16 hex digits, such as 20001D0000000001"
             ),
             UsageError::Wait(value) => writeln!(
                 f,
-                "error: --wait {value}: milliseconds are wanted, as 1500, at most 4294967295"
+                "error: --wait {value}: expected milliseconds, such as 1500, at most 4294967295"
             ),
             UsageError::OwnerAlone => writeln!(
                 f,
-                "error: --owner is the address of the pool's working set, so both are wanted, as --pool my.iop --owner 81"
+                "error: --owner is the address of the pool's working set, so both are needed, such as --pool my.iop --owner 81"
             ),
             UsageError::BlessedInput => writeln!(
                 f,
@@ -83,7 +83,7 @@ impl fmt::Display for UsageError<'_> {
             ),
             UsageError::NoSubcommand => writeln!(
                 f,
-                "error: a subcommand is wanted: pools, operator, trace, compare, draw, stats or test; segyolant_log --help says what each does"
+                "error: expected a subcommand: pools, operator, trace, compare, draw, stats or test; segyolant_log --help says what each does"
             ),
             UsageError::InputTwice => writeln!(
                 f,

@@ -7,8 +7,8 @@ use vt_command_line::Subcommand;
 
 /// The text of help after the options of `trace`.
 const AFTER_TRACE: &str = "\
-A line for each frame and each action of the operator, in words; below it what the terminal sends, as vt_replay prints it, and the
-lines of its screen that go (-) and come (+):
+A line for each frame and each action of the operator, in words. Below it is what the terminal sends, as vt_replay prints it, and the
+lines of its screen that are removed (-) and added (+):
 
   17 2.400000 80 to 26: Hide/Show Object: Container 100 `boom`, hide
       14E68026#A064000000FFFFFF  26 to 80: Hide/Show Object: done
@@ -16,23 +16,23 @@ lines of its screen that go (-) and come (+):
 
 /// The text of help after the options of `compare`.
 const AFTER_COMPARE: &str = "\
-This terminal replays the log. What it sends and what the recorded terminal sent are compared, for each address, function and object
-in their order: an answer that differs, that did not come in time, or that only one of the two sent, is told.
+This terminal replays the log. For each address, function and object, its messages are compared with those of the recorded terminal,
+in their order. An answer that differs, that is late, or that only one of the two sent, is printed:
 
   line 368: to F2: Change Numeric Value 483: ours A8E3010000000000 error 00, recorded A8E3010200000000 error 02 at line 370
 
-Not compared are transport control and claims. What the operator did should stand in the log: segyolant_log operator writes it.
+Transport control and claims are not compared. The log should have the operator's actions: segyolant_log operator adds them.
 Status: 0 all answers are the same, 1 some are not, 2 not judged.";
 
 /// The text of help after the options of `draw`.
 const AFTER_DRAW: &str = "\
-The screen after each line of the log at which its text changed, as FOLDER/line-17.svg, and the first one, as FOLDER/line-0.svg. Each
-is named on the standard output; a screen without a mask has no picture.";
+The first screen becomes FOLDER/line-0.svg, and the screen after each line that changed its text becomes FOLDER/line-17.svg, by the
+number of the line. Each is named on the standard output. A screen without a mask has no picture.";
 
 /// The text of help after the options of `stats`.
 const AFTER_STATS: &str = "\
-Frames, bytes and load by source, transfers, packets that came again, and frames that were seen twice; then, for each working set
-with a pool, its commands, and which of its masks, objects and macros the log reached. With --format json each is a line of JSON.";
+Frames, bytes and load by source, transfers, repeated packets, and frames that were recorded twice; then, for each working set with a
+pool, its commands, and which of its masks, objects and macros the log reached. With --format json each is a line of JSON.";
 
 pub(crate) const TRACE: Subcommand<'static> = Subcommand {
     name: "trace",
@@ -43,7 +43,7 @@ pub(crate) const TRACE: Subcommand<'static> = Subcommand {
 
 pub(crate) const COMPARE: Subcommand<'static> = Subcommand {
     name: "compare",
-    about: "Prints where the terminal in a log answered otherwise than this one",
+    about: "Prints where the terminal in a log answered differently from this one",
     after_help: Some(AFTER_COMPARE),
     arguments: &[
         NAMES,
@@ -60,7 +60,7 @@ pub(crate) const COMPARE: Subcommand<'static> = Subcommand {
 
 pub(crate) const DRAW: Subcommand<'static> = Subcommand {
     name: "draw",
-    about: "Draws the screen after each line of a log at which its text changed",
+    about: "Draws the screen after each line of a log that changed it",
     after_help: Some(AFTER_DRAW),
     arguments: &[
         PICTURES_FOLDER,
@@ -75,7 +75,7 @@ pub(crate) const DRAW: Subcommand<'static> = Subcommand {
 
 pub(crate) const STATS: Subcommand<'static> = Subcommand {
     name: "stats",
-    about: "Prints what a log holds in numbers, and what it reached of each pool",
+    about: "Prints a log in numbers, and what it reached of each pool",
     after_help: Some(AFTER_STATS),
     arguments: &[
         NAMES,

@@ -8,45 +8,44 @@ use vt_command_line::{CommandLine, Subcommand};
 
 /// The text of help after the subcommands.
 const AFTER_HELP: &str = "\
-Status: 0 nothing found, 1 something found, 2 not judged (words, file or memory)
+Status: 0 nothing found, 1 something found, 2 not judged (command line, file or memory)
 
   segyolant_log pools field.log --out pools --names my.h      every uploaded pool as a file, and what is wrong with it
   segyolant_log operator field.log > replay.log               the log with what the operator did
   segyolant_log trace replay.log --names my.h                 each line in words, what the terminal answers, and what changes
-  segyolant_log compare replay.log                            where the recorded terminal answered otherwise
+  segyolant_log compare replay.log                            where the recorded terminal answered differently
   segyolant_log draw replay.log --out screens                 a picture after each line at which the screen changed
   segyolant_log stats replay.log                              what the log holds in numbers, and what it reached of each pool
   segyolant_log test suite.log                                whether each line prints what the lines #< behind it say
   segyolant_log test suite.log --bless                        writes these lines
 
-A log is as candump -L writes it. But for test, also as candump -ta writes it, and the names of interfaces may be padded. - is the
+A log is as candump -L writes it. All subcommands but test also take the form of candump -ta, and padded names of interfaces. - is the
 standard input.
 
 docs/LOGS.md has examples.";
 
 /// The text of help after the options of `pools`.
 const AFTER_POOLS: &str = "\
-A line for each upload and update, from the first piece to its end, and below a refused pool every fault, as segyolant check has them:
+A line for each upload and update, from the first piece to its end, and below a refused pool every fault, as segyolant check prints them:
 
   lines 3 to 14: pool of 80 to 26, 74 bytes in 11 pieces: accepted 7 objects -> pools/80-1.iop
   line 40: transfer of 80 to 26 broken off: 1785 bytes of parameter group E700, packet 7 is missing
 
-Packets of a transfer that came twice or were sent again do no harm. Of a log of two interfaces of one bus take one, by --interface.
+Packets that were recorded or sent twice do no harm. If a log has two interfaces of one bus, select one by --interface.
 Status: 0 all pools are accepted, 1 some are not, or a transfer or an upload did not end, 2 not judged.";
 
 /// The text of help after the options of `operator`.
 const AFTER_OPERATOR: &str = "\
-Lines of the log with ! press, ! release, ! select, ! number and ! text before the terminal's messages that tell of them. Operator
-lines that the log has already are left out. The choice of a working set cannot be seen in a log.
+The lines of the log, with ! press, ! release, ! select, ! number and ! text before the terminal's messages that report them. Operator
+lines that the log already has are left out. A log does not show which working set the operator chose.
 
   segyolant_log operator field.log --own 26 > replay.log
   vt_replay replay.log";
 
 /// The text of help after the options of `test`.
 const AFTER_TEST: &str = "\
-A line #< TEXT is an expectation: the line of the log before it has to print TEXT, in a replay as that of vt_replay. To every other
-reader of logs it is a comment. The expectations before any other line are those of the first screen. Lines are read as candump -L
-writes them.
+A line #< TEXT is an expectation: the line before it must print TEXT when vt_replay replays the log. Other readers of logs see a comment.
+Expectations at the front are those of the first screen. Lines are read as candump -L writes them.
 
   (2.400000) can0 14E72680#A0640000FFFFFFFF
   #< 14E68026#A064000000FFFFFF
@@ -57,21 +56,21 @@ Status: 0 each line prints what is expected of it, 1 some line prints something 
 pub(crate) const SEGYOLANT_LOG: CommandLine<'static> = CommandLine {
     name: "segyolant_log",
     version: "0.2.0",
-    about: "Tells what recorded logs of an ISOBUS hold: uploaded pools, what was said and shown, and what differs",
+    about: "Examines recorded logs of an ISOBUS: uploaded pools, messages in words, screens, and differences from this terminal",
     after_help: AFTER_HELP,
     subcommands: &[POOLS, OPERATOR, TRACE, COMPARE, DRAW, STATS, TEST],
 };
 
 const POOLS: Subcommand<'static> = Subcommand {
     name: "pools",
-    about: "Prints every upload and update of an object pool, and what a terminal says of it",
+    about: "Prints every upload and update of an object pool, and its verdict",
     after_help: Some(AFTER_POOLS),
     arguments: &[LOG, POOLS_FOLDER, NAMES, INTERFACE, FORMAT],
 };
 
 const OPERATOR: Subcommand<'static> = Subcommand {
     name: "operator",
-    about: "Prints a log with the operator's lines, as the recorded terminal told of them",
+    about: "Prints a log with the operator's actions, as the recorded terminal reported them",
     after_help: Some(AFTER_OPERATOR),
     arguments: &[LOG, INTERFACE, OWN],
 };

@@ -46,7 +46,7 @@ impl fmt::Display for Hint {
             Hint::Padded => {
                 write!(
                     f,
-                    "candump puts blanks before interface names of unequal lengths; README.md has a command that takes them out"
+                    "candump puts blanks before interface names of unequal lengths; docs/VT_REPLAY.md has a command that takes them out"
                 )
             }
             Hint::Unspaced => {

@@ -192,10 +192,10 @@ IsRefusalFor error Alone = ⊥
 -- The text of a refusal. The text of an error of clap is not stated.
 abbrev pub usage_text : UsageError → Option Text
 usage_text (Words error) = None
-usage_text (Address option value) = Some (codes "error: --" ++ option.now ++ codes " " ++ value.now ++ codes ": two hex digits up to FD are wanted\n")
-usage_text (Name value) = Some (codes "error: --name " ++ value.now ++ codes ": 16 hex digits are wanted\n")
+usage_text (Address option value) = Some (codes "error: --" ++ option.now ++ codes " " ++ value.now ++ codes ": expected two hex digits up to FD\n")
+usage_text (Name value) = Some (codes "error: --name " ++ value.now ++ codes ": expected 16 hex digits\n")
 usage_text (OwnerIsOwn value) =
-    Some (codes "error: --owner " ++ value.now ++ codes ": another address than the terminal's own is wanted (--own, 26 unless given)\n")
+    Some (codes "error: --owner " ++ value.now ++ codes ": expected another address than the terminal's own (--own, 26 unless given)\n")
 usage_text Alone = Some (codes "error: --pool and --owner are given together or not at all\n")
 usage_text Memory = Some (codes "vt_replay: out of memory\n")
 

@@ -77,16 +77,16 @@ impl fmt::Display for UsageError<'_> {
             UsageError::Address { option, value } => {
                 writeln!(
                     f,
-                    "error: --{option} {value}: two hex digits up to FD are wanted"
+                    "error: --{option} {value}: expected two hex digits up to FD"
                 )
             }
             UsageError::Name(value) => {
-                writeln!(f, "error: --name {value}: 16 hex digits are wanted")
+                writeln!(f, "error: --name {value}: expected 16 hex digits")
             }
             UsageError::OwnerIsOwn(value) => {
                 writeln!(
                     f,
-                    "error: --owner {value}: another address than the terminal's own is wanted (--own, 26 unless given)"
+                    "error: --owner {value}: expected another address than the terminal's own (--own, 26 unless given)"
                 )
             }
             UsageError::Alone => {
@@ -139,7 +139,7 @@ Lines of the log, beside frames and comments (#):
   ! text ID TEXT             enters a text
   ! set AA                   chooses the working set of an address
 
-Status: 0 done, 1 a fault of a file, a pool or the replay, 2 the words
+Status: 0 done, 1 a fault of a file, a pool or the replay, 2 the command line
 
   vt_replay seeder.log                               replays a log
   vt_replay my.log --pool my.iop --owner 80          the same, with a pool from the start
