@@ -14,6 +14,8 @@ use vt_log_tool::{Files, Status, run};
 fn main(rt: HostRuntime) -> io::Result<ExitCode> {
     let status = match run_words(&rt) {
         Ok(status) => status,
+        // Whoever reads the output has seen enough of it, such as head.
+        Err(error) if error.kind() == ErrorKind::BrokenPipe => Status::NotJudged,
         Err(error) => {
             let _ = writeln!(rt.stderr(), "segyolant_log: {}", Cause { error: &error });
             Status::NotJudged

@@ -10,6 +10,7 @@
 #![tactic(auto)]
 
 mod claims;
+mod forms;
 mod lines;
 mod messages;
 mod reader;

@@ -61,9 +61,10 @@ impl<'a> LogReader<'a> {
         let program = files.name();
         let faults = self.remarks.faults;
         if faults > 0 {
+            let verb = if faults == 1 { "is" } else { "are" };
             let _ = writeln!(
                 errors,
-                "{program}: {path}: {faults} of its lines are faulty; trace shows each with its fault"
+                "{program}: {path}: {faults} of its lines {verb} faulty; trace shows each with its fault"
             );
         }
         if self.remarks.has_several_interfaces {

@@ -1,6 +1,7 @@
 //! A log with all that its replay needs.
 
 use crate::claims::Recorded;
+use crate::forms::{Cure, form_of};
 use crate::lines::{LineCursor, line_ends, text_of};
 use crate::reader::LogReader;
 use crate::start::{LoadedSet, new_terminal, read_set};
@@ -71,7 +72,7 @@ impl<'a> Replay<'a> {
 
     /// Says on `errors` that there is no frame to replay.
     pub fn tell_no_frame<F: Program, E: Write>(&self, files: &F, errors: &mut E) {
-        tell_no_frame(self.path, files, errors);
+        tell_no_frame(self.path, self.text(), files, errors);
     }
 
     /// Says on `errors` how many of the lines were faulty, and whether there are several interfaces.
@@ -122,13 +123,22 @@ impl<'a> Replay<'a> {
     }
 }
 
-/// Says on `errors` that a log has no frame.
-pub fn tell_no_frame<F: Program, E: Write>(path: &str, files: &F, errors: &mut E) {
-    let _ = writeln!(
-        errors,
-        "{}: {path}: no frame could be read; expected a log such as candump -L writes, and with --interface one of its interfaces",
-        files.name()
-    );
+/// Says on `errors` that a log has no frame, and what it is if it is no log of candump.
+pub fn tell_no_frame<F: Program, E: Write>(path: &str, log: &[u8], files: &F, errors: &mut E) {
+    let name = files.name();
+    let Some(form) = form_of(log) else {
+        let _ = writeln!(
+            errors,
+            "{name}: {path}: no frame could be read; expected a log such as candump -L writes, and with --interface one of its interfaces"
+        );
+        return;
+    };
+    let _ = write!(errors, "{name}: {path}: this is {}; ", form.what);
+    let _ = match form.cure {
+        Cure::Convert => writeln!(errors, "convert it: python3 -m can.logconvert {path} my.log"),
+        Cure::Export => writeln!(errors, "export its frames as candump -L writes them"),
+        Cure::Save => writeln!(errors, "save it as ASCII or UTF-8"),
+    };
 }
 
 /// The input of a line: its frame, or the action of its operator.
