@@ -74,7 +74,7 @@ bench-hostile: build
 # Counts the instructions of the proved program for a line, a command, a drawn line, an update and others, by valgrind. OTHER may
 # name a program to compare with.
 bench-counts: build
-	@python3 scripts/instructions.py crates/vt_replay/out/vt_replay $(OTHER)
+	@python3 scripts/count_instructions.py crates/vt_replay/out/vt_replay $(OTHER)
 
 # Refuses each request for memory in turn, in the tests of each crate that are made for it and in the proved program.
 refuse-memory:

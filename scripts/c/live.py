@@ -1,4 +1,4 @@
-"""Tests of the live programs, examples/c/live.c and scripts/bridge.py, which are played against by pipes."""
+"""Tests of the live programs, examples/c/live.c and examples/bridge.py, which are played against by pipes."""
 import os
 import re
 import shlex
@@ -275,7 +275,7 @@ def test_live(tests, programs):
     replay = programs.get('replay')
     # The bridge runs the proved program where that was built, or else replay.
     child = VT_REPLAY if os.path.exists(VT_REPLAY) else replay
-    bridge = [sys.executable, f'{ROOT}/scripts/bridge.py', with_messages_apart(child, programs.folder)]
+    bridge = [sys.executable, f'{ROOT}/examples/bridge.py', with_messages_apart(child, programs.folder)]
     tests.run('live', in_time, check_live, [programs.get('live'), '--pipe'], replay, programs.folder, False)
     tests.run('live-sanitized', in_time, check_live, [programs.get('live-sanitized'), '--pipe'], replay, programs.folder, False)
     small = compiled(programs.folder, 'live-small', [*LIVE, 'arena.c'], '-O2', '-DARENA_BYTES=36864')

@@ -1,7 +1,7 @@
 #!/usr/bin/env python3
 """Counts the instructions of a program for a line, a message, a command, a drawn line, an object, an update and an action.
 
-    instructions.py PROGRAM [OTHER]
+    count_instructions.py PROGRAM [OTHER]
 
 Each input is made at two lengths. A cost is what the longer input takes more, divided by how much longer it is, so that the
 start of the program is in none. Where another program with the same command line is given, its counts stand beside, with their
@@ -118,7 +118,7 @@ def instructions(program, folder, text, pool):
     ran = subprocess.run(counting + words, stdout=subprocess.DEVNULL, stderr=subprocess.PIPE, text=True, check=False)
     found = re.search(r'Collected : (\d+)', ran.stderr)
     if ran.returncode or not found:
-        sys.exit('instructions.py: %s ended with status %d:\n%s' % (' '.join(words), ran.returncode, ran.stderr[-2000:]))
+        sys.exit('count_instructions.py: %s ended with status %d:\n%s' % (' '.join(words), ran.returncode, ran.stderr[-2000:]))
     return int(found.group(1))
 
 
@@ -128,7 +128,7 @@ def cost(program, folder, make, count):
 
 def main(programs):
     if not shutil.which('valgrind'):
-        sys.exit('instructions.py: valgrind is not installed')
+        sys.exit('count_instructions.py: valgrind is not installed')
     with tempfile.TemporaryDirectory() as folder:
         for name, make, count in COSTS:
             counts = [cost(program, folder, make, count) for program in programs]
