@@ -19,7 +19,7 @@ def parse(words: list[str] | None = None) -> argparse.Namespace:
     parser = argparse.ArgumentParser(prog='python3 -m segyolant.desk', description='A virtual terminal in a browser.', epilog=USAGE,
                                      formatter_class=argparse.RawDescriptionHelpFormatter)
     source = parser.add_mutually_exclusive_group()
-    source.add_argument('--bus', metavar='TYPE[:CHANNEL]', type=_bus, help='an interface of python-can, as socketcan:can0 or udp_multicast')
+    source.add_argument('--bus', metavar='TYPE[:CHANNEL]', type=_bus, help='an interface of python-can, such as socketcan:can0 or udp_multicast')
     source.add_argument('--log', metavar='FILE', type=_file, help='play a log of candump')
     parser.add_argument('--bitrate', type=int, help='the bits a second, for interfaces that set them')
     parser.add_argument('--pool', metavar='AA=FILE', type=_pool, action='append', default=[],
