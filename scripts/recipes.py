@@ -22,6 +22,7 @@ OTHERS = ('.log', '.pool', '.run', '.txt')
 # The words of each recipe's example, as regular expressions, and how the paths begin below which they are looked for.
 EXAMPLES = {
     'A command': {'Change(Priority|ChildPosition)|CHANGE_(PRIORITY|CHILD_POSITION)': '', '0xB0': 'bindings/'},
+    'An error bit of a command': {'PATTERN|the pattern is no Picture Graphic': 'crates/'},
     'An attribute': {'NeedleColour': ''},
     'A field of a kind': {'needle_colour|VT_METER_NEEDLE_COLOUR': ''},
     'An object kind': {'Meter|meter|VT_METER': '', 'InputNumber|InputList': 'crates/'},
@@ -30,8 +31,11 @@ EXAMPLES = {
     'A refusal to the operator': {'NotPressed|VT_NOT_PRESSED': ''},
     'A refusal of a pool': {r'MacroValue|(rule|refusal)\W+1 to 12': ''},
     'A fault of a pool': {r'NullId|1 to 5\W+(and|or) 7': ''},
+    'A timeout': {'TIMEOUT|1250000|1_250_000|1,250,000': '', 'SILENCE|3000000|3_000_000|3,000,000': 'crates/'},
     'A form of log lines': {'frame_form|data_form|put_frame': 'crates/vt_recorded/'},
+    'An option of vt_replay': {r'report_flag|in_report|options\.report|"report"|six_ids': 'crates/vt_program/'},
     'A subcommand of segyolant_log': {'Options::Compare|CompareOptions|run_compare|"compare"': 'crates/'},
+    'A column of stats': {'seen_twice|seen twice|repeated_packets|masks_never': 'crates/'},
     'A warning of the checker': {'TextTooWide': ''},
     'A subcommand of the checker': {'Options::Diff|DiffOptions|run_diff|"diff"': 'crates/', 'DrawOptions|"draw"': 'crates/vt_inspector'},
     'A call for C': {'vt_lost|TellsLost|screen::lost|vt_limits_of|vt_text_of_limits|WritesLimits|dialog::limits': ''},
