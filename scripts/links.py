@@ -27,7 +27,8 @@ def lacking_in(document):
 
 
 def main():
-    documents = [f'{TOP}/README.md', f'{TOP}/examples/README.md', *sorted(glob.glob(f'{TOP}/docs/*.md'))]
+    at_top = [f'{TOP}/{it}.md' for it in ('README', 'CONTRIBUTING', 'SECURITY', 'examples/README')]
+    documents = [*at_top, *sorted(glob.glob(f'{TOP}/docs/*.md'))]
     lacking = [it for document in documents for it in lacking_in(document)]
     print('\n'.join(lacking) or f'{len(documents)} documents: each file that they name is there')
     sys.exit(1 if lacking else 0)
