@@ -39,6 +39,7 @@ prove:
 	@python3 scripts/links.py
 	@python3 scripts/records.py
 	@python3 scripts/version.py
+	@python3 scripts/recipes.py
 	@bash scripts/examples.sh --check
 	@python3 scripts/build.py --gate
 	@python3 scripts/reference.py --check --programs '$(CURDIR)/crates/{}/out/{}'
