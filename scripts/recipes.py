@@ -43,7 +43,7 @@ EXAMPLES = {
 
 # Files that no recipe has to name, and why.
 APART = {
-    'crates/vt_terminal/proofs/*/Proof.antt': 'scripts/walks.py writes them',
+    'crates/vt_terminal/proofs/*/Proof.antt': 'scripts/export_proofs.py writes them',
     'bindings/python/build/*': 'a build leaves them',
     'bindings/rust/target/*': 'a build leaves them',
 }

@@ -1,9 +1,9 @@
 #!/usr/bin/env python3
 """Writes the proofs of the exports of vt_terminal: each lends the session behind an opaque pointer to one safe function of vt_session.
 
-walks.py            writes crates/vt_terminal/proofs/EXPORT/Proof.antt for each export; `rt tidy vt_terminal` then drops
+export_proofs.py            writes crates/vt_terminal/proofs/EXPORT/Proof.antt for each export; `rt tidy vt_terminal` then drops
                     unused imports and formats them
-walks.py --check    fails if a file differs from what it would write by more than imports and spaces
+export_proofs.py --check    fails if a file differs from what it would write by more than imports and spaces
 
 A proof is checked as every other: this script only saves the writing of the same steps for each list of arguments.
 """
@@ -490,7 +490,7 @@ def main():
         file = ROOT / export / "Proof.antt"
         if sys.argv[1:] == ["--check"]:
             if not file.is_file() or words(file.read_text(encoding="utf-8")) != words(text):
-                sys.exit(f"{file}: not what scripts/walks.py writes: run it")
+                sys.exit(f"{file}: not what scripts/export_proofs.py writes: run it")
             continue
         file.parent.mkdir(parents=True, exist_ok=True)
         file.write_text(text, encoding="utf-8")
