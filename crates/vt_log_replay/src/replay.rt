@@ -135,7 +135,10 @@ pub fn tell_no_frame<F: Program, E: Write>(path: &str, log: &[u8], files: &F, er
     };
     let _ = write!(errors, "{name}: {path}: this is {}; ", form.what);
     let _ = match form.cure {
-        Cure::Convert => writeln!(errors, "convert it: python3 -m can.logconvert {path} my.log"),
+        Cure::Convert => writeln!(
+            errors,
+            "convert it: python3 -m can.logconvert {path} my.log"
+        ),
         Cure::Export => writeln!(errors, "export its frames as candump -L writes them"),
         Cure::Save => writeln!(errors, "save it as ASCII or UTF-8"),
     };

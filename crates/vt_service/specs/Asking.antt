@@ -58,14 +58,17 @@ input_of set = option_and_then (λ s. s.input) set
 abbrev pub key_of : Option SetState → Option ℕ
 key_of set = option_and_then (λ s. option_map (λ key. key.id) s.key) set
 
--- a set: what is active in it, if it has a pool
-abbrev pub set_data : State → Set → Data
-set_data s set =
+-- a set with its NAME as it is written: what is active in it, if it has a pool
+abbrev pub set_with : State → Set → Data → Data
+set_with s set name =
     object (member (codes "address") (number_data set.address) (member (codes "input") (id_if (input_of (pool_of s set.address)))
     (member (codes "key") (id_if (key_of (pool_of s set.address))) (member (codes "mask") (id_if (mask_of (pool_of s set.address)))
-    (member (codes "name") (name_data set.name) (member (codes "pool") (boolean (is_some (pool_of s set.address)))
+    (member (codes "name") name (member (codes "pool") (boolean (is_some (pool_of s set.address)))
     (member (codes "shown") (boolean (is_at s.shown set.address))
     (member (codes "soft_key_mask") (id_if (keys_of (pool_of s set.address))) no_members))))))))
+
+abbrev pub set_data : State → Set → Data
+set_data s set = set_with s set (name_data set.name)
 
 -- the sets in the order in which they registered
 abbrev pub sets_data : State → Data

@@ -3,8 +3,10 @@
 ghost use Rattle.std.specs.Prelude.{◌≡◌, IfOk};
 ghost use Rattle.serde_json.specs.View.{view};
 ghost use Rattle.vt_service.specs.Values.{number_or_null};
-ghost use Rattle.vt_service.specs.Answers.{IsTold, answer_data, command_data, refusal_data, result_name};
+ghost use Rattle.vt_service.specs.Answers.{IsTold, answer_data, command_data, plain_refusal, refusal_data, result_name};
+ghost use Rattle.vt_service.specs.Cells.{cell_data};
 
+use crate::cells::{Cell, number_cell, object_of};
 use crate::members::Malformed;
 use serde_json::{Value, json};
 use std::alloc::{AllocError, Global};
@@ -49,15 +51,18 @@ pub(crate) fn command_answer(
 ) -> Result<Value, AllocError>
     ensures { IfOk result (λ v. view v ≡ command_data number status told) }
 {
-    json!(in alloc; {
-        "answer": (number_value(number)),
-        "deadline": (number_value(told.deadline)),
-        "look": (told.look),
-        "lost": (told.lost),
-        "redraws": (told.redraws),
-        "result": (result_name(status)),
-        "shown": (address_value(told.shown))
-    })
+    object_of(
+        alloc,
+        &[
+            ("answer", number_cell(number)),
+            ("deadline", number_cell(told.deadline)),
+            ("look", Cell::Number(told.look)),
+            ("lost", Cell::Flag(told.lost)),
+            ("redraws", Cell::Flag(told.redraws)),
+            ("result", Cell::Text(result_name(status))),
+            ("shown", address_cell(told.shown)),
+        ],
+    )
 }
 
 /// The answer to a question.
@@ -79,16 +84,31 @@ pub(crate) fn refusal(
 ) -> Result<Value, AllocError>
     ensures { IfOk result (λ v. view v ≡ refusal_data number malformed) }
 {
-    let number = number_value(number);
     match malformed {
-        Malformed::NoMemory => json!(in alloc; {"answer": number, "result": "no-memory"}),
-        Malformed::NotJson => json!(in alloc; {"answer": number, "result": "not-json"}),
-        Malformed::UnknownRequest =>
-            json!(in alloc; {"answer": number, "result": "unknown-request"}),
-        Malformed::WrongMember(member) => {
-            json!(in alloc; {"answer": number, "member": (member.name()), "result": "wrong-member"})
-        }
+        Malformed::NoMemory => plain_refusal(alloc, number, "no-memory"),
+        Malformed::NotJson => plain_refusal(alloc, number, "not-json"),
+        Malformed::UnknownRequest => plain_refusal(alloc, number, "unknown-request"),
+        Malformed::WrongMember(member) => object_of(
+            alloc,
+            &[
+                ("answer", number_cell(number)),
+                ("member", Cell::Text(member.name())),
+                ("result", Cell::Text("wrong-member")),
+            ],
+        ),
     }
+}
+
+fn plain_refusal(alloc: Global, number: Option<u64>, name: &str) -> Result<Value, AllocError>
+    ensures { IfOk result (λ v. view v ≡ plain_refusal number name.now) }
+{
+    object_of(
+        alloc,
+        &[
+            ("answer", number_cell(number)),
+            ("result", Cell::Text(name)),
+        ],
+    )
 }
 
 /// What became of a command, by its status.
@@ -106,12 +126,12 @@ fn result_name(status: u32) -> &'static str
 }
 
 /// An address, or `null`.
-fn address_value(address: Option<u8>) -> Value
-    ensures { view result ≡ number_or_null address }
+fn address_cell(address: Option<u8>) -> Cell<'static>
+    ensures { cell_data result ≡ number_or_null address }
 {
     match address {
-        Some(address) => Value::from(address),
-        None => Value::Null,
+        Some(address) => Cell::Number(u64::from(address)),
+        None => Cell::Null,
     }
 }
 

@@ -7,15 +7,16 @@ ghost use Rattle.vt_server.specs.States.{state_of};
 ghost use Rattle.vt_server.specs.shown.Screens.{IsScreenOf};
 ghost use Rattle.vt_session.specs.Readings.{elements_shown, is_at, touched_of};
 ghost use Rattle.vt_service.specs.Asking as asking;
+ghost use Rattle.vt_service.specs.Cells.{cell_data};
 ghost use Rattle.vt_service.specs.Values as values;
 
-use crate::events::id_value;
+use crate::cells::{Cell, id_cell, object_of};
 use crate::request::Question;
-use serde_json::{Value, json};
+use serde_json::Value;
 use std::alloc::{AllocError, Global};
 use vt_dialogs::{Limits, Typed};
 use vt_machine::Live;
-use vt_names::{Name, Set};
+use vt_names::Set;
 use vt_objects::{ObjectId, SortedStore};
 use vt_picture::Element;
 use vt_server::Terminal;
@@ -78,13 +79,6 @@ fn text_value(alloc: Global, text: &[u8]) -> Result<Value, AllocError>
     Ok(Value::String(String::from_utf8_lossy(alloc, text)?))
 }
 
-/// Bytes in hexadecimal.
-fn hex_value(alloc: Global, bytes: &[u8]) -> Result<Value, AllocError>
-    ensures { IfOk result (λ v. view v ≡ values.hex_data bytes.now) }
-{
-    Ok(Value::String(hex::encode_upper(alloc, bytes)?))
-}
-
 fn elements(alloc: Global, terminal: &Terminal) -> Result<Vec<Value>, AllocError>
     ensures { IfOk result (λ list. map view list.items ≡ map asking.element_data (elements_shown (state_of terminal.now))) }
 {
@@ -96,32 +90,35 @@ fn elements(alloc: Global, terminal: &Terminal) -> Result<Vec<Value>, AllocError
 }
 
 /// The index of an element, or `null`.
-fn index_value(index: Option<u16>) -> Value
-    ensures { view result ≡ values.number_or_null index }
+fn index_cell(index: Option<u16>) -> Cell<'static>
+    ensures { cell_data result ≡ values.number_or_null index }
 {
     match index {
-        Some(index) => Value::from(index),
-        None => Value::Null,
+        Some(index) => Cell::Number(u64::from(index)),
+        None => Cell::Null,
     }
 }
 
 fn element_value(alloc: Global, element: &Element) -> Result<Value, AllocError>
     ensures { IfOk result (λ v. view v ≡ asking.element_data element.now) }
 {
-    json!(in alloc; {
-        "around": (index_value(element.around)),
-        "bottom": (element.bounds.bottom),
-        "depth": (element.depth),
-        "height": (element.height),
-        "id": (element.id.raw()),
-        "kind": (element.kind),
-        "left": (element.bounds.left),
-        "right": (element.bounds.right),
-        "top": (element.bounds.top),
-        "width": (element.width),
-        "x": (element.at.x),
-        "y": (element.at.y)
-    })
+    object_of(
+        alloc,
+        &[
+            ("around", index_cell(element.around)),
+            ("bottom", Cell::Signed(i64::from(element.bounds.bottom))),
+            ("depth", Cell::Number(u64::from(element.depth))),
+            ("height", Cell::Number(u64::from(element.height))),
+            ("id", Cell::Number(u64::from(element.id.raw()))),
+            ("kind", Cell::Number(u64::from(element.kind))),
+            ("left", Cell::Signed(i64::from(element.bounds.left))),
+            ("right", Cell::Signed(i64::from(element.bounds.right))),
+            ("top", Cell::Signed(i64::from(element.bounds.top))),
+            ("width", Cell::Number(u64::from(element.width))),
+            ("x", Cell::Signed(i64::from(element.at.x))),
+            ("y", Cell::Signed(i64::from(element.at.y))),
+        ],
+    )
 }
 
 /// The record of an object as it is now, and the text that it shows; both are empty without such an object.
@@ -137,9 +134,12 @@ fn object_value(
     reading::write_record(terminal, u32::from(address), u32::from(object), &mut record)?;
     let mut text = Vec::new(alloc);
     dialog::write_value(terminal, u32::from(address), u32::from(object), &mut text)?;
-    let record = hex_value(alloc, &record)?;
-    let text = hex_value(alloc, &text)?;
-    json!(in alloc; {"record": record, "text": text})
+    let record = hex::encode_upper(alloc, &record)?;
+    let text = hex::encode_upper(alloc, &text)?;
+    object_of(
+        alloc,
+        &[("record", Cell::Text(&record)), ("text", Cell::Text(&text))],
+    )
 }
 
 fn sets(alloc: Global, terminal: &Terminal) -> Result<Vec<Value>, AllocError>
@@ -158,29 +158,39 @@ fn sets(alloc: Global, terminal: &Terminal) -> Result<Vec<Value>, AllocError>
 fn set_value(alloc: Global, terminal: &Terminal, set: &Set) -> Result<Value, AllocError>
     ensures { IfOk result (λ v. view v ≡ asking.set_data (state_of terminal.now) set.now) }
 {
-    let address = set.address();
-    let name = name_value(alloc, set.name())?;
-    let active = active_values(terminal.set(address));
-    json!(in alloc; {
-        "address": address,
-        "input": (active.input),
-        "key": (active.key),
-        "mask": (active.mask),
-        "name": name,
-        "pool": (terminal.set(address).is_some()),
-        "shown": (is_shown(terminal, address)),
-        "soft_key_mask": (active.soft_key_mask)
-    })
+    match set.name() {
+        Some(name) => {
+            let digits = hex::encode_upper(alloc, &name.raw().to_be_bytes())?;
+            set_with(alloc, terminal, set, Cell::Text(&digits))
+        }
+        None => set_with(alloc, terminal, set, Cell::Null),
+    }
 }
 
-/// A NAME in 16 digits, or `null`.
-fn name_value(alloc: Global, name: Option<Name>) -> Result<Value, AllocError>
-    ensures { IfOk result (λ v. view v ≡ asking.name_data name) }
+/// The same with its NAME as it is to be written.
+fn set_with(
+    alloc: Global,
+    terminal: &Terminal,
+    set: &Set,
+    name: Cell<'_>,
+) -> Result<Value, AllocError>
+    ensures { IfOk result (λ v. view v ≡ asking.set_with (state_of terminal.now) set.now (cell_data name.entry)) }
 {
-    match name {
-        Some(name) => hex_value(alloc, &name.raw().to_be_bytes()),
-        None => Ok(Value::Null),
-    }
+    let address = set.address();
+    let active = active_cells(terminal.set(address));
+    object_of(
+        alloc,
+        &[
+            ("address", Cell::Number(u64::from(address))),
+            ("input", active.input),
+            ("key", active.key),
+            ("mask", active.mask),
+            ("name", name),
+            ("pool", Cell::Flag(terminal.set(address).is_some())),
+            ("shown", Cell::Flag(is_shown(terminal, address))),
+            ("soft_key_mask", active.soft_key_mask),
+        ],
+    )
 }
 
 fn is_shown(terminal: &Terminal, address: u8) -> bool
@@ -190,62 +200,65 @@ fn is_shown(terminal: &Terminal, address: u8) -> bool
 }
 
 /// What is active in a set, each `null` where there is none.
-#[derive(Drop)]
+#[derive(Clone, Copy)]
 struct Active {
-    mask: Value,
-    soft_key_mask: Value,
-    input: Value,
-    key: Value,
+    mask: Cell<'static>,
+    soft_key_mask: Cell<'static>,
+    input: Cell<'static>,
+    key: Cell<'static>,
 }
 
 /// What is active in a set, if it has a pool.
-fn active_values(live: Option<&Live<SortedStore>>) -> Active
-    ensures mask { view result.mask ≡ asking.id_if (asking.mask_of (option_map (λ l. l.now) live.entry)) }
-    ensures keys { view result.soft_key_mask ≡ asking.id_if (asking.keys_of (option_map (λ l. l.now) live.entry)) }
-    ensures input { view result.input ≡ asking.id_if (asking.input_of (option_map (λ l. l.now) live.entry)) }
-    ensures key { view result.key ≡ asking.id_if (asking.key_of (option_map (λ l. l.now) live.entry)) }
+fn active_cells(live: Option<&Live<SortedStore>>) -> Active
+    ensures mask { cell_data result.mask ≡ asking.id_if (asking.mask_of (option_map (λ l. l.now) live.entry)) }
+    ensures keys { cell_data result.soft_key_mask ≡ asking.id_if (asking.keys_of (option_map (λ l. l.now) live.entry)) }
+    ensures input { cell_data result.input ≡ asking.id_if (asking.input_of (option_map (λ l. l.now) live.entry)) }
+    ensures key { cell_data result.key ≡ asking.id_if (asking.key_of (option_map (λ l. l.now) live.entry)) }
 {
     let Some(live) = live else {
         return Active {
-            mask: Value::Null,
-            soft_key_mask: Value::Null,
-            input: Value::Null,
-            key: Value::Null,
+            mask: Cell::Null,
+            soft_key_mask: Cell::Null,
+            input: Cell::Null,
+            key: Cell::Null,
         };
     };
     Active {
-        mask: id_value(live.active_mask()),
-        soft_key_mask: id_value(live.soft_key_mask()),
+        mask: id_cell(live.active_mask()),
+        soft_key_mask: id_cell(live.soft_key_mask()),
         input: id_if(live.selected_input()),
         key: id_if(live.held_key()),
     }
 }
 
 /// The ID of something that may not be there, or `null`.
-fn id_if(id: Option<ObjectId>) -> Value
-    ensures { view result ≡ asking.id_if id }
+fn id_if(id: Option<ObjectId>) -> Cell<'static>
+    ensures { cell_data result ≡ asking.id_if id }
 {
     match id {
-        Some(id) => id_value(id),
-        None => Value::Null,
+        Some(id) => id_cell(id),
+        None => Cell::Null,
     }
 }
 
 fn limits_value(alloc: Global, limits: Limits) -> Result<Value, AllocError>
     ensures { IfOk result (λ v. view v ≡ asking.limits_data limits) }
 {
-    json!(in alloc; {
-        "decimals": (limits.decimals),
-        "enabled": (limits.enabled),
-        "items": (limits.items),
-        "kind": (limits.kind),
-        "length": (limits.length),
-        "maximum": (limits.greatest),
-        "minimum": (limits.least),
-        "offset": (limits.offset),
-        "places": (limits.places),
-        "value": (limits.value)
-    })
+    object_of(
+        alloc,
+        &[
+            ("decimals", Cell::Number(u64::from(limits.decimals))),
+            ("enabled", Cell::Flag(limits.enabled)),
+            ("items", Cell::Number(u64::from(limits.items))),
+            ("kind", Cell::Number(u64::from(limits.kind))),
+            ("length", Cell::Number(u64::from(limits.length))),
+            ("maximum", Cell::Number(u64::from(limits.greatest))),
+            ("minimum", Cell::Number(u64::from(limits.least))),
+            ("offset", Cell::Signed(i64::from(limits.offset))),
+            ("places", Cell::Number(u64::from(limits.places))),
+            ("value", Cell::Number(u64::from(limits.value))),
+        ],
+    )
 }
 
 fn raw_value(terminal: &Terminal, address: u8, object: u16, typed: Typed) -> Value
@@ -261,5 +274,10 @@ fn touch(alloc: Global, terminal: &Terminal, x: u32, y: u32) -> Result<Value, Al
     ensures { IfOk result (λ v. view v ≡ values.id_data (touched_of (elements_shown (state_of terminal.now)) x y)) }
 {
     let elements = reading::elements_of(alloc, terminal)?;
-    Ok(id_value(reading::touched_in(&elements, x, y)))
+    let id = reading::touched_in(&elements, x, y);
+    Ok(if id.is_null() {
+        Value::Null
+    } else {
+        Value::from(id.raw())
+    })
 }

@@ -2,15 +2,15 @@
 
 ghost use Rattle.std.specs.Prelude.{◌≡◌, IfOk};
 ghost use Rattle.serde_json.specs.View.{view};
+ghost use Rattle.vt_service.specs.Cells.{cell_data};
 ghost use Rattle.vt_service.specs.Events as json_of;
-ghost use Rattle.vt_service.specs.Values.{id_data};
 
-use serde_json::{Value, json};
+use crate::cells::{Cell, id_cell, object_of};
+use serde_json::Value;
 use std::alloc::{AllocError, Global};
 use vt_can::assigned::NULL_ADDRESS;
 use vt_host_events::{Alarm, HostEvent};
 use vt_machine::Signal;
-use vt_objects::ObjectId;
 use vt_pool::PoolFault;
 use vt_server::{BrokenRule, Progress, ShownMasks};
 
@@ -33,9 +33,7 @@ pub(crate) fn event_value(alloc: Global, event: HostEvent) -> Result<Value, Allo
         HostEvent::Alarm(alarm) => alarm_value(alloc, alarm),
         HostEvent::AlarmOver { address } => plain(alloc, "alarm-over", address),
         HostEvent::Signal { address, signal } => signal_value(alloc, address, signal),
-        HostEvent::Volume { address, percent } => {
-            json!(in alloc; {"address": address, "event": "volume", "percent": percent})
-        }
+        HostEvent::Volume { address, percent } => volume(alloc, address, percent),
         HostEvent::AddressLost { address } => plain(alloc, "address-lost", address),
     }
 }
@@ -44,85 +42,124 @@ pub(crate) fn event_value(alloc: Global, event: HostEvent) -> Result<Value, Allo
 fn plain(alloc: Global, name: &str, address: u8) -> Result<Value, AllocError>
     ensures { IfOk result (λ v. view v ≡ json_of.plain name.now address) }
 {
-    json!(in alloc; {"address": address, "event": name})
+    object_of(
+        alloc,
+        &[
+            ("address", Cell::Number(u64::from(address))),
+            ("event", Cell::Text(name)),
+        ],
+    )
 }
 
 fn faulty(alloc: Global, address: u8, fault: PoolFault) -> Result<Value, AllocError>
     ensures { IfOk result (λ v. view v ≡ json_of.faulty address fault) }
 {
     let text = format!(in alloc; "{fault}")?;
-    json!(in alloc; {"address": address, "event": "pool-faulty", "fault": text})
+    object_of(
+        alloc,
+        &[
+            ("address", Cell::Number(u64::from(address))),
+            ("event", Cell::Text("pool-faulty")),
+            ("fault", Cell::Text(&text)),
+        ],
+    )
 }
 
 fn refused(alloc: Global, address: u8, rule: BrokenRule) -> Result<Value, AllocError>
     ensures { IfOk result (λ v. view v ≡ json_of.refused address rule) }
 {
-    let object = id_value(rule.object);
-    let other = id_value(rule.other);
-    json!(in alloc; {
-        "address": address,
-        "event": "pool-refused",
-        "object": object,
-        "offset": (rule.at as u64),
-        "other": other,
-        "rule": (rule.rule)
-    })
+    object_of(
+        alloc,
+        &[
+            ("address", Cell::Number(u64::from(address))),
+            ("event", Cell::Text("pool-refused")),
+            ("object", id_cell(rule.object)),
+            ("offset", Cell::Number(rule.at as u64)),
+            ("other", id_cell(rule.other)),
+            ("rule", Cell::Number(u64::from(rule.rule))),
+        ],
+    )
 }
 
 fn uploaded(alloc: Global, address: u8, progress: Progress) -> Result<Value, AllocError>
     ensures { IfOk result (λ v. view v ≡ json_of.uploaded address progress) }
 {
-    let came = progress.came as u64;
-    let announced = progress.announced as u64;
-    json!(in alloc; {"address": address, "announced": announced, "event": "uploaded", "received": came})
+    object_of(
+        alloc,
+        &[
+            ("address", Cell::Number(u64::from(address))),
+            ("announced", Cell::Number(progress.announced as u64)),
+            ("event", Cell::Text("uploaded")),
+            ("received", Cell::Number(progress.came as u64)),
+        ],
+    )
 }
 
 fn shown(alloc: Global, display: ShownMasks) -> Result<Value, AllocError>
     ensures { IfOk result (λ v. view v ≡ json_of.shown display) }
 {
-    let address = if display.address == NULL_ADDRESS {
-        Value::Null
+    object_of(
+        alloc,
+        &[
+            ("address", address_cell(display.address)),
+            ("event", Cell::Text("shown")),
+            ("mask", id_cell(display.mask)),
+            ("soft_key_mask", id_cell(display.soft_keys)),
+        ],
+    )
+}
+
+/// An address, or `null` for that of no node.
+fn address_cell(address: u8) -> Cell<'static>
+    ensures { cell_data result ≡ json_of.address_data address }
+{
+    if address == NULL_ADDRESS {
+        Cell::Null
     } else {
-        Value::from(display.address)
-    };
-    let mask = id_value(display.mask);
-    let keys = id_value(display.soft_keys);
-    json!(in alloc; {"address": address, "event": "shown", "mask": mask, "soft_key_mask": keys})
+        Cell::Number(u64::from(address))
+    }
 }
 
 fn alarm_value(alloc: Global, alarm: Alarm) -> Result<Value, AllocError>
     ensures { IfOk result (λ v. view v ≡ json_of.alarm alarm) }
 {
-    let mask = alarm.mask.raw();
-    json!(in alloc; {
-        "address": (alarm.address),
-        "event": "alarm",
-        "mask": mask,
-        "priority": (alarm.priority),
-        "signal": (alarm.acoustic)
-    })
+    object_of(
+        alloc,
+        &[
+            ("address", Cell::Number(u64::from(alarm.address))),
+            ("event", Cell::Text("alarm")),
+            ("mask", Cell::Number(u64::from(alarm.mask.raw()))),
+            ("priority", Cell::Number(u64::from(alarm.priority))),
+            ("signal", Cell::Number(u64::from(alarm.acoustic))),
+        ],
+    )
 }
 
 fn signal_value(alloc: Global, address: u8, signal: Signal) -> Result<Value, AllocError>
     ensures { IfOk result (λ v. view v ≡ json_of.signal address signal) }
 {
-    json!(in alloc; {
-        "address": address,
-        "event": "signal",
-        "frequency": (signal.frequency),
-        "off": (signal.off),
-        "on": (signal.on),
-        "times": (signal.activations)
-    })
+    object_of(
+        alloc,
+        &[
+            ("address", Cell::Number(u64::from(address))),
+            ("event", Cell::Text("signal")),
+            ("frequency", Cell::Number(u64::from(signal.frequency))),
+            ("off", Cell::Number(u64::from(signal.off))),
+            ("on", Cell::Number(u64::from(signal.on))),
+            ("times", Cell::Number(u64::from(signal.activations))),
+        ],
+    )
 }
 
-/// The ID of an object, or `null` for NULL.
-pub(crate) fn id_value(id: ObjectId) -> Value
-    ensures { view result ≡ id_data id }
+fn volume(alloc: Global, address: u8, percent: u8) -> Result<Value, AllocError>
+    ensures { IfOk result (λ v. view v ≡ json_of.volume address percent) }
 {
-    if id.is_null() {
-        Value::Null
-    } else {
-        Value::from(id.raw())
-    }
+    object_of(
+        alloc,
+        &[
+            ("address", Cell::Number(u64::from(address))),
+            ("event", Cell::Text("volume")),
+            ("percent", Cell::Number(u64::from(percent))),
+        ],
+    )
 }

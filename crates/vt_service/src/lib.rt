@@ -6,6 +6,7 @@
 
 mod answers;
 mod asking;
+mod cells;
 mod commands;
 mod events;
 mod members;

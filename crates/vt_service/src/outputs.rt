@@ -8,9 +8,10 @@ ghost use Rattle.vt_session.specs.Outputs.{Sent};
 ghost use Rattle.vt_session.specs.Sessions.{Stays, waiting};
 ghost use Rattle.vt_service.specs.Lines.{item_data, lines_data};
 
+use crate::cells::{Cell, object_of};
 use crate::events::event_value;
 use crate::service::push_line;
-use serde_json::{Value, json};
+use serde_json::Value;
 use std::alloc::{AllocError, Global};
 use vt_can::{Frame, write_frame};
 use vt_logs::refusal_name;
@@ -57,12 +58,11 @@ fn frame_json(alloc: Global, frame: &Frame) -> Result<Value, AllocError>
     ensures { IfOk result (λ v. view v ≡ item_data (Sent (outputs.Frame frame.now))) }
 {
     let text = String::from_utf8_lossy(alloc, write_frame(frame).as_slice())?;
-    json!(in alloc; {"send": text})
+    object_of(alloc, &[("send", Cell::Text(&text))])
 }
 
 fn refusal_json(alloc: Global, fault: OperatorFault) -> Result<Value, AllocError>
     ensures { IfOk result (λ v. view v ≡ item_data (Sent (outputs.Refused fault))) }
 {
-    let name = refusal_name(fault);
-    json!(in alloc; {"refused": name})
+    object_of(alloc, &[("refused", Cell::Text(refusal_name(fault)))])
 }

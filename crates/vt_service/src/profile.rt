@@ -18,7 +18,11 @@ pub(crate) fn profile_in(request: &Value) -> Result<Profile, Malformed>
     let soft_key_width = byte_or(request, Member::SoftKeyWidth, standard.soft_key_width)?;
     let soft_key_height = byte_or(request, Member::SoftKeyHeight, standard.soft_key_height)?;
     let virtual_soft_keys = byte_or(request, Member::VirtualSoftKeys, standard.virtual_soft_keys)?;
-    let physical_soft_keys = byte_or(request, Member::PhysicalSoftKeys, standard.physical_soft_keys)?;
+    let physical_soft_keys = byte_or(
+        request,
+        Member::PhysicalSoftKeys,
+        standard.physical_soft_keys,
+    )?;
     let small_fonts = byte_or(request, Member::SmallFonts, standard.small_fonts)?;
     let large_fonts = byte_or(request, Member::LargeFonts, standard.large_fonts)?;
     let font_styles = byte_or(request, Member::FontStyles, standard.font_styles)?;
