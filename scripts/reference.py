@@ -56,7 +56,7 @@ def table(head, rows):
 
 
 def escaped(meaning):
-    for sign in ('\\', '|', '<', '[', '*', '_'):
+    for sign in ('\\', '|', '<', '[', '*'):
         meaning = meaning.replace(sign, '\\' + sign)
     return meaning
 
