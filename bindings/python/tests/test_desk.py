@@ -276,7 +276,7 @@ class ADesk(WithDesk):
                 await asyncio.sleep(0.2)
 
         # (the set is alive by what it says, however long the terminal takes to hear it)
-        wire.say(*[(0x18FF0090 + k % 8, f'{k:016X}') for k in range(600)])
+        wire.say(*[(0x18FF0090 + k % 8, f'{k:016X}') for k in range(600 if is_quick() else 20_000)])
         for task in (asyncio.ensure_future(count()), asyncio.ensure_future(live())):
             self.addCleanup(task.cancel)
         await self.until(lambda: not desk._waiting, 60)

@@ -42,7 +42,7 @@ class Extras(WithHost):
         for identifier in (0x18EA2680, 0x18EAFF80):
             self.assertEqual(self.run_frame(host, (identifier, bytes.fromhex('0FFE00'))), [said])
         self.assertEqual(self.run_frame(host, (0x18EA2780, bytes.fromhex('0FFE00'))), [])
-        with self.assertRaisesRegex(ValueError, "code is 'deu': two letters"):
+        with self.assertRaisesRegex(ValueError, "code is 'deu': expected two letters"):
             Language('deu')
 
     def test_repeats(self) -> None:
