@@ -22,6 +22,8 @@ segyolant check $examples/sprayer.iop
 segyolant draw $examples/sprayer.iop > "$2/drawn.svg"
 segyolant_log pools $examples/seeder.log
 echo '{"do":"screen"}' | vt_live
+bash -c '. share/bash-completion/completions/segyolant; COMP_WORDS=(segyolant check --fo) COMP_CWORD=2; _segyolant; echo "${COMPREPLY[0]}"'
+test ! -x "$(command -v groff)" || groff -man -Tutf8 -ww share/man/man1/*.1 2>&1 > "$2/manuals"
 for name in segyolant segyolant-static; do
     heap=$([ $name = segyolant ] || echo $examples/c/heap.c)
     gcc -std=c11 -o "$2/uses" "$2/uses.c" $heap $(pkg-config --cflags --libs $name)
@@ -34,8 +36,8 @@ cmake --build "$2/build" >> "$2/cmake.txt"
 '''
 
 # Lines of its output, in their order.
-PRINTED = ['screen 80 mask 1000', '14E68026#A064000000FFFFFF', 'sprayer.iop: 0 errors', 'accepted 7 objects', '"value":"screen none', 'linked', 'linked',
-           'linked', 'linked']
+PRINTED = ['screen 80 mask 1000', '14E68026#A064000000FFFFFF', 'sprayer.iop: 0 errors', 'accepted 7 objects', '"value":"screen none', '--format', 'linked',
+           'linked', 'linked', 'linked']
 
 
 def unpacked(folder):
@@ -48,7 +50,7 @@ def unpacked(folder):
 
 
 def check_package(folder):
-    for tool in ('gcc', 'pkg-config', 'cmake', 'unshare'):
+    for tool in ('bash', 'gcc', 'pkg-config', 'cmake', 'unshare'):
         need(tool)
     if not os.path.exists(f'{ROOT}/crates/vt_live/out/vt_live'):
         pass_over('make build has not made the programs here')
