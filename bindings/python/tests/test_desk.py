@@ -4,6 +4,7 @@ from __future__ import annotations
 import asyncio
 import importlib.util
 import json
+import socket
 import sys
 import tempfile
 import time
@@ -540,7 +541,7 @@ class TheServer(WithDesk):
         await server.start()
         self.addAsyncCleanup(server.close)
         url = f'http://127.0.0.1:{server.port}/'
-        self.assertIn('?token=', server.url)
+        self.assertEqual(server.url, f'http://{socket.gethostname()}:{server.port}/?token={server.token}')
         for query, status in (('', 403), ('?token=wrong', 403), (f'?token={server.token}', 200)):
             async with self.client.get(url + query) as answer:
                 self.assertEqual(answer.status, status)

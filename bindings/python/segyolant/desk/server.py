@@ -6,6 +6,7 @@ import errno
 import hmac
 import ipaddress
 import secrets
+import socket
 from pathlib import Path
 
 from aiohttp import WSCloseCode, WSMsgType, web
@@ -17,6 +18,7 @@ from .desk import Desk
 STATIC = Path(__file__).resolve().parent / 'static'
 FILES = {'/desk.css': ('desk.css', 'text/css'), '/desk.js': ('desk.js', 'text/javascript')}
 MOST_MESSAGE = 4096  # bytes of a message of a page
+ANY = ('0.0.0.0', '::')  # all addresses of this machine
 MOST_WRONG = 20  # messages of a page that are none, before it is closed
 HEADERS = {
     'Content-Security-Policy': "default-src 'none'; script-src 'self'; style-src 'self'; img-src blob: data:; connect-src 'self'; "
@@ -40,8 +42,9 @@ class Server:
 
     @property
     def url(self) -> str:
-        """Where the page is. Beyond loopback it has the token."""
-        host = f'[{self.host}]' if ':' in self.host else self.host
+        """Where the page is. Beyond loopback it has the token. For all addresses of this machine it has its name."""
+        name = socket.gethostname() if self.host in ANY else self.host
+        host = f'[{name}]' if ':' in name else name
         return f'http://{host}:{self.port}/' + ('' if self.is_loopback else f'?token={self.token}')
 
     async def start(self) -> None:
@@ -60,8 +63,8 @@ class Server:
 
     async def close(self) -> None:
         """Closes all pages and the port."""
-        for socket in list(self._sockets):
-            await socket.close(code=WSCloseCode.GOING_AWAY, message=b'the desk has ended')
+        for each in list(self._sockets):
+            await each.close(code=WSCloseCode.GOING_AWAY, message=b'the desk has ended')
         if self._runner is not None:
             await self._runner.cleanup()
 
@@ -93,31 +96,31 @@ class Server:
     async def _socket(self, request: web.Request) -> web.WebSocketResponse:
         if request.headers.get('Origin') != f'http://{request.host}' or not self._knows_token(request):
             raise web.HTTPForbidden(text='another origin, or another token\n')
-        socket = web.WebSocketResponse(max_msg_size=MOST_MESSAGE, heartbeat=20, compress=False)
-        await socket.prepare(request)
-        self._sockets.add(socket)
+        talk = web.WebSocketResponse(max_msg_size=MOST_MESSAGE, heartbeat=20, compress=False)
+        await talk.prepare(request)
+        self._sockets.add(talk)
         page = Page()
         self.desk.audience.add(page)
         self.desk.painter.paint_soon()
-        sender = asyncio.ensure_future(self._send(socket, page))
+        sender = asyncio.ensure_future(self._send(talk, page))
         try:
-            await self._receive(socket, page)
+            await self._receive(talk, page)
         finally:
             sender.cancel()
-            self._sockets.discard(socket)
+            self._sockets.discard(talk)
             self.desk.leave(page)
-        return socket
+        return talk
 
-    async def _send(self, socket: web.WebSocketResponse, page: Page) -> None:
+    async def _send(self, talk: web.WebSocketResponse, page: Page) -> None:
         try:
-            await page.run(socket.send_str)
+            await page.run(talk.send_str)
         except (asyncio.TimeoutError, ConnectionError, RuntimeError):
             self.desk.leave(page)
-            await socket.close()
+            await talk.close()
 
-    async def _receive(self, socket: web.WebSocketResponse, page: Page) -> None:
+    async def _receive(self, talk: web.WebSocketResponse, page: Page) -> None:
         wrong = 0
-        async for message in socket:
+        async for message in talk:
             if message.type != WSMsgType.TEXT:
                 break
             try:
@@ -126,7 +129,7 @@ class Server:
                 wrong += 1
                 self.desk.note(str(error), 'bad', page)
                 if wrong == MOST_WRONG:
-                    await socket.close(code=WSCloseCode.POLICY_VIOLATION)
+                    await talk.close(code=WSCloseCode.POLICY_VIOLATION)
                     break
 
 
