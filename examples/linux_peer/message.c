@@ -2,7 +2,7 @@
 
        message FILE INTERFACE FROM TO PGN
 
-   The numbers are hexadecimal. j1939cat of can-utils does the same, but some versions end at the first notice of a 64-bit kernel. */
+   The numbers are hexadecimal. j1939cat does the same, but that of can-utils 2020.11 ends with an error at the first notice of Linux 6.1. */
 #define _GNU_SOURCE
 #include <errno.h>
 #include <net/if.h>
