@@ -99,7 +99,7 @@ install: build
 	@python3 scripts/static_libs.py
 	@python3 scripts/dist.py --prefix $(or $(PREFIX),/usr/local) --root "$(DESTDIR)"
 
-# Packs the same into dist/segyolant-VERSION-x86_64-linux.tar.gz. QUICK=1 packs quick builds of the programs alone, in some two minutes.
+# Packs the same into dist/segyolant-VERSION-x86_64-linux.tar.gz. QUICK=1 packs quick builds of the programs alone.
 dist: $(if $(QUICK),quick,build)
 	@$(if $(QUICK),,python3 scripts/static_libs.py)
 	@python3 scripts/dist.py $(if $(QUICK),--quick)

@@ -23,6 +23,10 @@ class Row:
     def takes_value(self):
         return '<' in self.word
 
+    def takes_file(self):
+        """Whether its value is a path."""
+        return bool(re.search(r'<(FILE|PATH|FOLDER|LOG)>', self.word))
+
     def values(self):
         """The possible values of an option, if they are listed."""
         found = re.search(r'\[possible values: ([^\]]*)\]', self.meaning)

@@ -44,7 +44,7 @@ def has_program():
 
 
 def make_program():
-    """Makes the quick build, if there is no other program. It takes some two minutes, and nothing if it is there and up to date."""
+    """Makes the quick build, if there is no other program. It takes some minutes, and nothing if it is there and up to date."""
     if not has_program():
         subprocess.run([sys.executable, f'{ROOT}/scripts/quick.py', 'vt_live'], check=True)
 

@@ -13,6 +13,7 @@ import gzip
 import hashlib
 import os
 import shutil
+import subprocess
 import sys
 import tarfile
 import tempfile
@@ -42,6 +43,9 @@ def put_programs(at, programs):
         path = programs.replace('{}', name)
         if not os.path.exists(path):
             sys.exit(f'{path} is not there: make build proves the programs, and make quick builds them without a proof')
+        said = subprocess.run([path, '--version'], check=True, capture_output=True, text=True).stdout.split()
+        if said != [name, version()]:
+            sys.exit(f'{path} says {" ".join(said)}, and VERSION is {version()}: build it anew')
         shared_lib.copy(path, f'{at}/bin')
         line = command_lines.of_program(path, name)
         for file, text in manuals.man_pages(line, version()).items():
@@ -60,6 +64,13 @@ def put_documents(at):
         shutil.copytree(f'{ROOT}/{name}', f'{folder}/{name}', dirs_exist_ok=True, ignore=shutil.ignore_patterns('__pycache__', 'out'))
 
 
+def put_readme(at, libraries):
+    """What to do with what was unpacked."""
+    with open(f'{ROOT}/packaging/README.md.in', encoding='utf-8') as file, open(f'{ROOT}/packaging/libraries.md.in', encoding='utf-8') as more:
+        text = file.read().replace('@LIBRARIES@\n', more.read() if libraries else '')
+    write(f'{at}/README.md', text.replace('@VERSION@', version() + ('' if libraries else ', quick builds, not proved,')))
+
+
 def install(prefix, root, programs, libraries):
     """Installs all below root + prefix. What finds the libraries names the prefix, or where it lies itself if there is none."""
     at = root + prefix
@@ -76,6 +87,7 @@ def pack(quick):
     with tempfile.TemporaryDirectory() as room:
         at = f'{room}/{name}'
         install('', at, f'{QUICK}/{{}}' if quick else f'{ROOT}/crates/{{}}/out/{{}}', not quick)
+        put_readme(at, not quick)
         write(f'{at}/SHA256SUMS', sums_of(at))
         os.makedirs(f'{ROOT}/dist', exist_ok=True)
         with open(path, 'wb') as file, gzip.GzipFile('', 'wb', fileobj=file, mtime=0) as packed:

@@ -10,9 +10,9 @@ def man_page(line, version):
         parts.append('.SH COMMANDS')
         for each in line.subcommands:
             parts += ['.TP', f'.BR {plain(each.name.replace(" ", "-"))} (1)', plain(each.about)]
-    rows = line.arguments + line.options
-    if rows:
-        parts.append('.SH WORDS')
+    for head, rows in (('ARGUMENTS', line.arguments), ('OPTIONS', line.options)):
+        if rows:
+            parts.append(f'.SH {head}')
         for row in rows:
             parts += ['.TP', f'.B {plain(row.word)}', plain(row.meaning)]
     if line.after:
@@ -20,6 +20,7 @@ def man_page(line, version):
         for block in line.after:
             is_code = block[0].startswith(' ')
             parts += ['.PP', *(['.nf'] if is_code else []), *map(plain, block), *(['.fi'] if is_code else [])]
+    parts += ['.SH SEE ALSO', 'The documents below share/doc/segyolant.']
     return '\n'.join(parts) + '\n'
 
 
@@ -35,28 +36,36 @@ def man_pages(line, version):
 
 
 def options_of(line):
-    return [name for row in line.options for name in row.names()]
+    """The options of a command line, those of its usage where its help has no list of them."""
+    return [name for row in line.options for name in row.names()] or re.findall(r'--[a-z-]+', line.usage)
 
 
-def values_of(line):
-    """The possible values of the options that have a list of them, by the option."""
-    return {name: row.values() for row in line.options for name in row.names() if row.values()}
+def rows_with_values(line):
+    """The options that take a value, of a program and of its subcommands, each once."""
+    rows = {name: row for each in [line, *line.subcommands] for row in each.options if row.takes_value() for name in row.names()}
+    return sorted(rows.items())
 
 
 def bash(line):
-    """A completion for bash: subcommands, options, listed values, and else files."""
+    """A completion for bash: subcommands, options where a word begins with -, listed values, and files."""
     name = line.name
+    values = []
+    for option, row in rows_with_values(line):
+        words = ' '.join(row.values())
+        other = 'return' if row.takes_file() else 'compopt +o default; return'
+        values.append(f'        {option}) ' + (f'COMPREPLY=($(compgen -W "{words}" -- "$word")); return ;;' if words else f'{other} ;;'))
+    names = [row.word for row in line.commands]
     cases = [f'        {each.name.split()[1]}) words="{" ".join(options_of(each))}" ;;' for each in line.subcommands]
-    values = {option: given for each in [line, *line.subcommands] for option, given in values_of(each).items()}
-    listed = [f'        {option}) words="{" ".join(given)}" ;;' for option, given in sorted(values.items())]
-    first = ' '.join([row.word for row in line.commands] + options_of(line))
     return '\n'.join([
         f'_{name}() {{',
-        '    local word="${COMP_WORDS[COMP_CWORD]}" words=""',
-        *(['    case "${COMP_WORDS[1]}" in', *cases, '    esac'] if cases else []),
-        f'    [ "$COMP_CWORD" -gt 1 ] || words="{first}"',
-        *(['    case "${COMP_WORDS[COMP_CWORD-1]}" in', *listed, '    esac'] if listed else []),
-        '    COMPREPLY=($(compgen -W "$words" -- "$word"))',
+        f'    local word="${{COMP_WORDS[COMP_CWORD]}}" words="{" ".join(options_of(line))}"',
+        '    COMPREPLY=()',
+        *(['    case "${COMP_WORDS[COMP_CWORD-1]}" in', *values, '    esac'] if values else []),
+        *([f'    if [ "$COMP_CWORD" -eq 1 ]; then words="$words {" ".join(names)}"; fi', '    if [ "$COMP_CWORD" -gt 1 ]; then case "${COMP_WORDS[1]}" in',
+           *cases, f'        help) words="{" ".join(names)}" ;;', '    esac; fi',
+           '    if [[ $word == -* || $COMP_CWORD -eq 1 || ${COMP_WORDS[1]} == help ]]; then'] if names else ['    if [[ $word == -* ]]; then']),
+        '        COMPREPLY=($(compgen -W "$words" -- "$word"))',
+        '    fi',
         '}',
         f'complete -o default -F _{name} {name}',
     ]) + '\n'
@@ -71,7 +80,7 @@ def fish(line):
         when = f" -n '__fish_seen_subcommand_from {word[0]}'" if word else ' -n __fish_use_subcommand' if line.commands else ''
         for row in each.options:
             names = ''.join(f' -l {it[2:]}' if it.startswith('--') else f' -s {it[1:]}' for it in row.names())
-            given = f" -x -a '{' '.join(row.values())}'" if row.values() else ' -r' if row.takes_value() else ''
+            given = f" -x -a '{' '.join(row.values())}'" if row.values() else ' -r' if row.takes_file() else ' -x' if row.takes_value() else ''
             lines.append(f'complete -c {name}{when}{names}{given} -d {quoted(row.meaning)}')
     return '\n'.join(lines) + '\n'
 
@@ -93,7 +102,7 @@ def zsh(line):
 
 def zsh_option(row):
     meaning = re.sub(r'([\[\]:])', r'\\\1', row.meaning)
-    given = f':value:({" ".join(row.values())})' if row.values() else ':value:_files' if row.takes_value() else ''
+    given = f':value:({" ".join(row.values())})' if row.values() else ':value:_files' if row.takes_file() else ':value: ' if row.takes_value() else ''
     return '  ' + ' '.join(quoted_zsh(f'{name}[{meaning}]{given}') for name in row.names())
 
 

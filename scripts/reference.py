@@ -20,7 +20,7 @@ GUIDES = {
     'segyolant_log': '[LOGS.md](LOGS.md) is the guide: from a log of the field to what went wrong.',
 }
 # Lines of an example that are shown; what is longer is cut.
-MOST_LINES = 20
+MOST_LINES = 34
 
 
 def page_of(program, path):
@@ -52,7 +52,11 @@ def notes_of(program):
 
 
 def table(head, rows):
-    return '\n'.join([f'| {head} | Meaning |', '|---|---|', *(f'| `{row.word}` | {escaped(row.meaning)} |' for row in rows)])
+    return '\n'.join([f'| {head} | Meaning |', '|---|---|', *(f'| `{bars_escaped(row.word)}` | {escaped(row.meaning)} |' for row in rows)])
+
+
+def bars_escaped(word):
+    return word.replace('|', '\\|')
 
 
 def escaped(meaning):

@@ -51,7 +51,7 @@ def copy(path, folder):
 def write_file(name, folder, prefix):
     """Writes a file of `packaging` with its names filled in."""
     with open(f'{PACKAGING}/{name}.in', encoding='utf-8') as file:
-        text = file.read().replace('@PREFIX@', prefix).replace('@VERSION@', version())
+        text = file.read().replace('@PREFIX@', prefix).replace('@VERSION@', version()).replace('@INTERFACE@', version().rpartition('.')[0])
     os.makedirs(folder, exist_ok=True)
     with open(f'{folder}/{name}', 'w', encoding='utf-8') as file:
         file.write(text)
@@ -67,7 +67,8 @@ def install(prefix, root):
         copy(f'{ROOT}/include/{name}', f'{at}/include/segyolant')
     for name in ('segyolant.pc', 'segyolant-static.pc'):
         write_file(name, f'{at}/lib/pkgconfig', prefix or '${pcfiledir}/../..')
-    write_file('segyolantConfig.cmake', f'{at}/lib/cmake/segyolant', prefix)
+    for name in ('segyolantConfig.cmake', 'segyolantConfigVersion.cmake'):
+        write_file(name, f'{at}/lib/cmake/segyolant', prefix)
 
 
 def make():

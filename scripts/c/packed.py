@@ -58,7 +58,7 @@ def check_package(folder):
         pass_over('this machine lets no program hide a folder')
     os.makedirs(folder)
     at = unpacked(folder)
-    for name, text in [('uses.c', SOURCE), ('CMakeLists.txt', CMAKE.replace('HEAP', '${EXAMPLES}/c/heap.c')), ('uses.sh', USES)]:
+    for name, text in [('uses.c', SOURCE), ('CMakeLists.txt', CMAKE.replace('HEAP', '${EXAMPLES}/c/heap.c').replace('segyolant REQUIRED', 'segyolant 0.2 REQUIRED')), ('uses.sh', USES)]:
         with open(f'{folder}/{name}', 'w') as file:
             file.write(text)
     ran = subprocess.run([*HIDDEN, 'sh', f'{folder}/uses.sh', at, folder], capture_output=True, text=True)

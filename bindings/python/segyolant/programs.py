@@ -12,12 +12,11 @@ PACKAGE = Path(__file__).resolve().parent
 
 
 def places(name: str) -> list[Path]:
-    """The paths at which a program is looked for, in their order."""
-    found: list[Path] = []
+    """The paths at which a program is looked for, in their order: that in the folder of SEGYOLANT_BIN alone, if it is set."""
     named = os.environ.get(FOLDER_VARIABLE)
     if named:
-        found.append(Path(named).absolute() / name)
-    found.append(PACKAGE / 'bin' / name)
+        return [Path(named).absolute() / name]
+    found = [PACKAGE / 'bin' / name]
     top = checkout()
     if top is not None:
         found += [top / 'crates' / name / 'out' / name, top / 'out' / 'quick' / name]
@@ -33,7 +32,7 @@ def checkout() -> Path | None:
 
 
 def find(name: str) -> Path:
-    """The program of that name: in the folder that SEGYOLANT_BIN names, in this package, proved in a checkout, or its quick build.
+    """The program of that name: in the folder that SEGYOLANT_BIN names, or else in this package, proved in a checkout, or its quick build.
 
     ProgramNotFound names all these places.
     """
@@ -42,6 +41,6 @@ def find(name: str) -> Path:
         if path.is_file() and os.access(path, os.X_OK):
             return path
     raise ProgramNotFound(
-        f'the program {name} is not at {", ".join(map(str, looked))}: `make quick` in the repository builds it in some two minutes, '
+        f'the program {name} is not at {", ".join(map(str, looked))}: `make quick` in the repository builds it in some minutes, '
         f'and {FOLDER_VARIABLE} may name the folder in which it is'
     )

@@ -34,7 +34,7 @@ A line for each finding, FILE:OFFSET: SEVERITY[CODE NAME] SENTENCE:
 /// The text of help after the options of `why`.
 const AFTER_WHY: &str = "\
 The event with its macros, then each macro that it can run, with its commands and the events that they raise. Each number is the
-sum of those below it, up to 1000000000000.
+sum of the numbers below it, plus one for a command, up to 1000000000000.
 
   segyolant why my.iop 2002:24";
 

@@ -32,7 +32,7 @@ def parse(words: list[str] | None = None) -> argparse.Namespace:
     parser.add_argument('--extras', metavar='NAME,..', type=lambda text: [each for each in text.split(',') if each], default=EXTRAS,
                         help=f'what is said beside the core, as segyolant.host has it ({",".join(EXTRAS)})')
     parser.add_argument('--program', metavar='FILE', type=_file, help='the program vt_live')
-    parser.add_argument('--port', type=int, default=8099, help='the port of the page (8099), 0 for any free one')
+    parser.add_argument('--port', type=_port, default=8099, help='the port of the page (8099), 0 for any free one')
     parser.add_argument('--host', default='127.0.0.1', help='the address of the page; all but loopback opens it to a network')
     parser.add_argument('--open', action='store_true', help='open the page in the browser')
     return parser.parse_args(words)
@@ -47,6 +47,12 @@ def _file(text: str) -> Path:
     if not Path(text).is_file():
         raise argparse.ArgumentTypeError(f'there is no file {text}')
     return Path(text)
+
+
+def _port(text: str) -> int:
+    if not text.isdecimal() or int(text) > 65535:
+        raise argparse.ArgumentTypeError(f'{text} is no port from 0 to 65535')
+    return int(text)
 
 
 def _address(text: str) -> int:
