@@ -28,7 +28,10 @@ class CanLine:
         channel = channel or CHANNELS.get(interface)
         self.name, self.clock = interface + (f':{channel}' if channel else ''), Clock()
         self.told: Callable[[str], None] = lambda words: None
-        self._bus = can.Bus(interface=interface, channel=channel, receive_own_messages=False, **options)
+        try:
+            self._bus = can.Bus(interface=interface, channel=channel, receive_own_messages=False, **options)
+        except (OSError, can.CanError) as error:
+            raise OSError(f'the bus {self.name} cannot be opened: {error}') from error
         self._waiting: deque[Received] = deque()
         self._is_told = False
         self._to_send: queue.SimpleQueue[Frame | None] = queue.SimpleQueue()
