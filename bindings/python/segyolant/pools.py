@@ -55,7 +55,7 @@ def report(pool: Pool) -> str:
 
 
 def draw(pool: Pool, mask: int | None = None) -> str:
-    """A mask of a pool with its soft keys as SVG, the active one if `mask` is None. A pool with errors is drawn as far as it can be read.
+    """A mask of a pool with its soft keys as SVG, the active one if `mask` is None. Of a pool with errors the readable part is drawn.
 
     ProgramFailed, with the cure, if the pool has no such mask.
     """
