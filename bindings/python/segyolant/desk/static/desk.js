@@ -1,6 +1,6 @@
 'use strict';
-// The page of the desk. It shows what the server tells, and sends what the operator does. Texts are put in as text, and pictures as
-// images of their own, in which nothing runs.
+// The page of the desk. It shows what the server tells, and sends what the operator does. Texts are put in as text. Of the picture of
+// the mask only what the core draws with is put in, and other pictures are images of their own: nothing runs in them.
 
 const $ = id => document.getElementById(id);
 const TOKEN = document.querySelector('meta[name=token]').content;
@@ -45,51 +45,95 @@ const send = message => { if (socket.readyState === WebSocket.OPEN) socket.send(
 
 // ---- the picture
 
-// Puts an SVG into an element as an image, once it can be shown without a gap.
-async function putImage(into, svg) {
-  const url = URL.createObjectURL(new Blob([svg], { type: 'image/svg+xml' }));
-  const image = make('img', { alt: '', src: url, draggable: false });
-  try { await image.decode(); } catch { /* an empty picture */ }
-  into.replaceChildren(image);
-  URL.revokeObjectURL(url);
+// What the core draws with, and the values that it gives. Nothing else of a picture comes into the page, as texts of pools are in it.
+const SVG = 'http://www.w3.org/2000/svg';
+const ELEMENTS = new Set('svg rect ellipse polygon polyline text symbol use pattern'.split(' '));
+const VALUES = new Map((
+  'data-id x y width height viewBox preserveAspectRatio overflow cx cy rx ry points stroke stroke-width stroke-dasharray ' +
+  'stroke-linecap shape-rendering patternUnits font-family font-size font-weight font-style text-decoration textLength ' +
+  'lengthAdjust xml:space').split(' ').map(name => [name, /^[\w .,#-]*$/]));
+VALUES.set('xmlns', /^http:\/\/www\.w3\.org\/2000\/svg$/).set('id', /^[pf]\d+$/).set('href', /^#p\d+$/);
+VALUES.set('fill', /^(none|#\w+|url\(#f\d+\))$/);
+
+const isDrawn = node => node.nodeType === Node.TEXT_NODE || node.namespaceURI === SVG && ELEMENTS.has(node.tagName);
+const drawnIn = node => [...node.childNodes].filter(isDrawn);
+
+// A node of the page like one that was parsed, with what the core draws with, and nothing else.
+function copyOf(parsed) {
+  if (parsed.nodeType === Node.TEXT_NODE) return document.createTextNode(parsed.data);
+  const made = document.createElementNS(SVG, parsed.tagName);
+  for (const { namespaceURI, name, value } of parsed.attributes) {
+    if (VALUES.get(name)?.test(value)) made.setAttributeNS(namespaceURI, name, value);
+  }
+  for (const child of drawnIn(parsed)) made.append(copyOf(child));
+  return made;
 }
 
-let isPainting = false, nextPicture = null;
-
-async function showPicture(message) {
-  nextPicture = message;
-  if (isPainting) return;
-  isPainting = true;
-  while (nextPicture) {
-    const picture = nextPicture;
-    nextPicture = null;
-    if (picture.svg) await putImage($('picture'), picture.svg);
-    placePicture(picture);
-    requestAnimationFrame(() => setTimeout(() => {
-      if (picture.at) desk.changes.push([performance.timeOrigin + performance.now(), picture.at * 1000]);
-      if (desk.changes.length > 2000) desk.changes.splice(0, 1000);
-    }));
+// Makes a node of the page like one that was parsed. What is equal in both stays as it is, so the browser draws only the rest anew.
+function patch(old, parsed) {
+  if (parsed.nodeType === Node.TEXT_NODE || !old.cloneNode().isEqualNode(parsed.cloneNode())) {
+    old.replaceWith(copyOf(parsed));
+    return;
   }
-  isPainting = false;
+  const before = [...old.childNodes], after = drawnIn(parsed);
+  let behind = null; // the first node of those at the end that are equal
+  while (before.length && after.length && before.at(-1).isEqualNode(after.at(-1))) {
+    behind = before.pop();
+    after.pop();
+  }
+  let first = 0;
+  while (first < before.length && first < after.length && before[first].isEqualNode(after[first])) first++;
+  const isPaired = before.length === after.length;
+  for (let k = first; k < before.length; k++) isPaired ? patch(before[k], after[k]) : before[k].remove();
+  if (!isPaired) for (let k = first; k < after.length; k++) old.insertBefore(copyOf(after[k]), behind);
+}
+
+// A document that is only parsed runs nothing and loads nothing.
+function drawSvg(svg) {
+  const parsed = new DOMParser().parseFromString(svg, 'image/svg+xml').documentElement, old = $('picture').firstChild;
+  if (!isDrawn(parsed)) $('picture').replaceChildren();
+  else if (old) patch(old, parsed);
+  else $('picture').append(copyOf(parsed));
+}
+
+let nextPicture = null;
+
+// Of the pictures that come between two frames of the browser only the last one is drawn.
+function showPicture(message) {
+  if (!nextPicture) requestAnimationFrame(drawPicture);
+  nextPicture = message;
+}
+
+function drawPicture() {
+  const picture = nextPicture;
+  nextPicture = null;
+  if (picture.svg) drawSvg(picture.svg);
+  placePicture(picture);
+  // (the time at which the frame with the picture is painted)
+  setTimeout(() => {
+    if (picture.at) desk.changes.push([performance.timeOrigin + performance.now(), picture.at * 1000]);
+    if (desk.changes.length > 2000) desk.changes.splice(0, 1000);
+  });
 }
 
 function placePicture(picture) {
-  const size = /^<svg[^>]*? width="(\d+)" height="(\d+)"/.exec(picture.svg);
+  const before = desk.picture, size = /^<svg[^>]*? width="(\d+)" height="(\d+)"/.exec(picture.svg);
   desk.picture = picture;
   picture.width = size ? +size[1] : 0;
   picture.height = size ? +size[2] : 0;
-  $('mask').hidden = !size;
-  $('nothing').hidden = Boolean(size);
-  $('nothing').textContent = picture.too_long
+  if (picture.width !== before?.width || picture.height !== before?.height) fit();
+  if (picture.too_long !== before?.too_long) $('nothing').textContent = picture.too_long
     ? `The picture has ${picture.too_long} characters and is not shown.` : 'No working set is shown.';
-  fit();
   placeHits(picture);
-  $('said').replaceChildren(...picture.lines.map(line => make('li', { textContent: line })));
+  sayLines(picture.lines);
 }
 
 function fit() {
   const picture = desk.picture;
-  if (!picture || !picture.width) return;
+  if (!picture) return;
+  $('mask').hidden = !picture.width;
+  $('nothing').hidden = Boolean(picture.width);
+  if (!picture.width) return;
   const room = $('stage').getBoundingClientRect();
   // (on a narrow page the bus is below the mask, and the stage is as high as the mask itself)
   const height = NARROW.matches ? window.innerHeight * 0.8 : Math.max(room.height, 480) - 70;
@@ -98,6 +142,7 @@ function fit() {
   $('mask').style.height = `${Math.round(picture.height * scale) + 6}px`;
 }
 window.addEventListener('resize', fit);
+new ResizeObserver(fit).observe($('stage'));
 
 // Real buttons lie over the picture. They outlive it, so that a press, a click and the focus do: they are kept by ID, and only moved.
 function placeHits(picture) {
@@ -112,15 +157,32 @@ function placeHits(picture) {
   for (const [key, hit] of wanted) {
     const button = $(key) ?? make('button', { type: 'button', id: key });
     if (last ? last.nextSibling !== button : $('hits').firstChild !== button) last ? last.after(button) : $('hits').prepend(button);
-    for (const [side, pixels] of [['left', hit.x], ['width', hit.width]]) button.style[side] = `${pixels / picture.width * 100}%`;
-    for (const [side, pixels] of [['top', hit.y], ['height', hit.height]]) button.style[side] = `${pixels / picture.height * 100}%`;
-    button.dataset.object = hit.id;
-    button.dataset.kind = hit.kind;
-    button.className = `hit ${hit.kind}${hit.off ? ' off' : ''}${held === hit.id ? ' held' : ''}`;
-    button.setAttribute('aria-label', `${hit.kind} ${hit.id}${hit.label ? `: ${hit.label}` : ''}`);
-    button.setAttribute('aria-disabled', hit.off);
-    if (isPressed(button)) button.setAttribute('aria-pressed', held === hit.id); else button.removeAttribute('aria-pressed');
+    placeHit(button, hit, picture);
     last = button;
+  }
+}
+
+function placeHit(button, hit, picture) {
+  const told = JSON.stringify([hit, held === hit.id, picture.width, picture.height]);
+  if (button.told === told) return;
+  button.told = told;
+  for (const [side, pixels] of [['left', hit.x], ['width', hit.width]]) button.style[side] = `${pixels / picture.width * 100}%`;
+  for (const [side, pixels] of [['top', hit.y], ['height', hit.height]]) button.style[side] = `${pixels / picture.height * 100}%`;
+  button.dataset.object = hit.id;
+  button.dataset.kind = hit.kind;
+  button.className = `hit ${hit.kind}${hit.off ? ' off' : ''}${held === hit.id ? ' held' : ''}`;
+  button.setAttribute('aria-label', `${hit.kind} ${hit.id}${hit.label ? `: ${hit.label}` : ''}`);
+  button.setAttribute('aria-disabled', hit.off);
+  if (isPressed(button)) button.setAttribute('aria-pressed', held === hit.id); else button.removeAttribute('aria-pressed');
+}
+
+// The lines that the mask says, for those who hear the page.
+function sayLines(lines) {
+  const said = $('said');
+  while (said.children.length > lines.length) said.lastChild.remove();
+  for (const [k, line] of lines.entries()) {
+    const item = said.children[k] ?? said.appendChild(make('li'));
+    if (item.textContent !== line) item.textContent = line;
   }
 }
 
@@ -179,6 +241,17 @@ window.addEventListener('keyup', event => {
 });
 for (const name of ['pointerup', 'pointercancel']) window.addEventListener(name, () => { if (!isKeyDown) release(); });
 for (const name of ['blur', 'pagehide']) window.addEventListener(name, release);
+
+// ---- small pictures: designators and items of lists
+
+// Puts an SVG into an element as an image, once it can be shown without a gap.
+async function putImage(into, svg) {
+  const url = URL.createObjectURL(new Blob([svg], { type: 'image/svg+xml' }));
+  const image = make('img', { alt: '', src: url, draggable: false });
+  try { await image.decode(); } catch { /* an empty picture */ }
+  into.replaceChildren(image);
+  URL.revokeObjectURL(url);
+}
 
 // ---- dialogs
 
