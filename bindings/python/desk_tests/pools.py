@@ -50,6 +50,16 @@ def input_list(id: int, *items: int) -> bytes:
 HOSTILE = [b'<script>window.hacked=1</script>', b'"><img src=x onerror="window.hacked=2">', b"'><svg onload=window.hacked=3>",
            b'</text></svg><script>window.hacked=4</script>', b']]><!--javascript:window.hacked=5', b'&lt;b&gt;&amp;${window.hacked=6}']
 
+# A picture as no core draws it, and what the page takes of it.
+MARKUP = '''<svg xmlns="http://www.w3.org/2000/svg" xmlns:l="http://www.w3.org/1999/xlink" xmlns:h="http://www.w3.org/1999/xhtml" width="9"
+onload="window.hacked=7"><script>window.hacked=8</script><h:script>window.hacked=9</h:script><style>* { display: none }</style><!-- - -->
+<?xml-stylesheet href="x"?><foreignObject><h:img src="x" onerror="window.hacked=10"/></foreignObject><image href="x" onerror="window.hacked=11"/>
+<rect id="mask" class="hit" width="9" fill="url(http://127.0.0.1/x)" onclick="window.hacked=12" style="fill: red"/><use href="data:,x#p1"/>
+<use l:href="#p1" href="#p1"/><l:rect/><a href="javascript:window.hacked=13"><text>no</text></a><set attributeName="href" to="x"/>
+<animate onbegin="window.hacked=14"/><text>&lt;b&gt;</text></svg>'''.replace('\n', ' ')
+MARKUP_LEFT = ('<svg xmlns="http://www.w3.org/2000/svg" width="9">  <rect width="9"></rect><use></use> <use href="#p1"></use> '
+               '<text>&lt;b&gt;</text></svg>')
+
 
 def hostile() -> bytes:
     """A pool whose every text is markup."""
