@@ -7,19 +7,19 @@ use Rattle.vt_bench.proofs.TakenLine.{TakesLine, AtMost-more, line-taken, lines-
 use Rattle.vt_bench.specs.Differences.{AreDifferences, DiffersAt, difference_at, differences_after}
 use Rattle.vt_bench.specs.Expectations.{expected_by, is_expectation}
 use Rattle.vt_bench.specs.LineTexts.{TakesEach}
-use Rattle.vt_can.specs.lines.Line.{ReadsAs}
 use Rattle.vt_logs.specs.declared.counts.Counts.{Counts}
 use Rattle.vt_logs.specs.LineEffects.{ReplayState}
 use Rattle.vt_logs.specs.Lines.{lines_of}
 use Rattle.vt_logs.specs.Progress.{AtMost, ReplayPoint, Takes}
 use Rattle.vt_logs.specs.Texts.{LineReading, no_counts}
+use Rattle.vt_recorded.specs.Readings.{IsReadingOf}
 use Rattle.vt_server.specs.shown.Screens.{IsScreenOf}
 use Rattle.vt_server.specs.Terminals.{State}
 
 -- Any texts of the lines to come complete the differences of the log.
 abbrev Completes : State → List ℕ → List DiffersAt → ReplayState → ℕ → List ℕ → Type 0
 Completes start input found now n rest =
-    (readings : List LineReading) (texts : List (List ℕ)) (last : ReplayState) → AllZip ReadsAs (lines_of rest) readings → AllByRecursion (λ line. length line ≤ 4096) (lines_of rest)
+    (readings : List LineReading) (texts : List (List ℕ)) (last : ReplayState) → AllZip IsReadingOf (lines_of rest) readings → AllByRecursion (λ line. length line ≤ 4096) (lines_of rest)
     → TakesEach now n readings texts last → AreDifferences start input (found ++ differences_after n (lines_of rest) texts) last.state
 
 -- No line is longer than 4,096 bytes.
@@ -75,7 +75,7 @@ way-line start input found from to rest line after way cut shorter taken =
       room = omega (arith, way.room, shorter);
       completes = λ readings texts last read short takes.
           let whole = way.completes (taken.reading ∷ readings) (taken.text ∷ texts) last
-          (subst (λ (lines : List (List ℕ)). AllZip ReadsAs lines (taken.reading ∷ readings)) (sym cut) (taken.reads, read))
+          (subst (λ (lines : List (List ℕ)). AllZip IsReadingOf lines (taken.reading ∷ readings)) (sym cut) (taken.reads, read))
           (subst (AllByRecursion (λ line. length line ≤ 4096)) (sym cut) (taken.short, short))
           (record { middle = to.scene; takes = taken.takes; next = subst (λ (k : ℕ). TakesEach to.scene k readings texts last) n takes }) in
           let added : differences_after from.counts.lines (lines_of rest) (taken.text ∷ texts)
@@ -123,5 +123,5 @@ way-end start input found now counts rest way none =
     let none_left : lines_of rest ≡ [] = ap lines_of none in
     subst (λ (differences : List DiffersAt). AreDifferences start input differences now.state)
     (ap (λ (lines : List (List ℕ)). found ++ differences_after counts.lines lines []) none_left ∙ append-nil found)
-    (way.completes [] [] now (subst (λ (lines : List (List ℕ)). AllZip ReadsAs lines []) (sym none_left) tt)
+    (way.completes [] [] now (subst (λ (lines : List (List ℕ)). AllZip IsReadingOf lines []) (sym none_left) tt)
     (subst (AllByRecursion (λ line. length line ≤ 4096)) (sym none_left) tt) refl)

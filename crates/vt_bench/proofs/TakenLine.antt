@@ -3,25 +3,25 @@ use Rattle.std.proofs.Common.{◌≡◌, ◌∙◌, ℕ, ◌+◌, ◌≤◌, ◌
 use Rattle.std.proofs.lemmas.List.{append-nil}
 use Rattle.std.specs.List.{AllZip}
 use Rattle.std.specs.Io.KnownBytes.{Appends}
-use Rattle.vt_can.specs.lines.Line.{ReadsAs}
 use Rattle.vt_can.specs.lines.Readings.{FrameAt, OperatorAction, SkippedFrame, CommentLine}
 use Rattle.vt_logs.specs.declared.counts.Counts.{Counts}
 use Rattle.vt_logs.specs.LineEffects.{ReplayState, TakesReading, TakesReadings}
 use Rattle.vt_logs.specs.Progress.{AtMost, ReplayPoint, Takes}
 use Rattle.vt_logs.specs.Texts.{LineReading, no_counts, with_line_counted, with_lines_counted}
+use Rattle.vt_recorded.specs.Readings.{IsReadingOf}
 use Rattle.vt_server.specs.shown.Screens.{IsScreenOf}
 
 -- A line is taken and prints a text.
 pub record TakesLine (from : ReplayPoint) (line : List ℕ) (to : ReplayPoint) : Type 0 where
   pub reading : LineReading
-  pub reads : ReadsAs line reading
+  pub reads : IsReadingOf line reading
   pub short : length line ≤ 4096
   pub text : List ℕ
   pub takes : TakesReading from.scene (from.counts.lines + 1) reading to.scene text
   pub counts : to.counts ≡ with_line_counted from.counts reading
   pub held : Appends from.held to.held text
 
-one-taken : (from to : ReplayPoint) (line : List ℕ) (readings : List LineReading) (printed : List ℕ) → AllZip ReadsAs (line ∷ []) readings → length line ≤ 4096
+one-taken : (from to : ReplayPoint) (line : List ℕ) (readings : List LineReading) (printed : List ℕ) → AllZip IsReadingOf (line ∷ []) readings → length line ≤ 4096
     → TakesReadings from.scene from.counts.lines readings to.scene printed → to.counts ≡ with_lines_counted from.counts readings → Appends from.held to.held printed → TakesLine from line to
 one-taken from to line [] printed read short takes counts held = absurd read
 one-taken from to line (reading ∷ second ∷ readings) printed read short takes counts held = absurd read.1

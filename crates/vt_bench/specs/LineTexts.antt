@@ -1,10 +1,10 @@
 -- The text of each line of a replay.
 use Rattle.std.specs.Prelude.{◌≡◌, ◌≤◌, ℕ, ◌+◌, List, [], ◌∷◌, length}
 use Rattle.std.specs.List.{AllZip, AllByRecursion}
-use Rattle.vt_can.specs.lines.Line.{ReadsAs}
 use Rattle.vt_logs.specs.Lines.{lines_of}
 use Rattle.vt_logs.specs.LineEffects.{ReplayState, TakesReading}
 use Rattle.vt_logs.specs.Texts.{LineReading}
+use Rattle.vt_recorded.specs.Readings.{IsReadingOf}
 use Rattle.vt_server.specs.shown.Screens.{IsScreenOf}
 use Rattle.vt_server.specs.Terminals.{State}
 
@@ -24,7 +24,7 @@ TakesEach from n (reading ∷ readings) (text ∷ texts) to = TakesNext from n r
 -- A terminal prints its first screen, and for each line of a log a text. No line is longer than 4,096 bytes.
 pub record Prints (start : State) (input : List ℕ) (screen : List ℕ) (texts : List (List ℕ)) (now : State) : Type 0 where
   pub readings : List LineReading
-  pub read : AllZip ReadsAs (lines_of input) readings
+  pub read : AllZip IsReadingOf (lines_of input) readings
   pub short : AllByRecursion (λ line. length line ≤ 4096) (lines_of input)
   pub shown : IsScreenOf start screen
   pub last : ReplayState

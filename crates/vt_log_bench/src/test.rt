@@ -111,7 +111,7 @@ fn write_blessed<F: Save, W: Write, E: Write>(
     if faults > 0 {
         let _ = writeln!(
             errors,
-            "{}: {path}: {faults} of its lines are faulty; expected lines of candump -L, which operator makes of those of other recorders",
+            "{}: {path}: {faults} of its lines are faulty; trace shows each with its fault",
             files.name()
         );
         if blessed.inputs == 0 {

@@ -10,7 +10,6 @@
 #![tactic(auto)]
 
 mod claims;
-mod forms;
 mod lines;
 mod messages;
 mod reader;

@@ -9,7 +9,7 @@ use std::alloc::{AllocError, Global};
 use std::io::Write;
 use vt_can::{Line, LineFault};
 use vt_files::Program;
-use vt_recorded::{Reader, interface_in, is_of_interface};
+use vt_recorded::{Form, FormSentence, Reader, form_of, interface_in, is_of_interface};
 
 /// Reads the lines of a log, and takes all of its frames or those of one interface.
 #[derive(Drop)]
@@ -30,9 +30,10 @@ impl<'a> LogReader<'a> {
             interface,
             remarks: Remarks {
                 first: Vec::new(alloc),
+                other: Vec::new(alloc),
                 index: 0,
-                has_several_interfaces: false,
                 faults: 0,
+                form: None,
             },
         }
     }
@@ -67,10 +68,15 @@ impl<'a> LogReader<'a> {
                 "{program}: {path}: {faults} of its lines {verb} faulty; trace shows each with its fault"
             );
         }
-        if self.remarks.has_several_interfaces {
+        if let (true, Some(form)) = (self.has_frames(), self.remarks.form) {
+            let sentence = FormSentence { form, path };
+            let _ = writeln!(errors, "{program}: {path}: {sentence}");
+        }
+        let (first, other) = self.remarks.interfaces();
+        if !other.is_empty() {
             let _ = writeln!(
                 errors,
-                "{program}: {path}: frames of several interfaces are taken as those of one bus; if they are the same bus, --interface takes one of them"
+                "{program}: {path}: frames of {first} and {other} are taken as those of one bus; --interface {first} takes those of one"
             );
         }
     }
@@ -83,10 +89,12 @@ struct Remarks {
     first: Vec<u8>,
     /// The index of the space before the interface, in the last line whose interface was looked for.
     index: usize,
-    /// Whether frames of several interfaces were read.
-    has_several_interfaces: bool,
+    /// The second interface whose frames were read; empty before it.
+    other: Vec<u8>,
     /// The number of lines with a fault.
     faults: u64,
+    /// What the file is if its first faulty line tells.
+    form: Option<Form>,
 }
 
 impl Remarks {
@@ -100,6 +108,9 @@ impl Remarks {
             Ok(Line::Frame { .. }) => self.note_frame(line),
             Ok(_) => Ok(()),
             Err(_) => {
+                if self.faults == 0 {
+                    self.form = form_of(line);
+                }
                 self.faults = self.faults.saturating_add(1);
                 Ok(())
             }
@@ -118,8 +129,22 @@ impl Remarks {
             self.first.extend_from_slice(name)?;
             self.first.push(b' ')?;
         }
-        self.has_several_interfaces |= !self.is_first(name);
+        if self.other.is_empty() && !self.is_first(name) {
+            self.other.extend_from_slice(name)?;
+        }
         Ok(())
+    }
+
+    /// The first interface and the second one, empty if there is none or its name is no text.
+    fn interfaces(&self) -> (&str, &str) {
+        let first = match self.first.as_slice() {
+            [_, first @ .., _] => first,
+            _ => &[],
+        };
+        match (str::from_utf8(first), str::from_utf8(&self.other)) {
+            (Ok(first), Ok(other)) => (first, other),
+            _ => ("", ""),
+        }
     }
 
     /// Whether an interface is the first one.

@@ -1,7 +1,6 @@
 //! A log with all that its replay needs.
 
 use crate::claims::Recorded;
-use crate::forms::{Cure, form_of};
 use crate::lines::{LineCursor, line_ends, text_of};
 use crate::reader::LogReader;
 use crate::start::{LoadedSet, new_terminal, read_set};
@@ -11,6 +10,7 @@ use vt_can::{Line, LineFault};
 use vt_files::{Open, Program, read_file, read_names};
 use vt_findings_text::Names;
 use vt_log_words::{ReplayOptions, TerminalOptions};
+use vt_recorded::{FormSentence, form_of};
 use vt_server::{Input, Terminal};
 
 /// A log with all that its replay needs.
@@ -126,21 +126,12 @@ impl<'a> Replay<'a> {
 /// Says on `errors` that a log has no frame, and what it is if it is no log of candump.
 pub fn tell_no_frame<F: Program, E: Write>(path: &str, log: &[u8], files: &F, errors: &mut E) {
     let name = files.name();
-    let Some(form) = form_of(log) else {
-        let _ = writeln!(
+    let _ = match form_of(log) {
+        Some(form) => writeln!(errors, "{name}: {path}: {}", FormSentence { form, path }),
+        None => writeln!(
             errors,
             "{name}: {path}: no frame could be read; expected a log such as candump -L writes, and with --interface one of its interfaces"
-        );
-        return;
-    };
-    let _ = write!(errors, "{name}: {path}: this is {}; ", form.what);
-    let _ = match form.cure {
-        Cure::Convert => writeln!(
-            errors,
-            "convert it: python3 -m can.logconvert {path} my.log"
         ),
-        Cure::Export => writeln!(errors, "export its frames as candump -L writes them"),
-        Cure::Save => writeln!(errors, "save it as ASCII or UTF-8"),
     };
 }
 

@@ -32,7 +32,15 @@ pub(crate) fn run_operator<F: Open, W: Write, E: Messages>(
         return Ok(Status::NotJudged);
     }
     let told = recording.told.as_slice();
-    put_lines(alloc, log, options.interface, told, out)?;
+    let left_out = put_lines(alloc, log, options.interface, told, out)?;
+    if left_out > 0 {
+        let _ = writeln!(
+            errors,
+            "{}: {}: its own operator lines are left out, {left_out} of them",
+            files.name(),
+            options.log
+        );
+    }
     Ok(Status::Clean)
 }
 
@@ -128,15 +136,16 @@ impl Recording {
 }
 
 /// Writes the lines of a log without its operator lines and the frames of other interfaces, and before each the operator's lines that it
-/// tells of.
+/// tells of. Returns how many operator lines were left out.
 fn put_lines<W: Write>(
     alloc: Global,
     log: &[u8],
     interface: Option<&str>,
     told: &[Told],
     out: &mut W,
-) -> io::Result<()> {
+) -> io::Result<u64> {
     let mut reader = Reader::new(alloc);
+    let mut left_out = 0_u64;
     let mut rest = told;
     let mut cursor = LineCursor::new(log);
     for end in line_ends(log) {
@@ -148,21 +157,22 @@ fn put_lines<W: Write>(
             out.write_all(&told.line)?;
         }
         rest = later;
-        if is_of_interface(line, interface) {
-            put_line(&mut reader, line, out)?;
+        if is_of_interface(line, interface) && !put_line(&mut reader, line, out)? {
+            left_out = left_out.saturating_add(1);
         }
     }
-    Ok(())
+    Ok(left_out)
 }
 
-/// Writes a line, unless it is one of the operator. A frame of another recorder is written in its plain form.
-fn put_line<W: Write>(reader: &mut Reader, line: &[u8], out: &mut W) -> io::Result<()> {
+/// Writes a line, unless it is one of the operator, and returns whether it did. A frame of another recorder is written in its plain form.
+fn put_line<W: Write>(reader: &mut Reader, line: &[u8], out: &mut W) -> io::Result<bool> {
     match parse_line(line) {
-        Ok(Line::Operator(_)) | Err(LineFault::Operator) => return Ok(()),
+        Ok(Line::Operator(_)) | Err(LineFault::Operator) => return Ok(false),
         Err(LineFault::Time | LineFault::Shape) if reader.read(line)?.is_ok() => {
             out.write_all(reader.plain())?;
         }
         _ => out.write_all(line)?,
     }
-    out.write_all(b"\n")
+    out.write_all(b"\n")?;
+    Ok(true)
 }

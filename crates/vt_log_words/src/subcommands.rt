@@ -19,8 +19,7 @@ Status: 0 nothing found, 1 something found, 2 not judged (command line, file or 
   segyolant_log test suite.log                                whether each line prints what the lines #< behind it say
   segyolant_log test suite.log --bless                        writes these lines
 
-A log is as candump -L writes it. All subcommands but test also take the form of candump -ta, and padded names of interfaces. - is the
-standard input.
+A log is as candump -L writes it. Lines of candump -ta are read too, and padded names of interfaces. - is the standard input.
 
 docs/LOGS.md has examples.";
 
@@ -45,7 +44,7 @@ lines that the log already has are left out. A log does not show which working s
 /// The text of help after the options of `test`.
 const AFTER_TEST: &str = "\
 A line #< TEXT is an expectation: the line before it must print TEXT when vt_replay replays the log. Other readers of logs see a comment.
-Expectations at the front are those of the first screen. Lines are read as candump -L writes them.
+Expectations at the front are those of the first screen.
 
   (2.400000) can0 14E72680#A0640000FFFFFFFF
   #< 14E68026#A064000000FFFFFF

@@ -4,7 +4,6 @@ use Rattle.std.specs.Prelude.{Result, Ok, Err, OnErr}
 use Rattle.std.proofs.lemmas.List.{append-nil}
 use Rattle.std.specs.Io.KnownBytes.{Appends, Keeps}
 use Rattle.std.proofs.KnownBytes.{Appends-trans}
-use Rattle.vt_can.specs.lines.Line.{ReadsAs}
 use Rattle.vt_logs.specs.Lines.{lines_of}
 use Rattle.vt_logs.specs.LineEffects.{Follows, ReplayState, TakesReading}
 use Rattle.vt_logs.specs.Texts.{LineReading}
@@ -12,6 +11,7 @@ use Rattle.vt_logs.specs.EarlyEnds.{Begins, BreaksOff, LeavesLines, Stops}
 use Rattle.vt_logs.specs.Progress.{ReplayPoint, Takes, HasNoNewline, TakesBytes, Writes}
 use Rattle.vt_logs.proofs.TakenLines.{takes_none, takes_more, lines_of-line, HasNoNewline-append}
 use Rattle.vt_logs.proofs.ReplayInvariants.{IsMidway}
+use Rattle.vt_recorded.specs.Readings.{IsReadingOf}
 use Rattle.vt_server.specs.Terminals.{State}
 
 -- ---- what stands written
@@ -54,14 +54,14 @@ stops_none a lines held keeps = record {
   written = keeps-appends a.held held keeps;
 }
 
-leaves_one : (s : ReplayState) (n : ℕ) (line : List ℕ) (r : LineReading) (t : State) (text : List ℕ) → ReadsAs line r → length line ≤ 4096
+leaves_one : (s : ReplayState) (n : ℕ) (line : List ℕ) (r : LineReading) (t : State) (text : List ℕ) → IsReadingOf line r → length line ≤ 4096
     → BreaksOff s.state (Follows s.state r) (TakesReading s n r) t text → LeavesLines s n (line ∷ []) t text
 leaves_one s n line r t text reads short (inl none) = inl none
 leaves_one s n line r t text reads short (inr part) =
     inr (record { line = line; after = []; reading = r; next = refl; read = reads; short = short; part = part })
 
 -- One line is not taken, or its text is written in part.
-pub stops_one : (a : ReplayPoint) (t : State) (line : List ℕ) (r : LineReading) (held : Option (List ℕ)) → ReadsAs line r → length line ≤ 4096
+pub stops_one : (a : ReplayPoint) (t : State) (line : List ℕ) (r : LineReading) (held : Option (List ℕ)) → IsReadingOf line r → length line ≤ 4096
     → Writes (BreaksOff a.scene.state (Follows a.scene.state r) (TakesReading a.scene (a.counts.lines + 1) r) t) a.held held → Stops a (line ∷ []) t held
 stops_one a t line r held reads short off = record {
   front = [];

@@ -4,7 +4,6 @@ use Rattle.std.specs.Prelude.{Result, Ok, Err, IfSome, IfErr, IsErrAnd}
 use Rattle.std.proofs.lemmas.List.{append-nil}
 use Rattle.std.specs.Io.KnownBytes.{Appends, Consumes, IsAtEnd, Keeps}
 use Rattle.std.proofs.KnownBytes.{Appends-trans, Consumes-trans, Consumes-whole}
-use Rattle.vt_can.specs.lines.Line.{ReadsAs}
 use Rattle.vt_logs.specs.declared.counts.Counts.{Counts}
 use Rattle.vt_logs.specs.declared.fault.ReplayFault.{ReplayFault}
 use Rattle.vt_logs.specs.declared.fault.ReplayFault.TheVariants.{Memory, Read, TooLong, Write}
@@ -18,6 +17,7 @@ use Rattle.vt_logs.proofs.EarlyEndInLines.{stops_none, later_bytes}
 use Rattle.vt_logs.proofs.LongLines.{begun}
 use Rattle.vt_logs.proofs.ReplayInvariants.{IsUnderWay}
 use Rattle.vt_logs.proofs.TakenLines.{length-zip, takes-lines, takes_more}
+use Rattle.vt_recorded.specs.Readings.{IsReadingOf}
 use Rattle.vt_server.specs.shown.Screens.{IsScreenOf}
 use Rattle.vt_server.specs.Terminals.{State}
 
@@ -36,7 +36,7 @@ begun_none given s old new keeps = begun_first given s old new (inl keeps)
 next_place : (a b : ReplayPoint) (lines : List (List ℕ)) (takes : Takes a lines b) → a.counts ≡ no_counts → b.counts.lines + 1 ≡ length lines + 1
 next_place a b lines takes none =
     let zero : a.counts.lines ≡ 0 = ap (λ (k : Counts). k.lines) none in
-    omega (arith, takes-lines a b lines takes, length-zip ReadsAs lines takes.readings takes.read, zero)
+    omega (arith, takes-lines a b lines takes, length-zip IsReadingOf lines takes.readings takes.read, zero)
 
 -- A replay ends early in the lines of a log.
 stopped : (a : ReplayPoint) (t : State) (old held : Option (List ℕ)) (input : List ℕ) → a.counts ≡ no_counts → IsScreenOf a.scene.state a.scene.screen → Appends old a.held a.scene.screen

@@ -5,7 +5,6 @@ use Rattle.std.proofs.lemmas.List.{append-nil, take_at}
 use Rattle.std.specs.List.{AllZip, AllByRecursion}
 use Rattle.std.specs.Io.KnownBytes.{Appends, Consumes, IsAtEnd, Keeps}
 use Rattle.std.proofs.KnownBytes.{Appends-kept, Appends-trans, Consumes-nil, Consumes-trans, Consumes-whole}
-use Rattle.vt_can.specs.lines.Line.{ReadsAs}
 use Rattle.vt_logs.specs.declared.counts.Counts.{Counts}
 use Rattle.vt_logs.specs.Lines.{lines_of}
 use Rattle.vt_logs.specs.LineEffects.{ReplayState, TakesReadings}
@@ -13,6 +12,7 @@ use Rattle.vt_logs.specs.Texts.{no_counts, with_lines_counted, counts_text}
 use Rattle.vt_logs.specs.Replays.{IsReplay}
 use Rattle.vt_logs.specs.Progress.{AtMost, ReplayPoint, Takes, HasNoNewline, TakesBytes}
 use Rattle.vt_logs.proofs.TakenLines.{bytes_none, bytes_kept, bytes_line, bytes_more, bytes-AtMost, lines_of-last, HasNoNewline-append, AtMost-more, takes_drawn, takes_more}
+use Rattle.vt_recorded.specs.Readings.{IsReadingOf}
 use Rattle.vt_server.specs.shown.Screens.{IsScreenOf}
 
 -- ---- between two lines of a chunk
@@ -150,7 +150,7 @@ replayed a b c pending input none drawn taken at_end =
       all.text,
       λ last is. record {
         readings = all.readings;
-        read = subst (λ (ls : List (List ℕ)). AllZip ReadsAs ls all.readings) (sym lines) all.read;
+        read = subst (λ (ls : List (List ℕ)). AllZip IsReadingOf ls all.readings) (sym lines) all.read;
         short = subst (AllByRecursion (λ line. length line ≤ 4096)) (sym lines) all.short;
         first = a.scene;
         last = c.scene;

@@ -5,13 +5,13 @@ use Rattle.std.proofs.lemmas.List.Elements.{All-head, All-tail, All-append}
 use Rattle.std.proofs.lemmas.List.{append-nil}
 use Rattle.std.specs.List.{AllZip, AllByRecursion, onto_first}
 use Rattle.std.proofs.KnownBytes.{Appends-trans, Appends-nil}
-use Rattle.vt_can.specs.lines.Line.{ReadsAs}
 use Rattle.vt_can.specs.lines.Readings.{FrameAt, OperatorAction, SkippedFrame, CommentLine}
 use Rattle.vt_logs.specs.declared.counts.Counts.{Counts}
 use Rattle.vt_logs.specs.Lines.{lines_of}
 use Rattle.vt_logs.specs.LineEffects.{ReplayState, TakesReading, TakesReadings}
 use Rattle.vt_logs.specs.Texts.{LineReading, with_line_counted, with_lines_counted}
 use Rattle.vt_logs.specs.Progress.{AtMost, ReplayPoint, Takes, TakesOne, HasNoNewline, TakesBytes}
+use Rattle.vt_recorded.specs.Readings.{IsReadingOf}
 use Rattle.vt_server.specs.shown.Screens.{IsScreenOf}
 
 -- ---- readings, one list after another
@@ -82,7 +82,7 @@ takes_drawn a b lines p drawn = readings_drawn a.scene b.scene a.counts.lines p.
 pub takes_none : (a : ReplayPoint) → Takes a [] a
 takes_none a = record { readings = []; read = tt; short = tt; printed = []; takes = (refl, refl); counts = refl; text = Appends-nil a.held }
 
-pub takes_one : (a b : ReplayPoint) (line : List ℕ) (r : LineReading) → ReadsAs line r → length line ≤ 4096 → TakesOne a r b → Takes a (line ∷ []) b
+pub takes_one : (a b : ReplayPoint) (line : List ℕ) (r : LineReading) → IsReadingOf line r → length line ≤ 4096 → TakesOne a r b → Takes a (line ∷ []) b
 takes_one a b line r reads short one = record {
   readings = r ∷ [];
   read = (reads, tt);
@@ -101,7 +101,7 @@ pub takes_more : (a b c : ReplayPoint) (xs ys : List (List ℕ)) → Takes a xs 
 takes_more a b c xs ys p q =
     let n = takes-lines a b xs p in record {
       readings = p.readings ++ q.readings;
-      read = AllZip-append ReadsAs xs p.readings ys q.readings p.read q.read;
+      read = AllZip-append IsReadingOf xs p.readings ys q.readings p.read q.read;
       short = All-joined (λ line. length line ≤ 4096) xs ys p.short q.short;
       printed = p.printed ++ q.printed;
       takes = readings-append a.scene b.scene c.scene a.counts.lines b.counts.lines p.readings q.readings p.printed q.printed p.takes n q.takes;
@@ -207,7 +207,7 @@ length-zip R (a ∷ xs) (b ∷ bs) p = ap suc (length-zip R xs bs p.1)
 pub takes-AtMost : (n : ℕ) (a b : ReplayPoint) (ls : List (List ℕ)) → Takes a ls b → AtMost n a.counts → AtMost (n + length ls) b.counts
 takes-AtMost n a b ls takes most =
     subst (AtMost (n + length ls)) (sym takes.counts)
-    (subst (λ (k : ℕ). AtMost (n + k) (with_lines_counted a.counts takes.readings)) (sym (length-zip ReadsAs ls takes.readings takes.read)) (AtMost-lines n a.counts takes.readings most))
+    (subst (λ (k : ℕ). AtMost (n + k) (with_lines_counted a.counts takes.readings)) (sym (length-zip IsReadingOf ls takes.readings takes.read)) (AtMost-lines n a.counts takes.readings most))
 
 -- Taking bytes adds at most one to each count for each byte.
 pub bytes-AtMost : (n k : ℕ) (a b : ReplayPoint) (before bytes pending : List ℕ) → TakesBytes a before bytes b pending → AtMost n a.counts → length bytes ≤ k → AtMost (n + k) b.counts

@@ -2,12 +2,12 @@
 use Rattle.std.specs.Prelude.{◌≡◌, ◌⊎◌, ◌≤◌, ℕ, ◌+◌, List, [], ◌∷◌, ◌++◌, length, Option}
 use Rattle.std.specs.List.{AllZip, AllByRecursion}
 use Rattle.std.specs.Io.KnownBytes.{Appends, Keeps}
-use Rattle.vt_can.specs.lines.Line.{ReadsAs}
 use Rattle.vt_logs.specs.Lines.{lines_of}
 use Rattle.vt_logs.specs.Progress.{ReplayPoint, Takes}
 use Rattle.vt_logs.specs.Replays.{HasLong, HasLongLine}
 use Rattle.vt_logs.specs.LineEffects.{ReplayState, Follows, TakesReading, TakesReadings}
 use Rattle.vt_logs.specs.Texts.{LineReading, with_lines_counted, no_counts, counts_text}
+use Rattle.vt_recorded.specs.Readings.{IsReadingOf}
 use Rattle.vt_server.specs.shown.Screens.{IsScreenOf}
 use Rattle.vt_server.specs.Terminals.{State}
 
@@ -50,7 +50,7 @@ pub record TakesNextInPart (from : ReplayState) (n : ℕ) (lines : List (List �
   pub after : List (List ℕ)
   pub reading : LineReading
   pub next : lines ≡ line ∷ after
-  pub read : ReadsAs line reading
+  pub read : IsReadingOf line reading
   pub short : length line ≤ 4096
   pub part : TakesInPart (Follows from.state reading) (TakesReading from n reading) now text
 
@@ -98,7 +98,7 @@ pub record StopsInLines (start : State) (input : List ℕ) (now : State) (old ne
   pub printed : List ℕ
   pub text : List ℕ
   pub whole : lines_of input ≡ front ++ back
-  pub read : AllZip ReadsAs front readings
+  pub read : AllZip IsReadingOf front readings
   pub short : AllByRecursion (λ line. length line ≤ 4096) front
   pub starts : first.state ≡ start
   pub shown : IsScreenOf start first.screen
@@ -115,7 +115,7 @@ HasStopped start input now old new = ((now ≡ start) × MayBegin (IsScreenOf st
 pub record HasStoppedAtLong (start : State) (input : List ℕ) (now : State) (old new : Option (List ℕ)) : Type 0 where
   pub long : HasLongLine input
   pub readings : List LineReading
-  pub read : AllZip ReadsAs long.before readings
+  pub read : AllZip IsReadingOf long.before readings
   pub short : AllByRecursion (λ line. length line ≤ 4096) long.before
   pub first : ReplayState
   pub last : ReplayState

@@ -2,13 +2,13 @@
 use Rattle.std.specs.Prelude.{◌≡◌, ◌≢◌, ◌⊎◌, ◌≤◌, Bool, true, ◌==◌, ◌+◌, ℕ, not, List, ◌++◌, length, Option}
 use Rattle.std.specs.List.{AllZip, AllByRecursion, AllPass}
 use Rattle.std.specs.Io.KnownBytes.{Appends}
-use Rattle.vt_can.specs.lines.Line.{ReadsAs}
 use Rattle.vt_logs.specs.declared.counts.Counts.{Counts}
 use Rattle.vt_logs.specs.declared.fault.ReplayFault.{ReplayFault}
 use Rattle.vt_logs.specs.declared.fault.ReplayFault.TheVariants.{Memory, TooLong, Write}
 use Rattle.vt_logs.specs.Lines.{lines_of}
 use Rattle.vt_logs.specs.LineEffects.{ReplayState, TakesReading, TakesReadings}
 use Rattle.vt_logs.specs.Texts.{LineReading, with_line_counted, with_lines_counted}
+use Rattle.vt_recorded.specs.Readings.{IsReadingOf}
 use Rattle.vt_server.specs.declared.terminal.Terminal.{Terminal}
 use Rattle.vt_server.specs.States.{state_of}
 
@@ -49,7 +49,7 @@ pub record TakesOne (from : ReplayPoint) (reading : LineReading) (to : ReplayPoi
 -- Lines are taken, one after the other.
 pub record Takes (from : ReplayPoint) (lines : List (List ℕ)) (to : ReplayPoint) : Type 0 where
   pub readings : List LineReading
-  pub read : AllZip ReadsAs lines readings
+  pub read : AllZip IsReadingOf lines readings
   pub short : AllByRecursion (λ line. length line ≤ 4096) lines
   pub printed : List ℕ
   pub takes : TakesReadings from.scene from.counts.lines readings to.scene printed

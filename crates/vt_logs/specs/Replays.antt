@@ -1,13 +1,13 @@
 -- The whole replay of a log, and the faults that may end it.
 use Rattle.std.specs.Prelude.{◌≡◌, ◌≢◌, ◌≤◌, ◌<◌, ℕ, Bool, true, List, ◌∷◌, ◌++◌, length, Option, IfSome}
 use Rattle.std.specs.List.{AllZip, AllByRecursion}
-use Rattle.vt_can.specs.lines.Line.{ReadsAs}
 use Rattle.vt_logs.specs.declared.counts.Counts.{Counts}
 use Rattle.vt_logs.specs.declared.fault.ReplayFault.{ReplayFault}
 use Rattle.vt_logs.specs.declared.fault.ReplayFault.TheVariants.{Memory, Read, TooLong, Write}
 use Rattle.vt_logs.specs.Lines.{lines_of}
 use Rattle.vt_logs.specs.LineEffects.{ReplayState, TakesReadings}
 use Rattle.vt_logs.specs.Texts.{LineReading, with_lines_counted, no_counts, counts_text}
+use Rattle.vt_recorded.specs.Readings.{IsReadingOf}
 use Rattle.vt_server.specs.shown.Screens.{IsScreenOf}
 use Rattle.vt_server.specs.Terminals.{State}
 
@@ -15,7 +15,7 @@ use Rattle.vt_server.specs.Terminals.{State}
 -- No line is longer than 4,096 bytes.
 pub record IsReplay (start : State) (input : List ℕ) (text : List ℕ) (counts : Counts) (now : State) : Type 0 where
   pub readings : List LineReading
-  pub read : AllZip ReadsAs (lines_of input) readings
+  pub read : AllZip IsReadingOf (lines_of input) readings
   pub short : AllByRecursion (λ line. length line ≤ 4096) (lines_of input)
   pub first : ReplayState
   pub last : ReplayState

@@ -4,6 +4,7 @@ ghost use Rattle.std.specs.Prelude.{◌≡◌, None, replicate};
 
 use std::fmt;
 use vt_can::LineFault;
+use vt_recorded::{Form, FormSentence, form_of};
 use vt_server::{OperatorFault, Output};
 
 /// The first faulty line of a log.
@@ -24,15 +25,25 @@ pub enum Hint {
     Binary,
     /// The line has the form that `candump` prints to a screen, and not that of a log.
     Candump,
-    /// `candump` put blanks before the name of an interface, to align it.
-    Padded,
+    /// The log is a file of another recorder, or begins with a byte order mark.
+    Form(Form),
     /// No blank follows the exclamation mark of an operator line.
     Unspaced,
 }
 
-impl fmt::Display for Hint {
+/// A likely cause of a faulty line in the log at a path, and its cure.
+#[derive(Clone, Copy)]
+pub struct HintSentence<'a> {
+    /// The likely cause.
+    pub hint: Hint,
+    /// The log's path.
+    pub path: &'a str,
+}
+
+impl fmt::Display for HintSentence<'_> {
     fn fmt<W: fmt::Write>(&self, f: &mut fmt::Formatter<W>) -> fmt::Result {
-        match self {
+        let path = self.path;
+        match self.hint {
             Hint::Binary => write!(
                 f,
                 "the line has bytes that are no text; an object pool is checked with --report"
@@ -43,12 +54,7 @@ impl fmt::Display for Hint {
                     "the line looks as candump prints it to a screen; candump -L prints a log"
                 )
             }
-            Hint::Padded => {
-                write!(
-                    f,
-                    "candump puts blanks before interface names of unequal lengths; docs/VT_REPLAY.md has a command that takes them out"
-                )
-            }
+            Hint::Form(form) => write!(f, "{}", FormSentence { form, path }),
             Hint::Unspaced => {
                 write!(
                     f,
@@ -102,7 +108,7 @@ impl Notes {
     /// Notes a faulty line, if it is the first.
     pub(crate) fn add_fault(&mut self, line: u64, fault: LineFault, text: &[u8]) {
         if self.first_fault.is_none() {
-            let hint = hint_of(fault, text);
+            let hint = hint_of(line, fault, text);
             self.first_fault = Some(FaultyLine { line, fault, hint });
         }
     }
@@ -135,7 +141,10 @@ impl Notes {
 }
 
 /// The likely cause of a faulty line.
-fn hint_of(fault: LineFault, line: &[u8]) -> Option<Hint> {
+fn hint_of(number: u64, fault: LineFault, line: &[u8]) -> Option<Hint> {
+    if let (1, Some(form)) = (number, form_of(line)) {
+        return Some(Hint::Form(form));
+    }
     if line.iter().any(|byte| !is_text(*byte)) {
         return Some(Hint::Binary);
     }
@@ -144,7 +153,6 @@ fn hint_of(fault: LineFault, line: &[u8]) -> Option<Hint> {
         LineFault::Time | LineFault::Shape if line.contains(&b'[') && line.contains(&b']') => {
             Some(Hint::Candump)
         }
-        LineFault::Shape if is_padded(line) => Some(Hint::Padded),
         _ => None,
     }
 }
@@ -152,12 +160,4 @@ fn hint_of(fault: LineFault, line: &[u8]) -> Option<Hint> {
 /// Whether a byte is text: 20 hex or above, a tab, a carriage return or an escape.
 fn is_text(byte: u8) -> bool {
     byte >= b' ' || matches!(byte, b'\t' | b'\r' | 0x1B)
-}
-
-/// Whether two blanks follow the time of a line.
-fn is_padded(line: &[u8]) -> bool {
-    match line.iter().position(|byte| *byte == b')') {
-        Some(index) => line[index..].starts_with(b")  "),
-        None => false,
-    }
 }

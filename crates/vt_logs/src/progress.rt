@@ -20,7 +20,8 @@ use arrayvec::ArrayVec;
 use memchr::memchr;
 use std::alloc::Global;
 use std::mem;
-use vt_can::{Line, LineFault, parse_line};
+use vt_can::{Line, LineFault};
+use vt_recorded::Reader;
 use vt_server::{Input, Output, Terminal};
 
 /// The longest line, without its newline.
@@ -29,6 +30,7 @@ const LONGEST: usize = 4096;
 /// The progress of a replay.
 #[derive(Drop)]
 pub struct Progress {
+    alloc: Global,
     /// The counts of the lines taken.
     pub counts: Counts,
     /// The bytes read of a line whose newline is still to come.
@@ -51,6 +53,7 @@ impl Progress {
         ensures screen { result.screen.items ≡ [] }
     {
         Progress {
+            alloc,
             counts: Counts::new(),
             pending: ArrayVec::new(),
             outputs: Vec::new(alloc),
@@ -198,7 +201,8 @@ impl Progress {
             (line.now ∷ []) (state_of terminal.new) (W.contents writer.new)) }
         ensures fault { IfErr result (IsStepFault W.steady) }
     {
-        let reading = parse_line(line);
+        let mut reader = Reader::new(self.alloc);
+        let reading = reader.read(line)?;
         if let Err(fault) = &reading {
             self.notes.add_fault(self.counts.lines + 1, *fault, line);
         }

@@ -1,2 +1,3 @@
-pub mod Forms
+pub mod FrameForms
 pub mod PlainReadings
+pub mod OneReading

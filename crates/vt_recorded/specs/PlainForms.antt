@@ -1,4 +1,4 @@
--- The plain form of a line: what `candump -L` writes for a frame that another way of recording wrote (docs/PROFILE.md, "Lines of
+-- The plain form of a line: what `candump -L` writes for a frame that was recorded in another way (docs/PROFILE.md, "Lines of
 -- other recorders").
 use Rattle.std.specs.Prelude.{ℕ, zero, suc, ◌==◌, ◌&&◌, not, Bool, false, if◌then◌else◌, unwrap_or, List, [], ◌∷◌, ◌++◌, length, take, drop, codes, position}
 
@@ -23,15 +23,6 @@ after_word text = drop (word_length (unpadded text)) (unpadded text)
 abbrev pub second_word : List ℕ → List ℕ
 second_word text = word (after_word text)
 
-abbrev pub third_word : List ℕ → List ℕ
-third_word text = word (after_word (after_word text))
-
-abbrev pub fourth_word : List ℕ → List ℕ
-fourth_word text = word (after_word (after_word (after_word text)))
-
-abbrev pub after_fourth_word : List ℕ → List ℕ
-after_fourth_word text = after_word (after_word (after_word (after_word text)))
-
 abbrev pub starts_with_byte : ℕ → List ℕ → Bool
 starts_with_byte byte [] = false
 starts_with_byte byte (first ∷ rest) = first == byte
@@ -53,15 +44,14 @@ data_form text = if starts_with_byte 114 (word text) then codes "R" else pairs 8
 abbrev pub is_of_fd : List ℕ → Bool
 is_of_fd word = length word == 4
 
--- The words behind the time and the interface: an ID, the number of bytes in brackets, and the bytes, as candump writes them; or a
--- frame, and perhaps the direction.
-unfoldable pub frame_form : List ℕ → List ℕ → List ℕ → List ℕ
-frame_form third fourth rest =
-    if starts_with_byte 91 fourth && is_of_fd fourth then third ++ codes "##"
-    else if starts_with_byte 91 fourth then third ++ codes "#" ++ data_form rest
-    else if length fourth == 0 then third
-    else third ++ codes " " ++ fourth
+-- The frame of a line, which begins behind its time and its interface: an ID, the number of bytes in brackets, and the bytes, as candump
+-- writes them; or the text as it stands.
+unfoldable pub frame_form : List ℕ → List ℕ
+frame_form text =
+    if not (starts_with_byte 91 (second_word text)) then text
+    else if is_of_fd (second_word text) then word text ++ codes "##"
+    else word text ++ codes "#" ++ data_form (after_word (after_word text))
 
 -- the plain form of a line that begins with a time
 abbrev pub plain_form : List ℕ → List ℕ
-plain_form line = word line ++ codes " " ++ second_word line ++ codes " " ++ frame_form (third_word line) (fourth_word line) (after_fourth_word line)
+plain_form line = word line ++ codes " " ++ second_word line ++ codes " " ++ frame_form (unpadded (after_word (after_word line)))

@@ -28,3 +28,7 @@ pub data IsReadingOf (line : List ℕ) : Result ParsedLine LineFault → Type 0 
   as_it_stands : (reading : Result ParsedLine LineFault) → ReadsAs line reading → is_of_form reading ≡ true → IsReadingOf line reading
   in_plain_form : (content : List ℕ) (first second : Result ParsedLine LineFault) → IsContent line content → ReadsAs line first → is_of_form first ≡ false
       → ReadsAs (plain_form content) second → IsReadingOf line (if is_of_frame second then second else first)
+
+-- The reading of a line is unique.
+abbrev pub ReadingsAreOne : Type 0
+ReadingsAreOne = (line : List ℕ) (a b : Result ParsedLine LineFault) → IsReadingOf line a → IsReadingOf line b → a ≡ b

@@ -1,17 +1,21 @@
 //! Lines of logs as other recorders write them.
 //!
-//! - `Reader` reads a line as `vt_can::parse_line` does. If the line does not have that form, it reads the frame in the line's plain form: single
-//!   spaces in place of several, as where `candump` pads the names of interfaces, and bytes joined, as where it writes
-//!   `18EEFF80   [8]  01 02`.
+//! - `Reader` reads a line as `vt_can::parse_line` does. If the line does not have that form, it reads the frame in the line's plain form:
+//!   single spaces around the interface, whose name `candump` may pad, and joined bytes in place of `18EEFF80   [8]  01 02`.
 //! - `interface_in` is the name of the interface in a line, and `is_of_interface` chooses the lines of one.
+//! - `form_of` recognises files of other recorders, and `FormSentence` says what makes a log of them.
+//! - `laws` has a theorem about the definitions in specs/: the reading of a line is unique.
 //!
 //! docs/PROFILE.md, "Lines of other recorders", has the forms.
 #![tactic(auto)]
 
+mod forms;
 mod interfaces;
+pub mod laws;
 mod plain;
 mod reader;
 mod words;
 
+pub use forms::{Form, FormSentence, form_of};
 pub use interfaces::{interface_in, is_of_interface};
 pub use reader::Reader;

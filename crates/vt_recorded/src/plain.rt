@@ -1,9 +1,9 @@
 //! The plain form of a line.
 
 ghost use Rattle.std.specs.Prelude.{◌≡◌, ◌++◌, OnOk};
-ghost use Rattle.vt_recorded.specs.PlainForms.{word, after_word, is_of_fd, is_pair, pairs, data_form, frame_form, plain_form};
+ghost use Rattle.vt_recorded.specs.PlainForms.{is_of_fd, is_pair, pairs, data_form, frame_form, plain_form};
 
-use crate::words::{next_word, starts_with};
+use crate::words::{next_word, starts_with, unpadded};
 use std::alloc::AllocError;
 
 /// Appends the plain form of a line.
@@ -16,30 +16,26 @@ pub(crate) fn put_plain_form(line: &[u8], plain: &mut Vec<u8>) -> Result<(), All
     plain.push(b' ')?;
     plain.extend_from_slice(interface)?;
     plain.push(b' ')?;
-    put_frame(rest, plain)
+    put_frame(unpadded(rest), plain)
 }
 
-/// Appends the frame behind the time and the interface.
+/// Appends the frame of a line, which begins behind its time and its interface.
 fn put_frame(text: &[u8], plain: &mut Vec<u8>) -> Result<(), AllocError>
-    ensures { OnOk result (plain.new.items ≡ plain.old.items ++ frame_form (word text.now) (word (after_word text.now)) (after_word (after_word text.now))) }
+    ensures { OnOk result (plain.new.items ≡ plain.old.items ++ frame_form text.now) }
 {
-    let (third, rest) = next_word(text);
-    let (fourth, rest) = next_word(rest);
-    plain.extend_from_slice(third)?;
-    if starts_with(b'[', fourth) {
-        plain.push(b'#')?;
-        if is_of_fd(fourth) {
-            plain.push(b'#')?;
-        } else {
-            put_data(rest, plain)?;
-        }
+    let (first, rest) = next_word(text);
+    let (second, rest) = next_word(rest);
+    if !starts_with(b'[', second) {
+        plain.extend_from_slice(text)?;
         return Ok(());
     }
-    if !fourth.is_empty() {
-        plain.push(b' ')?;
-        plain.extend_from_slice(fourth)?;
+    plain.extend_from_slice(first)?;
+    plain.push(b'#')?;
+    if is_of_fd(second) {
+        plain.push(b'#')?;
+        return Ok(());
     }
-    Ok(())
+    put_data(rest, plain)
 }
 
 /// Whether a number of bytes in brackets is that of a CAN FD frame, which has two digits.

@@ -23,7 +23,7 @@ pub(crate) fn next_word(text: &[u8]) -> (&[u8], &[u8])
 }
 
 /// A text without the spaces at its front.
-fn unpadded(text: &[u8]) -> &[u8]
+pub(crate) fn unpadded(text: &[u8]) -> &[u8]
     ensures { result.now ≡ unpadded text.now }
 {
     text.split_at(word_start(text)).1

@@ -7,7 +7,6 @@ use Rattle.vt_can.specs.declared.frames.frame.Frame.{Frame}
 use Rattle.vt_can.specs.lines.Actions.{ActionValue, Press, Release, Select, Number, Text, Set, action_value}
 use Rattle.vt_can.specs.declared.lines.line.Action.{Action}
 use Rattle.vt_can.specs.declared.lines.line.Action.TheVariants as actions
-use Rattle.vt_can.specs.lines.Line.{ReadsAs, ReadingsAreOne}
 use Rattle.vt_can.specs.lines.Readings.{ParsedLine, FrameAt, OperatorAction, SkippedFrame, CommentLine}
 use Rattle.vt_laws.specs.UniqueSteps.{StepsAreOne}
 use Rattle.vt_laws.specs.Headline.{Pools, ArePoolsInForce, IsPoolInForce, NeverSticks, accepted_after}
@@ -25,6 +24,7 @@ use Rattle.vt_program.specs.declared.options.Preload.{Preload}
 use Rattle.vt_replay_laws.specs.Certain.{AppendSame, IsKnown, IsPoolKnown, ReplaysAreOne}
 use Rattle.vt_replay_laws.specs.Promises.{given_pools}
 use Rattle.vt_program.specs.Runs.{FileContents, HasReplayed, IsPoolOf, IsPreloaded, IsStart, WritesReplay, new_state}
+use Rattle.vt_recorded.specs.Readings.{IsReadingOf, ReadingsAreOne}
 use Rattle.vt_replay_laws.proofs.Keeping.{start-in-force}
 use Rattle.vt_records.proofs.ReadInvertsWrite.{same_record}
 use Rattle.vt_server.specs.Judgements.{IsEventOf, IsJudgedRight}
@@ -78,7 +78,7 @@ pub record Laws : Type 0 where
 module _ (laws : Laws) where
   -- ---- readings
 
-  readings-one : (lines : List (List ℕ)) (rs qs : List LineReading) → AllZip ReadsAs lines rs → AllZip ReadsAs lines qs → rs ≡ qs
+  readings-one : (lines : List (List ℕ)) (rs qs : List LineReading) → AllZip IsReadingOf lines rs → AllZip IsReadingOf lines qs → rs ≡ qs
   readings-one [] [] [] p q = refl
   readings-one [] [] (r ∷ qs) p q = absurd q
   readings-one [] (r ∷ rs) qs p q = absurd p

@@ -22,7 +22,7 @@ pub fn replays_never_stick()
 pub fn replays_are_one()
     ensures { ReplaysAreOne }
 {
-    vt_can::laws::readings_are_one();
+    vt_recorded::laws::readings_are_one();
     vt_laws::steps_are_one();
     vt_laws::the_machine_never_sticks();
     vt_layout::laws::screens_are_one();

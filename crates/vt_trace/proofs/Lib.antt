@@ -1,4 +1,6 @@
+mod Differences
 mod NumberedLines
+mod OneDifference
 mod OutputLines
 mod PlainLines
 mod ScreenLines

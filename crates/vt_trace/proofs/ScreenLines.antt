@@ -1,133 +1,164 @@
--- The lines of a screen that another does not have.
-use Rattle.std.proofs.Common.{◌≡◌, ◌∙◌, ◌+◌, ◌<◌, ◌||◌, ℕ, Bool, true, false, not, cond, List, [], ◌∷◌, ◌++◌, length, get_or, map, take, codes, refl, sym, ap, append_assoc, append-nil, Bor}
-use Rattle.std.specs.BTreeSet.{BTreeSet, IsFromIterResult}
+-- The lines of a screen: where they are next, and where they are last.
+use Rattle.std.proofs.Common.{◌≡◌, ◌∙◌, ◌+◌, ◌-◌, ◌<◌, ◌≤◌, ◌||◌, ◌⊎◌, inl, inr, ℕ, suc, Bool, true, false, not, cond, nat_lt, List, [], ◌∷◌, ◌++◌, length, get_or, map, take, drop, Option, Some, None, refl, sym, ap, subst, Bor, arith}
+use Rattle.std.specs.BTreeMap.{BTreeMap, get, get_by, is_at}
 use Rattle.std.specs.Cmp.Lexicographic.{slice_cmp}
-use Rattle.std.specs.List.{filter, list_any}
-use Rattle.std.specs.Ordering.{eq_by_cmp, nat_cmp}
+use Rattle.std.specs.List.{position_or_len}
+use Rattle.std.specs.Ordering.{nat_cmp}
+use Rattle.std.specs.Prelude.{MatchOption, position, unwrap_or}
 use Rattle.std.specs.Set.{is_member}
 use Rattle.std.specs.Str.{bytes_eq}
 use Rattle.std.specs.declared.cmp.Ordering.{Ordering}
-use Rattle.std.proofs.lemmas.Grind.{flat_map-append}
-use Rattle.std.proofs.lemmas.List.{map-append, take_more}
-use Rattle.std.proofs.lemmas.List.Elements.{filter-append}
-use Rattle.std.proofs.lemmas.List.Folds.{list_any-append}
+use Rattle.std.proofs.Math.Seq.{get_or-append_seam, take-length}
+use Rattle.std.proofs.lemmas.List.{drop-map, get_or-drop, get_or_append_left, length-append, length-drop, length-map, length-take-le, map-append, take-map, take_more}
 use Rattle.std.proofs.lemmas.Map.Text.{is_eq-slice_cmp}
 use Rattle.std.proofs.lemmas.Slice.Eq.{bytes_eq-Decides}
-use Rattle.std.proofs.Math.Bool.{or-true}
-use Rattle.vt_logs.specs.Texts.{newline}
-use Rattle.vt_trace.specs.Changes.{IsSetOf, changes, lines_beyond, lines_in, marked}
-use Rattle.vt_trace.specs.Lines.{dotted}
-
--- ---- sets of lines
+use Rattle.vt_trace.specs.Changes.{AreLastPlaces, IsNext}
 
 abbrev pub line_of : Bor (List ℕ) → List ℕ
 line_of line = line.now
+
+-- ---- the next place
+
+-- the answer of a search, and what is known of it
+abbrev Found : List ℕ → List (List ℕ) → Option ℕ → Type 0
+Found line lines found = MatchOption found (is_member bytes_eq lines line ≡ false) (IsNext line lines)
+
+next_behind : (line first : List ℕ) (rest : List (List ℕ)) (n : ℕ) (c : Bool) → bytes_eq line first ≡ false
+    → Found line rest (cond c (Some n) None) → Found line (first ∷ rest) (cond c (Some (suc n)) None)
+next_behind line first rest n true other found =
+    (found.0, ap (λ (ls : List (List ℕ)). first ∷ ls) found.1, ap (λ (b : Bool). b || is_member bytes_eq (take n rest) line) other ∙ found.2)
+next_behind line first rest n false other absent = ap (λ (b : Bool). b || is_member bytes_eq rest line) other ∙ absent
+
+one_more : (n len : ℕ) → nat_lt (1 + n) (suc len) ≡ nat_lt n len
+one_more n len = grind arith
+
+none_before : (len : ℕ) → nat_lt 0 (suc len) ≡ true
+none_before len = grind arith
+
+abbrev some_below : ℕ → ℕ → Option ℕ
+some_below m len = cond (nat_lt m len) (Some m) None
+
+-- where a line is next among others
+abbrev pub next_of : List ℕ → List (Bor (List ℕ)) → Option ℕ
+next_of line lines = position (λ (other : Bor (List ℕ)). bytes_eq line other.now) lines
+
+next_by_case : (line : List ℕ) (first : Bor (List ℕ)) (rest : List (Bor (List ℕ))) (b : Bool) → bytes_eq line first.now ≡ b → Found line (map line_of rest) (next_of line rest)
+    → Found line (map line_of (first ∷ rest)) (next_of line (first ∷ rest))
+next_by_case line first rest true same found =
+    let here : line ≡ first.now = (bytes_eq-Decides line first.now).0 same in
+    let is : next_of line (first ∷ rest) ≡ Some 0 =
+    ap (λ (b : Bool). some_below (cond (not b) (1 + position_or_len (λ (other : Bor (List ℕ)). bytes_eq line other.now) rest) 0) (length (first ∷ rest))) same
+    ∙ ap (λ (c : Bool). cond c (Some 0) None) (none_before (length rest)) in
+    subst (Found line (map line_of (first ∷ rest))) (sym is) (map line_of rest, ap (λ (l : List ℕ). l ∷ map line_of rest) (sym here), refl)
+next_by_case line first rest false other found =
+    let n = position_or_len (λ (other : Bor (List ℕ)). bytes_eq line other.now) rest in
+    let more : suc n ≡ 1 + n = omega arith in
+    let is : next_of line (first ∷ rest) ≡ cond (nat_lt n (length rest)) (Some (1 + n)) None =
+    ap (λ (b : Bool). some_below (cond (not b) (1 + n) 0) (length (first ∷ rest))) other ∙ ap (λ (c : Bool). cond c (Some (1 + n)) None) (one_more n (length rest)) in
+    subst (Found line (map line_of (first ∷ rest))) (sym is) (subst (λ (m : ℕ). Found line (map line_of (first ∷ rest)) (cond (nat_lt n (length rest)) (Some m) None)) more
+    (next_behind line first.now (map line_of rest) n (nat_lt n (length rest)) other found))
+
+found_next : (line : List ℕ) (lines : List (Bor (List ℕ))) → Found line (map line_of lines) (next_of line lines)
+found_next line [] = refl
+found_next line (first ∷ rest) = next_by_case line first rest (bytes_eq line first.now) refl (found_next line rest)
+
+-- The same from a place on.
+pub finds_next : (line : List ℕ) (lines : List (Bor (List ℕ))) (from : ℕ) (found : Option ℕ) → found ≡ next_of line (drop from lines) → Found line (drop from (map line_of lines)) found
+finds_next line lines from found is =
+    subst (λ (ls : List (List ℕ)). Found line ls found) (sym (drop-map line_of from lines)) (subst (Found line (map line_of (drop from lines))) (sym is) (found_next line (drop from lines)))
+
+-- the lines from a place on, as a slice of them
+pub from_slice : (lines : List (Bor (List ℕ))) (from : ℕ) → take (length lines - from) (drop from lines) ≡ drop from lines
+from_slice lines from = ap (λ (n : ℕ). take n (drop from lines)) (sym (length-drop from lines)) ∙ take-length (drop from lines)
+
+-- The lines of a slice are a part of the lines.
+pub part_lines : (lines : List (Bor (List ℕ))) (from n m : ℕ) → n ≡ m → map line_of (take n (drop from lines)) ≡ take m (drop from (map line_of lines))
+part_lines lines from n m same =
+    sym (take-map line_of n (drop from lines)) ∙ ap (take n) (sym (drop-map line_of from lines)) ∙ ap (λ (k : ℕ). take k (drop from (map line_of lines))) same
+
+pub rest_lines : (lines : List (Bor (List ℕ))) (from : ℕ) → map line_of (take (length lines - from) (drop from lines)) ≡ drop from (map line_of lines)
+rest_lines lines from = ap (map line_of) (from_slice lines from) ∙ sym (drop-map line_of from lines)
+
+-- ---- the last places
 
 -- the order of lines behind references
 abbrev pub line_cmp : Bor (List ℕ) → Bor (List ℕ) → Ordering
 line_cmp a b = slice_cmp nat_cmp a.now b.now
 
--- A list of references has a line exactly if the list of their lines has it.
-member_of_lines : (lines : List (Bor (List ℕ))) (line : Bor (List ℕ)) → is_member (eq_by_cmp line_cmp) lines line ≡ is_member bytes_eq (map line_of lines) line.now
-member_of_lines [] line = refl
-member_of_lines (first ∷ rest) line =
-    ap (λ (b : Bool). b || is_member (eq_by_cmp line_cmp) rest line) (is_eq-slice_cmp line.now first.now)
-    ∙ ap (λ (b : Bool). bytes_eq line.now first.now || b) (member_of_lines rest line)
+member_by_case : (line first : List ℕ) (rest : List (List ℕ)) (b : Bool) → bytes_eq line first ≡ b → (b || is_member bytes_eq rest line) ≡ true
+    → (is_member bytes_eq rest line ≡ true → (k : ℕ) × (k < length rest) × (get_or rest k [] ≡ line))
+    → (k : ℕ) × (k < length (first ∷ rest)) × (get_or (first ∷ rest) k [] ≡ line)
+member_by_case line first rest true same is later = (0, omega arith, sym ((bytes_eq-Decides line first).0 same))
+member_by_case line first rest false other is later = let at = later is in (suc at.0, (let below = at.1 in omega arith), at.2)
 
--- A set that is made from references finds exactly their lines.
-pub set_of_lines : (lines : List (Bor (List ℕ))) (set : BTreeSet (Bor (List ℕ))) → IsFromIterResult line_cmp lines set → IsSetOf (map line_of lines) set
-set_of_lines lines set made line =
-    let query : Bor (List ℕ) = record { ref_ptr = (0, 0); now = line } in
-    made.0 query ∙ member_of_lines lines query
+-- A member has a place.
+member_place : (line : List ℕ) (lines : List (List ℕ)) → is_member bytes_eq lines line ≡ true → (k : ℕ) × (k < length lines) × (get_or lines k [] ≡ line)
+member_place line [] is = absurd cc
+member_place line (first ∷ rest) is = member_by_case line first rest (bytes_eq line first) refl is (member_place line rest)
 
--- ---- one more line
+-- A line whose last place is before another is not behind that.
+absent_by_case : (line : List ℕ) (lines : List (List ℕ)) (from : ℕ) (b : Bool) → is_member bytes_eq (drop from lines) line ≡ b
+    → ((k : ℕ) → k < length lines → get_or lines k [] ≡ line → k < from) → b ≡ false
+absent_by_case line lines from true is before =
+    let at = member_place line (drop from lines) is in
+    let below : at.0 < length (drop from lines) = at.1 in
+    let len : length (drop from lines) ≡ length lines - from = length-drop from lines in
+    let place : get_or lines (from + at.0) [] ≡ line = sym (get_or-drop from lines at.0 []) ∙ at.2 in
+    let never : from + at.0 < from = before (from + at.0) (omega (arith, below, len)) place in
+    absurd (omega (arith, never))
+absent_by_case line lines from false is before = refl
 
--- what a line adds, which others have or not
-abbrev added : List ℕ → List ℕ → Bool → List ℕ
-added mark line has = cond has [] (mark ++ dotted line ++ newline)
+pub absent : (line : List ℕ) (lines : List (List ℕ)) (from : ℕ) → ((k : ℕ) → k < length lines → get_or lines k [] ≡ line → k < from) → is_member bytes_eq (drop from lines) line ≡ false
+absent line lines from before = absent_by_case line lines from (is_member bytes_eq (drop from lines) line) refl before
 
-marked_one : (mark line : List ℕ) (has : Bool) → marked mark (cond (not has) (line ∷ []) []) ≡ added mark line has
-marked_one mark line true = refl
-marked_one mark line false = append-nil (mark ++ dotted line ++ newline)
+-- No line is found in the map, or one before the place.
+pub absent_without : (line : List ℕ) (lines : List (List ℕ)) (from : ℕ) (places : BTreeMap (Bor (List ℕ)) ℕ) → AreLastPlaces lines places
+    → get_by (λ (key : Bor (List ℕ)). slice_cmp nat_cmp line key.now) places ≡ None → is_member bytes_eq (drop from lines) line ≡ false
+absent_without line lines from places known none =
+    absent line lines from (λ k below is. let last = known line k below is in absurd (let has = last.1 in cc))
 
--- The marked lines that others do not have, and then what one more line adds.
-marked_next : (mark : List ℕ) (others lines : List (List ℕ)) (line : List ℕ)
-    → marked mark (lines_beyond others (lines ++ line ∷ [])) ≡ marked mark (lines_beyond others lines) ++ added mark line (is_member bytes_eq others line)
-marked_next mark others lines line =
-    let test : List ℕ → Bool = λ (l : List ℕ). not (is_member bytes_eq others l) in
-    let put : List ℕ → List ℕ = λ (l : List ℕ). mark ++ dotted l ++ newline in
-    ap (marked mark) (filter-append test lines (line ∷ []))
-    ∙ flat_map-append put (filter test lines) (filter test (line ∷ []))
-    ∙ ap (λ ls. marked mark (filter test lines) ++ ls) (marked_one mark line (is_member bytes_eq others line))
+pub absent_before : (line : List ℕ) (lines : List (List ℕ)) (from last : ℕ) (places : BTreeMap (Bor (List ℕ)) ℕ) → AreLastPlaces lines places
+    → get_by (λ (key : Bor (List ℕ)). slice_cmp nat_cmp line key.now) places ≡ Some last → last < from → is_member bytes_eq (drop from lines) line ≡ false
+absent_before line lines from last places known has before =
+    absent line lines from (λ k below is. let at = known line k below is in
+    let same : at.0 ≡ last = ap (λ (o : Option ℕ). unwrap_or o 0) (sym at.1 ∙ has) in
+    let most : k ≤ at.0 = at.2 in omega (arith, same, most, before))
 
--- the lines up to a place, and the one at it
-lines_next : (lines : List (Bor (List ℕ))) (i : ℕ) (d : Bor (List ℕ)) → i < length lines → map line_of (take (i + 1) lines) ≡ map line_of (take i lines) ++ (get_or lines i d).now ∷ []
-lines_next lines i d below = ap (map line_of) (take_more lines i d below) ∙ map-append line_of (take i lines) (get_or lines i d ∷ [])
+-- ---- a map that gains a line at its place
 
--- A text that has gained the marked lines up to a place gains what the line at it adds.
-gains_next : (mark : List ℕ) (others : List (List ℕ)) (lines : List (Bor (List ℕ))) (i : ℕ) (d : Bor (List ℕ)) (start a b : List ℕ) (has : Bool) → i < length lines
-    → has ≡ is_member bytes_eq others (get_or lines i d).now → a ≡ start ++ marked mark (lines_beyond others (map line_of (take i lines)))
-    → b ≡ a ++ added mark (get_or lines i d).now has → b ≡ start ++ marked mark (lines_beyond others (map line_of (take (i + 1) lines)))
-gains_next mark others lines i d start a b has below is_has before more =
+inside_or_at : (k n : ℕ) (b : Bool) → nat_lt k n ≡ b → k < n + 1 → (k < n) ⊎ (k ≡ n)
+inside_or_at k n true is below = inl (grind (arith, is))
+inside_or_at k n false is below = inr (grind (arith, is, below))
+
+gains_by_case : (line q : List ℕ) (lines : List (List ℕ)) (k : ℕ) (b : Bool) (old new : Option ℕ) → bytes_eq line q ≡ b → new ≡ cond b (Some (length lines)) old
+    → k < length (lines ++ line ∷ []) → get_or (lines ++ line ∷ []) k [] ≡ q
+    → (k < length lines → get_or lines k [] ≡ q → (last : ℕ) × (old ≡ Some last) × (k ≤ last)) → (last : ℕ) × (new ≡ Some last) × (k ≤ last)
+gains_by_case line q lines k true old new same is below at before =
+    let len : length (lines ++ line ∷ []) ≡ length lines + 1 = length-append lines (line ∷ []) in
+    (length lines, is, omega (arith, below, len))
+gains_by_case line q lines k false old new other is below at before =
+    let len : length (lines ++ line ∷ []) ≡ length lines + 1 = length-append lines (line ∷ []) in
+    elim (inside_or_at k (length lines) (nat_lt k (length lines)) refl (omega (arith, below, len))) [
+      | inl inside ↦ let earlier = before inside (sym (get_or_append_left lines (line ∷ []) [] k inside) ∙ at) in (earlier.0, is ∙ earlier.1, earlier.2)
+      | inr here ↦
+          let same : line ≡ q = sym (get_or-append_seam lines line [] []) ∙ ap (λ (n : ℕ). get_or (lines ++ line ∷ []) n []) (sym here) ∙ at in
+          let true_too : bytes_eq line q ≡ true = (bytes_eq-Decides line q).1 same in
+          absurd cc
+    ]
+
+-- Each line up to a place is at its last place in a map, also when the line at it is inserted.
+pub gains_place : (lines : List (Bor (List ℕ))) (i : ℕ) (d : Bor (List ℕ)) (old new : BTreeMap (Bor (List ℕ)) ℕ) → i < length lines → AreLastPlaces (map line_of (take i lines)) old
+    → ((q : Bor (List ℕ)) → get line_cmp new q ≡ cond (is_at (line_cmp (get_or lines i d)) q) (Some i) (get line_cmp old q)) → AreLastPlaces (map line_of (take (i + 1) lines)) new
+gains_place lines i d old new inside known inserted =
+    let before : List (List ℕ) = map line_of (take i lines) in
     let line : List ℕ = (get_or lines i d).now in
-    let so_far : List ℕ = marked mark (lines_beyond others (map line_of (take i lines))) in
-    more
-    ∙ ap (λ t. t ++ added mark line has) before
-    ∙ append_assoc start so_far (added mark line has)
-    ∙ ap (λ h. start ++ (so_far ++ added mark line h)) is_has
-    ∙ ap (λ t. start ++ t) (sym (marked_next mark others (map line_of (take i lines)) line))
-    ∙ ap (λ ls. start ++ marked mark (lines_beyond others ls)) (sym (lines_next lines i d below))
-
--- The same where others have the line, and where they have not.
-pub passes_line : (mark : List ℕ) (others : List (List ℕ)) (lines : List (Bor (List ℕ))) (i : ℕ) (d : Bor (List ℕ)) (start a b : List ℕ) → i < length lines
-    → true ≡ is_member bytes_eq others (get_or lines i d).now → a ≡ start ++ marked mark (lines_beyond others (map line_of (take i lines)))
-    → b ≡ a → b ≡ start ++ marked mark (lines_beyond others (map line_of (take (i + 1) lines)))
-passes_line mark others lines i d start a b below has before same = gains_next mark others lines i d start a b true below has before (same ∙ sym (append-nil a))
-
-pub gains_line : (mark : List ℕ) (others : List (List ℕ)) (lines : List (Bor (List ℕ))) (i : ℕ) (d : Bor (List ℕ)) (start a b : List ℕ) → i < length lines
-    → false ≡ is_member bytes_eq others (get_or lines i d).now → a ≡ start ++ marked mark (lines_beyond others (map line_of (take i lines)))
-    → b ≡ a ++ mark ++ dotted (get_or lines i d).now ++ newline → b ≡ start ++ marked mark (lines_beyond others (map line_of (take (i + 1) lines)))
-gains_line mark others lines i d start a b below has before more =
-    gains_next mark others lines i d start a b false below has before (more ∙ regroup a mark (dotted (get_or lines i d).now) newline)
+    let len : length before ≡ i = length-map (take i lines) line_of ∙ length-take-le i lines (omega (arith, inside)) in
+    subst (λ (ls : List (List ℕ)). AreLastPlaces ls new) (sym (map_line_next lines i d inside))
+    (λ q k below at.
+    let query : Bor (List ℕ) = record { ref_ptr = (0, 0); now = q } in
+    gains_by_case line q before k (bytes_eq line q) (get line_cmp old query) (get line_cmp new query) refl
+    (inserted query ∙ ap (λ (b : Bool). cond b (Some i) (get line_cmp old query)) (is_eq-slice_cmp line q) ∙ ap (λ (n : ℕ). cond (bytes_eq line q) (Some n) (get line_cmp old query)) (sym len))
+    below at (known q k))
   where
-    regroup : (a b c d : List ℕ) → a ++ b ++ c ++ d ≡ a ++ (b ++ c ++ d)
-    regroup a b c d = ap (λ t. t ++ d) (append_assoc a b c) ∙ append_assoc a (b ++ c) d
-
--- ---- the changes
-
-bytes_eq_itself : (line : List ℕ) → bytes_eq line line ≡ true
-bytes_eq_itself line = (bytes_eq-Decides line line).1 refl
-
-member_of_own : (before after : List (List ℕ)) (line : List ℕ) → is_member bytes_eq (before ++ line ∷ after) line ≡ true
-member_of_own before after line =
-    list_any-append (bytes_eq line) before (line ∷ after)
-    ∙ ap (λ (b : Bool). list_any (bytes_eq line) before || (b || list_any (bytes_eq line) after)) (bytes_eq_itself line)
-    ∙ or-true (list_any (bytes_eq line) before)
-
--- Lines have no lines beyond themselves.
-beyond_own : (before lines : List (List ℕ)) → lines_beyond (before ++ lines) lines ≡ []
-beyond_own before [] = refl
-beyond_own before (line ∷ lines) =
-    ap (λ (has : Bool). cond (not has) (line ∷ lines_beyond (before ++ line ∷ lines) lines) (lines_beyond (before ++ line ∷ lines) lines)) (member_of_own before lines line)
-    ∙ ap (λ ls. lines_beyond ls lines) (sym (append_assoc before (line ∷ []) lines))
-    ∙ beyond_own (before ++ line ∷ []) lines
-
--- A screen does not change into itself.
-pub no_changes : (screen : List ℕ) → changes screen screen ≡ []
-no_changes screen = ap (λ ls. marked (codes "  - ") ls ++ marked (codes "  + ") ls) (beyond_own [] (lines_in screen))
-
--- A text gains the lines that go, and then those that come.
-pub gains_changes : (old new a b c : List ℕ) (olds news olds_again news_again : List (List ℕ)) → olds ≡ lines_in old → news ≡ lines_in new → olds_again ≡ lines_in old → news_again ≡ lines_in new
-    → b ≡ a ++ marked (codes "  - ") (lines_beyond news olds) → c ≡ b ++ marked (codes "  + ") (lines_beyond olds_again news_again) → c ≡ a ++ changes old new
-gains_changes old new a b c olds news olds_again news_again is_old is_new is_old_again is_new_again first second =
-    let go : List ℕ = marked (codes "  - ") (lines_beyond (lines_in new) (lines_in old)) in
-    let come : List ℕ = marked (codes "  + ") (lines_beyond (lines_in old) (lines_in new)) in
-    second
-    ∙ ap (λ ls. b ++ marked (codes "  + ") (lines_beyond ls news_again)) is_old_again
-    ∙ ap (λ ls. b ++ marked (codes "  + ") (lines_beyond (lines_in old) ls)) is_new_again
-    ∙ ap (λ t. t ++ come) (first ∙ ap (λ ls. a ++ marked (codes "  - ") (lines_beyond ls olds)) is_new ∙ ap (λ ls. a ++ marked (codes "  - ") (lines_beyond (lines_in new) ls)) is_old)
-    ∙ append_assoc a go come
-
--- A text gains nothing where a screen stays.
-pub gains_no_change : (text screen : List ℕ) → text ≡ text ++ changes screen screen
-gains_no_change text screen = sym (ap (λ t. text ++ t) (no_changes screen) ∙ append-nil text)
+    map_line_next : (lines : List (Bor (List ℕ))) (i : ℕ) (d : Bor (List ℕ)) → i < length lines → map line_of (take (i + 1) lines) ≡ map line_of (take i lines) ++ (get_or lines i d).now ∷ []
+    map_line_next lines i d below = ap (map line_of) (take_more lines i d below) ∙ map-append line_of (take i lines) (get_or lines i d ∷ [])

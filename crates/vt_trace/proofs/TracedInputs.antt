@@ -13,10 +13,10 @@ use Rattle.vt_server.specs.Terminals.{State}
 use Rattle.vt_server.specs.declared.input.Input.{Input}
 use Rattle.vt_server.specs.declared.output.Output.{Output}
 use Rattle.vt_server.specs.shown.Screens.{IsScreenOf}
-use Rattle.vt_trace.specs.Changes.{changes}
+use Rattle.vt_trace.specs.Changes.{AreScreenChanges, lines_in}
 use Rattle.vt_trace.specs.Lines.{Gains}
 use Rattle.vt_trace.specs.Traces.{AreOutputLines, IsHead, IsHeadOf, TracesInput, TracesLine}
-use Rattle.vt_trace.proofs.ScreenLines.{no_changes}
+use Rattle.vt_trace.proofs.OneDifference.{own_changes}
 
 -- what follows from two facts on a success
 pub on_ok_both : {T E P Q R : Type 0} (r : Result T E) → (P → Q → R) → OnOk r P → OnOk r Q → OnOk r R
@@ -27,18 +27,20 @@ on_ok_both (Err e) f p q = tt
 
 -- A text gains the lines of the outputs at an input, and then the changes.
 pub gains_input : (from to : State) (input : Input) (before sent : List Output) (old new a b c : List ℕ) → before ≡ [] → TakesInput from input to before sent
-    → Gains (AreOutputLines sent) a b → (IsScreenOf from old → IsScreenOf to new) → c ≡ b ++ changes old new → Gains (TracesInput from (input_line input) to old new) a c
+    → Gains (AreOutputLines sent) a b → (IsScreenOf from old → IsScreenOf to new) → Gains (AreScreenChanges old new) b c → Gains (TracesInput from (input_line input) to old new) a c
 gains_input from to input before sent old new a b c none taken answers screen gained = record {
-  part = answers.part ++ changes old new;
+  part = answers.part ++ gained.part;
   part_is = record {
     sent = sent;
     answers = answers.part;
+    changes = gained.part;
     takes = input_sends from to input before sent none taken;
     answers_are = answers.part_is;
     screen = screen;
+    changes_are = gained.part_is;
     whole = refl;
   };
-  whole = gained ∙ ap (λ t. t ++ changes old new) answers.whole ∙ append_assoc a answers.part (changes old new);
+  whole = gained.whole ∙ ap (λ t. t ++ gained.part) answers.whole ∙ append_assoc a answers.part gained.part;
 }
 
 -- ---- lines
@@ -53,11 +55,13 @@ gains_line n from to line reading old new a b c sends heads h i = record {
     sent = i.part_is.sent;
     head = h.part;
     answers = i.part_is.answers;
+    changes = i.part_is.changes;
     takes = sends i.part_is.sent i.part_is.takes;
     head_is = heads h.part h.part_is;
     answers_are = i.part_is.answers_are;
     screen = i.part_is.screen;
-    whole = ap (λ t. h.part ++ t) i.part_is.whole ∙ sym (append_assoc h.part i.part_is.answers (changes old new));
+    changes_are = i.part_is.changes_are;
+    whole = ap (λ t. h.part ++ t) i.part_is.whole ∙ sym (append_assoc h.part i.part_is.answers i.part_is.changes);
   };
   whole = i.whole ∙ ap (λ t. t ++ i.part) h.whole ∙ append_assoc a h.part i.part;
 }
@@ -84,11 +88,13 @@ traced_alone n s reading screen head sends is = record {
   sent = [];
   head = head;
   answers = [];
+  changes = [];
   takes = sends;
   head_is = is;
   answers_are = record { lines = []; each = tt; whole = refl };
   screen = λ is_screen. is_screen;
-  whole = sym (ap (λ t. head ++ [] ++ t) (no_changes screen) ∙ append-nil (head ++ []) ∙ append-nil head);
+  changes_are = own_changes (lines_in screen);
+  whole = sym (append-nil (head ++ []) ∙ append-nil head);
 }
 
 pub gains_skipped_line : (n : ℕ) (s : State) (why : Skipped) (screen a b : List ℕ) → Gains (IsHead n) a b

@@ -10,7 +10,7 @@ use Rattle.vt_server.specs.Terminals.{State}
 use Rattle.vt_server.specs.declared.output.Output.{Output}
 use Rattle.vt_server.specs.declared.output.Output.TheVariants as outputs
 use Rattle.vt_server.specs.shown.Screens.{IsScreenOf}
-use Rattle.vt_trace.specs.Changes.{changes}
+use Rattle.vt_trace.specs.Changes.{AreScreenChanges}
 use Rattle.vt_trace.specs.Lines.{HasNoNewline, joined}
 use Rattle.vt_trace.specs.declared.tracer.Tracer.{Tracer}
 
@@ -49,14 +49,16 @@ IsHeadOf number _ head = IsHead number head
 
 -- ---- a line
 
--- The terminal takes the input of a line, and its outputs are told, and how its screen changes from the old text to the new one.
+-- The terminal takes the input of a line. The trace has its outputs and the changes of its screen from the old text to the new one.
 pub record TracesInput (from : State) (line : ParsedLine) (to : State) (old new added : List ℕ) : Type 0 where
   pub sent : List Output
   pub answers : List ℕ
+  pub changes : List ℕ
   pub takes : SendsByInput from line to sent
   pub answers_are : AreOutputLines sent answers
   pub screen : IsScreenOf from old → IsScreenOf to new
-  pub whole : added ≡ answers ++ changes old new
+  pub changes_are : AreScreenChanges old new changes
+  pub whole : added ≡ answers ++ changes
 
 -- A line of a number is taken, and its trace is a head, the lines of the terminal's outputs, and the changes of the screen from the old
 -- text to the new one. If the old text is that of the screen before the line, the new one is that of the screen after it.
@@ -64,11 +66,13 @@ pub record TracesLine (number : ℕ) (from : State) (reading : LineReading) (to 
   pub sent : List Output
   pub head : List ℕ
   pub answers : List ℕ
+  pub changes : List ℕ
   pub takes : Sends from reading to sent
   pub head_is : IsHeadOf number reading head
   pub answers_are : AreOutputLines sent answers
   pub screen : IsScreenOf from old → IsScreenOf to new
-  pub whole : added ≡ head ++ answers ++ changes old new
+  pub changes_are : AreScreenChanges old new changes
+  pub whole : added ≡ head ++ answers ++ changes
 
 -- the text of the screen after the last line
 abbrev pub screen_in : Tracer → List ℕ

@@ -1,13 +1,15 @@
 //! Logs as support staff read them: each line in words, what the terminal answers, and what changes on its screen.
 //!
 //! A `Tracer` gives the lines of a log to a terminal, one after the other, and appends their trace to a text: a line for the line
-//! itself, a line for each output, and the lines of the screen that have gone and come. It puts messages in packets together.
+//! itself, a line for each output, and the difference of the screen's lines. It puts messages in packets together. `laws` has
+//! theorems about such differences.
 //!
 //! docs/PROFILE.md, "Traces", has the lines.
 #![tactic(auto)]
 
 mod changes;
 mod heads;
+pub mod laws;
 mod lines;
 mod outputs;
 mod tracer;

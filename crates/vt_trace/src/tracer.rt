@@ -6,7 +6,7 @@ ghost use Rattle.vt_logs.specs.LineEffects.{input_line};
 ghost use Rattle.vt_server.specs.States.{state_of};
 ghost use Rattle.vt_server.specs.Terminals.{State};
 ghost use Rattle.vt_server.specs.shown.Screens.{IsScreenOf, KeepsScreen, redraws};
-ghost use Rattle.vt_trace.specs.Changes.{changes};
+ghost use Rattle.vt_trace.specs.Changes.{AreScreenChanges};
 ghost use Rattle.vt_trace.specs.Lines.{Gains};
 ghost use Rattle.vt_trace.specs.Traces.{TracesInput, TracesLine, screen_in};
 
@@ -166,7 +166,7 @@ impl<'a> Tracer<'a> {
 
     /// Appends the changes of the screen since the last line.
     fn put_new_screen(&mut self, terminal: &Terminal, text: &mut Vec<u8>) -> Result<(), AllocError>
-        ensures changes { OnOk result (text.new.items ≡ text.old.items ++ changes (screen_in self.old) (screen_in self.new)) }
+        ensures changes { OnOk result (Gains (AreScreenChanges (screen_in self.old) (screen_in self.new)) text.old.items text.new.items) }
         ensures screen { OnOk result ((before : State) → (redraws terminal.now ≡ false → KeepsScreen before (state_of terminal.now))
             → IsScreenOf before (screen_in self.old) → IsScreenOf (state_of terminal.now) (screen_in self.new)) }
     {

@@ -1,7 +1,7 @@
 use Rattle.std.proofs.Common.{rules, arith}
 use Rattle.std.proofs.lemmas.Grind.{common_steps}
 use Rattle.vt_recorded.specs.PlainForms.{pairs}
-use Rattle.vt_recorded.proofs.Forms.{more_pairs, no_pairs}
+use Rattle.vt_recorded.proofs.FrameForms.{more_pairs, no_pairs}
 use Rattle.vt_recorded.proofs.plain.+put_pairs.Goals as goal
 
 pub returns-then-most-eq0 : goal.returns-then-most-eq0

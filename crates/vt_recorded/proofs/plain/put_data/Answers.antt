@@ -1,6 +1,6 @@
 use Rattle.std.proofs.Common.{arith}
 use Rattle.std.proofs.lemmas.Grind.{common_steps}
-use Rattle.vt_recorded.proofs.Forms.{remote_form, bytes_form}
+use Rattle.vt_recorded.proofs.FrameForms.{remote_form, bytes_form}
 use Rattle.vt_recorded.proofs.plain.put_data.Goals as goal
 
 pub returns-then-starts_with : goal.returns-then-starts_with

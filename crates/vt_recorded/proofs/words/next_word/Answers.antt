@@ -1,5 +1,5 @@
 use Rattle.std.proofs.Common.{rules}
-use Rattle.vt_recorded.proofs.Forms.{word_is, after_word_is}
+use Rattle.vt_recorded.proofs.FrameForms.{word_is, after_word_is}
 use Rattle.vt_recorded.proofs.words.next_word.Goals as goal
 
 pub returns-clause-word : goal.returns-clause-word

@@ -1,5 +1,5 @@
 use Rattle.vt_trace.specs.Traces.{screen_in}
-use Rattle.vt_trace.proofs.ScreenLines.{gains_no_change}
+use Rattle.vt_trace.proofs.OneDifference.{gains_no_change}
 use Rattle.vt_trace.proofs.tracer.Tracer.put_new_screen.Goals as goal
 
 pub returns-then-not-redraws-clause-changes : goal.returns-then-not-redraws-clause-changes

@@ -1,6 +1,6 @@
 -- The cases of the plain forms.
-use Rattle.std.proofs.Common.{◌≡◌, ◌==◌, ◌<◌, ◌-◌, ℕ, zero, suc, true, false, List, [], ◌++◌, length, take, drop, codes, refl, sym, arith, ap}
-use Rattle.vt_recorded.specs.PlainForms.{word_length, unpadded, word, after_word, starts_with_byte, is_of_fd, is_pair, pairs, data_form, frame_form}
+use Rattle.std.proofs.Common.{◌≡◌, ◌<◌, ◌-◌, ℕ, zero, suc, true, false, List, [], ◌++◌, take, drop, codes, refl, sym, arith, ap}
+use Rattle.vt_recorded.specs.PlainForms.{word_length, unpadded, word, second_word, after_word, starts_with_byte, is_of_fd, is_pair, pairs, data_form, frame_form}
 
 pub word_is : (text : List ℕ) → word text ≡ take (word_length (unpadded text)) (unpadded text)
 unfolding word
@@ -18,21 +18,18 @@ pub bytes_form : (text : List ℕ) → starts_with_byte 114 (word text) ≡ fals
 unfolding data_form
 bytes_form text is = rw is refl
 
-pub fd_form : (third fourth rest : List ℕ) → starts_with_byte 91 fourth ≡ true → is_of_fd fourth ≡ true → frame_form third fourth rest ≡ third ++ codes "##"
+pub fd_form : (text : List ℕ) → starts_with_byte 91 (second_word text) ≡ true → is_of_fd (second_word text) ≡ true → frame_form text ≡ word text ++ codes "##"
 unfolding frame_form
-fd_form third fourth rest is fd = rw (is, fd) refl
+fd_form text is fd = rw (is, fd) refl
 
-pub bracket_form : (third fourth rest : List ℕ) → starts_with_byte 91 fourth ≡ true → is_of_fd fourth ≡ false → frame_form third fourth rest ≡ third ++ codes "#" ++ data_form rest
+pub bracket_form : (text : List ℕ) → starts_with_byte 91 (second_word text) ≡ true → is_of_fd (second_word text) ≡ false
+    → frame_form text ≡ word text ++ codes "#" ++ data_form (after_word (after_word text))
 unfolding frame_form
-bracket_form third fourth rest is classic = rw (is, classic) refl
+bracket_form text is classic = rw (is, classic) refl
 
-pub bare_form : (third fourth rest : List ℕ) → starts_with_byte 91 fourth ≡ false → (length fourth == 0) ≡ true → frame_form third fourth rest ≡ third
+pub bare_form : (text : List ℕ) → starts_with_byte 91 (second_word text) ≡ false → frame_form text ≡ text
 unfolding frame_form
-bare_form third fourth rest is none = rw is (rw none refl)
-
-pub directed_form : (third fourth rest : List ℕ) → starts_with_byte 91 fourth ≡ false → (length fourth == 0) ≡ false → frame_form third fourth rest ≡ third ++ codes " " ++ fourth
-unfolding frame_form
-directed_form third fourth rest is some = rw is (rw some refl)
+bare_form text is = rw is refl
 
 pub more_pairs : (most : ℕ) (text : List ℕ) → 0 < most → is_pair (word text) ≡ true → pairs most text ≡ word text ++ pairs (most - 1) (after_word text)
 unfolding pairs
