@@ -1,3 +1,4 @@
 -- The specifications that the contracts of vt_gallery use.
 pub mod Html
 pub mod Masks
+pub mod StatesLeft

@@ -2,15 +2,21 @@
 //! them.
 //!
 //! - `run_draw` draws the masks that the options name, on the standard output, into a file or into a folder with a page, `index.html`.
-//!
-//! docs/POOLS.md, "Pictures of masks", has the options and the messages.
+//!   docs/POOLS.md, "Pictures of masks", has the options and the messages.
+//! - `pool_left` replays a log to a new terminal, and writes the objects of the working set that is shown at its end as the bytes of a
+//!   pool, or returns a `StateFault`. A `GivenSet` is there before the first line.
 #![tactic(auto)]
 
+mod bytes;
+mod fault;
 mod html;
 mod masks;
 mod origin;
 mod page;
 mod program;
 mod refusal;
+mod state;
 
+pub use fault::StateFault;
 pub use program::{Outcome, run_draw};
+pub use state::{GivenSet, pool_left};

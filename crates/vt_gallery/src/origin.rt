@@ -1,11 +1,11 @@
 //! Where the objects that are drawn come from.
 
+use crate::{GivenSet, StateFault, pool_left};
 use std::alloc::Global;
 use std::io::{self, Error, ErrorKind, Write};
 use vt_files::{Open, read_file};
 use vt_inspector_words::{Origin, StartSet};
 use vt_logs::{ReplayFault, Stream};
-use vt_states::{StateFault, pool_left};
 
 /// The file whose objects are drawn: the pool, or the log that leaves one.
 pub(crate) fn path_of<'a>(origin: Origin<'a>) -> &'a str {
@@ -59,7 +59,7 @@ fn read_state<F: Open, E: Write>(
         Ok(log) => Stream::new(log),
         Err(error) => return not_read(path, error, errors),
     };
-    let set = start.map(|start| vt_states::StartSet {
+    let set = start.map(|start| GivenSet {
         pool: start.bytes,
         owner: start.set.owner,
     });

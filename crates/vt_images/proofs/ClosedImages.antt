@@ -6,9 +6,9 @@ use Rattle.std.specs.List.{flat_map}
 use Rattle.std.specs.FinMap as finite
 use Rattle.vt_kinds.specs.declared.pictures.Picture.{Picture}
 use Rattle.vt_stores.specs.Stores.{ObjectMap}
-use Rattle.vt_raster.specs.declared.format.Format.{Format}
-use Rattle.vt_raster.specs.declared.run.Run.{Run}
-use Rattle.vt_raster.specs.Formats.{format_of}
+use Rattle.vt_images.specs.declared.format.Format.{Format}
+use Rattle.vt_images.specs.declared.run.Run.{Run}
+use Rattle.vt_images.specs.Formats.{format_of}
 use Rattle.vt_svg.specs.declared.element.Element.TheVariants as elements
 use Rattle.vt_svg.specs.declared.points.Point.{Point}
 use Rattle.vt_svg.specs.Elements.{closed, emptied, opened}

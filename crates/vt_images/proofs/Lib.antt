@@ -1,2 +1,4 @@
 pub mod ClosedImages
+pub mod FilledRows
+pub mod Places
 mod StrokesOfBytes

@@ -3,10 +3,10 @@ use Rattle.std.proofs.Common.{◌≡◌, inl, inr, ◌<◌, ◌-◌, ◌/◌, �
 use Rattle.std.specs.Prelude.{◌==◌, ◌&&◌, filter}
 use Rattle.std.specs.List.{AllByRecursion}
 use Rattle.std.proofs.lemmas.Bool.{cases_lt, eqb-true, false≢true}
-use Rattle.vt_raster.specs.declared.format.Format.{Format}
-use Rattle.vt_raster.specs.declared.format.Format.TheVariants.{OneBit, FourBits, EightBits}
+use Rattle.vt_images.specs.declared.format.Format.{Format}
+use Rattle.vt_images.specs.declared.format.Format.TheVariants.{OneBit, FourBits, EightBits}
 use Rattle.vt_images.specs.declared.strokes.Stroke.{Stroke}
-use Rattle.vt_images.specs.Laws.{HasItsPixel, pixel_at}
+use Rattle.vt_images.specs.StrokeLaws.{HasItsPixel, pixel_at}
 use Rattle.vt_images.specs.Strokes.{strokes_of}
 
 both : (a b : Bool) → (a && b) ≡ true → (a ≡ true) × (b ≡ true)

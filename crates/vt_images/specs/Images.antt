@@ -4,9 +4,9 @@ use Rattle.std.specs.FinMap as finite
 use Rattle.vt_kinds.specs.declared.object.Object.TheVariants as objects
 use Rattle.vt_kinds.specs.declared.pictures.Picture.{Picture}
 use Rattle.vt_kinds.specs.Records.{Seen}
-use Rattle.vt_raster.specs.declared.run.Run.{Run}
-use Rattle.vt_raster.specs.Formats.{format_of}
-use Rattle.vt_raster.specs.Rasters.{AreFewRuns, IsRaster}
+use Rattle.vt_images.specs.declared.run.Run.{Run}
+use Rattle.vt_images.specs.Formats.{format_of}
+use Rattle.vt_images.specs.Rasters.{AreFewRuns, IsRaster}
 use Rattle.vt_stores.specs.Stores.{ObjectMap}
 use Rattle.vt_svg.specs.declared.attribute.Attribute.{Attribute}
 use Rattle.vt_svg.specs.declared.attribute.Attribute.TheVariants as attributes

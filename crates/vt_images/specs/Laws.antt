@@ -1,21 +1,38 @@
--- The pixels of strokes.
-use Rattle.std.specs.Prelude.{◌≡◌, ◌<◌, ◌-◌, ◌/◌, ◌%◌, ◌^◌, ℕ, ◌==◌, if◌then◌else◌, length, filter}
-use Rattle.std.specs.List.{AllByRecursion}
-use Rattle.vt_raster.specs.declared.format.Format.{Format}
-use Rattle.vt_raster.specs.Formats.{pixels_in_byte, pixel}
-use Rattle.vt_images.specs.declared.strokes.Stroke.{Stroke}
-use Rattle.vt_images.specs.Strokes.{strokes_of}
+-- The places of runs (docs/PROFILE.md, "Image data").
+use Rattle.std.specs.Prelude.{◌≡◌, ℕ, ◌+◌, ◌*◌, ◌/◌, ◌<◌, ◌==◌, List, [], take, drop, replicate, filter, Some, None}
+use Rattle.std.specs.List.{flat_map, AllByRecursion}
+use Rattle.vt_kinds.specs.declared.pictures.Picture.{Picture}
+use Rattle.vt_images.specs.declared.format.Format.{Format}
+use Rattle.vt_images.specs.declared.run.Run.{Run}
+use Rattle.vt_images.specs.Formats.{format_of, pixels_in_byte, bytes_in_row}
+use Rattle.vt_images.specs.Rasters.{image_data, IsRaster}
 
--- the colour number in a column of a byte that repeats
-abbrev pub pixel_at : Format → ℕ → ℕ → ℕ
-pixel_at format byte column = pixel format byte (column % pixels_in_byte format)
+-- the bytes of a row
+abbrev pub row_of : ℕ → ℕ → List ℕ → List ℕ
+row_of size row bytes = take size (drop (row * size) bytes)
 
--- A stroke has a pixel in a column exactly if its colour is there.
-abbrev pub HasItsPixel : Format → ℕ → ℕ → Stroke → Type 0
-HasItsPixel format byte column s = s.art / 2 ^ (15 - column) % 2 ≡ (if s.colour == pixel_at format byte column then 1 else 0)
+-- the bytes of a run, and of all runs in a row
+abbrev pub run_bytes : Run → List ℕ
+run_bytes r = replicate r.count r.byte
 
--- In each column, the strokes have the pixels of their colours, and one of them has the colour that is there.
-pub record StrokesAreThePixels : Type 0 where
-  pub own : (format : Format) (byte column : ℕ) → byte < 256 → column < 16 → AllByRecursion (HasItsPixel format byte column) (strokes_of format byte)
-  pub one : (format : Format) (byte column : ℕ) → byte < 256 → column < 16
-      → length (filter (λ s. s.colour == pixel_at format byte column) (strokes_of format byte)) ≡ 1
+abbrev pub bytes_of_runs : ℕ → List Run → List ℕ
+bytes_of_runs row runs = flat_map run_bytes (filter (λ r. r.row == row) runs)
+
+-- the bytes of a run stand at its place in the image data
+abbrev pub IsAtPlace : ℕ → List ℕ → Run → Type 0
+IsAtPlace size bytes r = take r.count (drop (r.row * size + r.start) bytes) ≡ run_bytes r
+
+-- The runs of a row are the whole row, each run is at its place, and none is past the last row. There are none without a
+-- format.
+pub record RunsAreTheImage : Type 0 where
+  pub in_rows : (p : Picture (List ℕ)) (runs : List Run) (format : Format) (row : ℕ) → IsRaster p runs → format_of p.format ≡ Some format → row < p.actual_height
+      → bytes_of_runs row runs ≡ row_of (bytes_in_row format p.actual_width) row (image_data p)
+  pub places : (p : Picture (List ℕ)) (runs : List Run) (format : Format) → IsRaster p runs → format_of p.format ≡ Some format
+      → AllByRecursion (IsAtPlace (bytes_in_row format p.actual_width) (image_data p)) runs
+  pub past : (p : Picture (List ℕ)) (runs : List Run) → IsRaster p runs → AllByRecursion (λ r. r.row < p.actual_height) runs
+  pub none : (p : Picture (List ℕ)) (runs : List Run) → IsRaster p runs → format_of p.format ≡ None → runs ≡ []
+
+-- A row has a byte for each of its pixels, and no byte without a pixel.
+pub record RowsHoldTheirPixels : Type 0 where
+  pub each : (format : Format) (width column : ℕ) → column < width → column / pixels_in_byte format < bytes_in_row format width
+  pub least : (format : Format) (width : ℕ) → bytes_in_row format width * pixels_in_byte format < width + pixels_in_byte format

@@ -2,10 +2,10 @@
 use Rattle.std.specs.Prelude.{ℕ, ◌+◌, ◌-◌, ◌*◌, ◌/◌, ◌%◌, Bool, nat_lt, ◌==◌, ◌&&◌, ◌||◌, if◌then◌else◌, List, [], ◌∷◌, ◌++◌, length, Option, Some, None}
 use Rattle.std.specs.List.{flat_map}
 use Rattle.vt_kinds.specs.declared.pictures.Picture.{Picture}
-use Rattle.vt_raster.specs.declared.format.Format.{Format}
-use Rattle.vt_raster.specs.declared.format.Format.TheVariants.{OneBit, FourBits, EightBits}
-use Rattle.vt_raster.specs.declared.run.Run.{Run}
-use Rattle.vt_raster.specs.Formats.{pixels_in_byte}
+use Rattle.vt_images.specs.declared.format.Format.{Format}
+use Rattle.vt_images.specs.declared.format.Format.TheVariants.{OneBit, FourBits, EightBits}
+use Rattle.vt_images.specs.declared.run.Run.{Run}
+use Rattle.vt_images.specs.Formats.{pixels_in_byte}
 use Rattle.vt_svg.specs.declared.attribute.Attribute.TheVariants as attributes
 use Rattle.vt_svg.specs.declared.attribute.Paint.TheVariants.{Colour}
 use Rattle.vt_svg.specs.declared.element.Element.TheVariants.{Polyline}

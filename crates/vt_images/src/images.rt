@@ -6,9 +6,9 @@ ghost use Rattle.vt_kinds.specs.Records.{seen_picture};
 ghost use Rattle.vt_images.specs.Images.{AppendsImage, AppendsImages, picture_in, tile, with_symbol};
 
 use crate::strokes::draw_pixels;
+use crate::{Run, runs};
 use std::alloc::{AllocError, Global};
 use vt_objects::{Object, ObjectId, Picture, Store};
-use vt_raster::{Run, runs};
 use vt_svg::{Attribute, Element, Flag, Paint, close, empty, open};
 
 /// Appends Picture objects as symbols and as patterns, in the order of `ids`. Nothing is appended for an object that is no

@@ -3,13 +3,13 @@
 ghost use Rattle.std.specs.Prelude.{◌≡◌, ◌≤◌, ◌++◌, OnOk};
 ghost use Rattle.std.specs.List.{flat_map};
 ghost use Rattle.vt_kinds.specs.Records.{seen_picture};
-ghost use Rattle.vt_raster.specs.declared.format.Format.TheVariants.{FourBits, OneBit};
-ghost use Rattle.vt_raster.specs.Formats.{format_of};
+ghost use Rattle.vt_images.specs.declared.format.Format.TheVariants.{FourBits, OneBit};
+ghost use Rattle.vt_images.specs.Formats.{format_of};
 ghost use Rattle.vt_images.specs.Strokes as strokes;
 
+use crate::{Format, Run};
 use std::alloc::AllocError;
 use vt_objects::Picture;
-use vt_raster::{Format, Run};
 use vt_svg::{Attribute, Element, Paint, Point, along};
 
 /// The pixels of one colour in bytes of one value.

@@ -1,6 +1,6 @@
 -- The status of a test.
 use Rattle.std.specs.Prelude.{List, [], ◌∷◌}
-use Rattle.vt_bench.specs.declared.difference.Difference.{Difference}
+use Rattle.vt_log_bench.specs.declared.difference.Difference.{Difference}
 use Rattle.vt_log_replay.specs.declared.status.Status.{Status}
 use Rattle.vt_log_replay.specs.declared.status.Status.TheVariants.{Clean, Found}
 

@@ -1,9 +1,22 @@
 //! The subcommand `test` of `segyolant_log`: whether each line of a log prints what is expected of it; with `--bless` it writes these
 //! expectations anew.
 //!
-//! `run_test` runs it on its options, and returns the `Status` with which the program ends. docs/LOGS.md has the subcommand.
+//! A line that begins with `#<` is an expectation: a text that the line before it has to print.
+//!
+//! - `run_test` runs the subcommand on its options, and returns the `Status` with which the program ends. docs/LOGS.md has the subcommand.
+//! - `differences` replays a log, and returns each line that prints something else; `bless` writes a log with the expectations that it
+//!   meets. docs/PROFILE.md, "Expectations", has the rules.
+//! - `laws` has the theorem that a log without differences prints what it expects.
 #![tactic(auto)]
 
+mod blessing;
+mod comparison;
+mod difference;
+mod expectation;
+pub mod laws;
 mod test;
 
+pub use blessing::{Blessed, bless};
+pub use comparison::differences;
+pub use difference::Difference;
 pub use test::run_test;

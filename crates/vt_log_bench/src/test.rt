@@ -3,9 +3,9 @@
 ghost use Rattle.std.specs.Prelude.{◌≡◌, IfOk};
 ghost use Rattle.vt_log_bench.specs.Statuses.{status_of};
 
+use crate::{Blessed, Difference, bless, differences};
 use std::alloc::{AllocError, Global};
 use std::io::{self, Error, ErrorKind, Write};
-use vt_bench::{Blessed, Difference, bless, differences};
 use vt_files::{Open, Program, Save, read_file, save_file};
 use vt_log_replay::{LoadedSet, Status, new_terminal, read_set};
 use vt_log_words::{TerminalOptions, TestOptions};

@@ -3,6 +3,7 @@
 use crate::report::{UploadEnd, put_broken, put_finding, put_request, put_unended, put_upload};
 use crate::sets::Sets;
 use crate::verdict::Verdict;
+use crate::{Message, Upload, Uploads};
 use std::alloc::{AllocError, Global};
 use std::io::{self, Write};
 use vt_can::assigned::ECU_TO_VT;
@@ -14,7 +15,6 @@ use vt_inspect::inspect;
 use vt_listen::{Broken, Listener};
 use vt_log_replay::{LineCursor, LogReader, Messages, Status, line_ends, tell_no_frame, text_of};
 use vt_log_words::{Format, PoolsOptions};
-use vt_uploads::{Message, Upload, Uploads};
 
 /// Prints every upload of a log, and what a terminal says of it.
 pub fn run_pools<F: Open + Save, W: Write, E: Messages>(

@@ -1,6 +1,7 @@
 //! The lines of a report on the pools of a log, for people or as JSON.
 
 use crate::verdict::Verdict;
+use crate::{Message, Upload};
 use serde_json::Value;
 use std::alloc::Global;
 use std::fmt;
@@ -11,7 +12,6 @@ use vt_frames_text::PoolRequest;
 use vt_json_lines::JsonLine;
 use vt_listen::Broken;
 use vt_log_words::Format;
-use vt_uploads::{Message, Upload};
 
 /// Where an upload has ended, and whether it was an update.
 #[derive(Clone, Copy)]

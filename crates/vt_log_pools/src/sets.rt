@@ -1,11 +1,11 @@
 //! The working sets of a log, with the objects of their accepted pools.
 
+use crate::Upload;
 use crate::verdict::Verdict;
 use std::alloc::{AllocError, Global};
 use std::collections::BTreeMap;
 use vt_log_replay::Status;
 use vt_objects::SortedStore;
-use vt_uploads::Upload;
 
 /// The objects of each implement at each terminal, and how many uploads each implement has ended.
 #[derive(Drop)]

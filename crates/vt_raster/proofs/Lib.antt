@@ -1,2 +1,0 @@
-pub mod FilledRows
-pub mod Places
