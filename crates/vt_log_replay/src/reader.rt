@@ -9,7 +9,7 @@ use std::alloc::{AllocError, Global};
 use std::io::Write;
 use vt_can::{Line, LineFault};
 use vt_files::Program;
-use vt_recorded::{Form, FormSentence, Reader, form_of, interface_in, is_of_interface};
+use vt_recorded::{MARK, Reader, form_of, interface_in, is_of_interface};
 
 /// Reads the lines of a log, and takes all of its frames or those of one interface.
 #[derive(Drop)]
@@ -31,6 +31,7 @@ impl<'a> LogReader<'a> {
             remarks: Remarks {
                 first: Vec::new(alloc),
                 other: Vec::new(alloc),
+                has_more: false,
                 index: 0,
                 faults: 0,
                 form: None,
@@ -68,17 +69,10 @@ impl<'a> LogReader<'a> {
                 "{program}: {path}: {faults} of its lines {verb} faulty; trace shows each with its fault"
             );
         }
-        if let (true, Some(form)) = (self.has_frames(), self.remarks.form) {
-            let sentence = FormSentence { form, path };
-            let _ = writeln!(errors, "{program}: {path}: {sentence}");
+        if let (true, Some(what)) = (self.has_frames(), self.remarks.form) {
+            let _ = writeln!(errors, "{program}: {path}: {what}");
         }
-        let (first, other) = self.remarks.interfaces();
-        if !other.is_empty() {
-            let _ = writeln!(
-                errors,
-                "{program}: {path}: frames of {first} and {other} are taken as those of one bus; --interface {first} takes those of one"
-            );
-        }
+        self.remarks.tell_interfaces(program, path, errors);
     }
 }
 
@@ -91,10 +85,12 @@ struct Remarks {
     index: usize,
     /// The second interface whose frames were read; empty before it.
     other: Vec<u8>,
+    /// Whether frames of a third one were read.
+    has_more: bool,
     /// The number of lines with a fault.
     faults: u64,
-    /// What the file is if its first faulty line tells.
-    form: Option<Form>,
+    /// What the text is if its first faulty line begins with a byte order mark.
+    form: Option<&'static str>,
 }
 
 impl Remarks {
@@ -108,7 +104,7 @@ impl Remarks {
             Ok(Line::Frame { .. }) => self.note_frame(line),
             Ok(_) => Ok(()),
             Err(_) => {
-                if self.faults == 0 {
+                if self.faults == 0 && line.starts_with(MARK) {
                     self.form = form_of(line);
                 }
                 self.faults = self.faults.saturating_add(1);
@@ -129,22 +125,46 @@ impl Remarks {
             self.first.extend_from_slice(name)?;
             self.first.push(b' ')?;
         }
-        if self.other.is_empty() && !self.is_first(name) {
+        if self.is_first(name) {
+            return Ok(());
+        }
+        if self.other.is_empty() {
             self.other.extend_from_slice(name)?;
         }
+        self.has_more |= self.other.as_slice() != name;
         Ok(())
     }
 
-    /// The first interface and the second one, empty if there is none or its name is no text.
-    fn interfaces(&self) -> (&str, &str) {
-        let first = match self.first.as_slice() {
-            [_, first @ .., _] => first,
-            _ => &[],
-        };
-        match (str::from_utf8(first), str::from_utf8(&self.other)) {
-            (Ok(first), Ok(other)) => (first, other),
-            _ => ("", ""),
+    /// Says on `errors` that frames of several interfaces were taken, if they were. Names that are no printable text are left out.
+    fn tell_interfaces<E: Write>(&self, program: &str, path: &str, errors: &mut E) {
+        if self.other.is_empty() {
+            return;
         }
+        let more = if self.has_more { " and others" } else { "" };
+        let _ = match self.names() {
+            Some((first, other)) => writeln!(
+                errors,
+                "{program}: {path}: frames of {first}, {other}{more} are taken as those of one bus; --interface {first} takes those of one"
+            ),
+            None => writeln!(
+                errors,
+                "{program}: {path}: frames of several interfaces are taken as those of one bus; --interface takes those of one"
+            ),
+        };
+    }
+
+    /// The names of the first two interfaces, if they are printable text.
+    fn names(&self) -> Option<(&str, &str)> {
+        let [_, first @ .., _] = self.first.as_slice() else {
+            return None;
+        };
+        let is_printable = |name: &[u8]| name.iter().all(|byte| matches!(byte, b'!'..=b'~'));
+        if !is_printable(first) || !is_printable(&self.other) {
+            return None;
+        }
+        str::from_utf8(first)
+            .ok()
+            .zip(str::from_utf8(&self.other).ok())
     }
 
     /// Whether an interface is the first one.

@@ -10,7 +10,7 @@ use vt_can::{Line, LineFault};
 use vt_files::{Open, Program, read_file, read_names};
 use vt_findings_text::Names;
 use vt_log_words::{ReplayOptions, TerminalOptions};
-use vt_recorded::{FormSentence, form_of};
+use vt_recorded::form_of;
 use vt_server::{Input, Terminal};
 
 /// A log with all that its replay needs.
@@ -127,7 +127,7 @@ impl<'a> Replay<'a> {
 pub fn tell_no_frame<F: Program, E: Write>(path: &str, log: &[u8], files: &F, errors: &mut E) {
     let name = files.name();
     let _ = match form_of(log) {
-        Some(form) => writeln!(errors, "{name}: {path}: {}", FormSentence { form, path }),
+        Some(what) => writeln!(errors, "{name}: {path}: {what}"),
         None => writeln!(
             errors,
             "{name}: {path}: no frame could be read; expected a log such as candump -L writes, and with --interface one of its interfaces"

@@ -36,7 +36,7 @@ pub(crate) fn run_operator<F: Open, W: Write, E: Messages>(
     if left_out > 0 {
         let _ = writeln!(
             errors,
-            "{}: {}: its own operator lines are left out, {left_out} of them",
+            "{}: {}: its operator lines are left out: {left_out}",
             files.name(),
             options.log
         );

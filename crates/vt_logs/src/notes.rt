@@ -4,7 +4,7 @@ ghost use Rattle.std.specs.Prelude.{◌≡◌, None, replicate};
 
 use std::fmt;
 use vt_can::LineFault;
-use vt_recorded::{Form, FormSentence, form_of};
+use vt_recorded::form_by;
 use vt_server::{OperatorFault, Output};
 
 /// The first faulty line of a log.
@@ -23,27 +23,17 @@ pub struct FaultyLine {
 pub enum Hint {
     /// The line has bytes that are not text.
     Binary,
-    /// The line has the form that `candump` prints to a screen, and not that of a log.
+    /// The line has the form that `candump` prints without times.
     Candump,
     /// The log is a file of another recorder, or begins with a byte order mark.
-    Form(Form),
+    Form(&'static str),
     /// No blank follows the exclamation mark of an operator line.
     Unspaced,
 }
 
-/// A likely cause of a faulty line in the log at a path, and its cure.
-#[derive(Clone, Copy)]
-pub struct HintSentence<'a> {
-    /// The likely cause.
-    pub hint: Hint,
-    /// The log's path.
-    pub path: &'a str,
-}
-
-impl fmt::Display for HintSentence<'_> {
+impl fmt::Display for Hint {
     fn fmt<W: fmt::Write>(&self, f: &mut fmt::Formatter<W>) -> fmt::Result {
-        let path = self.path;
-        match self.hint {
+        match self {
             Hint::Binary => write!(
                 f,
                 "the line has bytes that are no text; an object pool is checked with --report"
@@ -51,10 +41,10 @@ impl fmt::Display for HintSentence<'_> {
             Hint::Candump => {
                 write!(
                     f,
-                    "the line looks as candump prints it to a screen; candump -L prints a log"
+                    "the line looks as candump prints it without times; candump -L and candump -ta print a log"
                 )
             }
-            Hint::Form(form) => write!(f, "{}", FormSentence { form, path }),
+            Hint::Form(what) => write!(f, "{what}"),
             Hint::Unspaced => {
                 write!(
                     f,
@@ -142,17 +132,15 @@ impl Notes {
 
 /// The likely cause of a faulty line.
 fn hint_of(number: u64, fault: LineFault, line: &[u8]) -> Option<Hint> {
-    if let (1, Some(form)) = (number, form_of(line)) {
-        return Some(Hint::Form(form));
+    if let Some(what) = form_by(number, line) {
+        return Some(Hint::Form(what));
     }
     if line.iter().any(|byte| !is_text(*byte)) {
         return Some(Hint::Binary);
     }
     match fault {
         LineFault::Time if line.starts_with(b"!") => Some(Hint::Unspaced),
-        LineFault::Time | LineFault::Shape if line.contains(&b'[') && line.contains(&b']') => {
-            Some(Hint::Candump)
-        }
+        LineFault::Time if line.contains(&b'[') && line.contains(&b']') => Some(Hint::Candump),
         _ => None,
     }
 }

@@ -2,7 +2,7 @@
 
 use crate::sentences::{FaultyLines, RefusedAction, ReplaySentence};
 use std::io::{self, Write};
-use vt_logs::{HintSentence, Notes};
+use vt_logs::Notes;
 
 /// Prints the sentence of a replay that ended early, with the failure of the system if it is known.
 pub(crate) fn print_replay_fault<E: Write>(
@@ -22,7 +22,6 @@ pub(crate) fn print_notes<E: Write>(notes: &Notes, log: &str, errors: &mut E) {
         let sentence = FaultyLines { notes, first };
         let _ = writeln!(errors, "vt_replay: {log}: {sentence}");
         if let Some(hint) = first.hint {
-            let hint = HintSentence { hint, path: log };
             let _ = writeln!(errors, "vt_replay: {log}: {hint}");
         }
     }

@@ -1,6 +1,6 @@
 -- The cases of the plain forms.
 use Rattle.std.proofs.Common.{◌≡◌, ◌<◌, ◌-◌, ℕ, zero, suc, true, false, List, [], ◌++◌, take, drop, codes, refl, sym, arith, ap}
-use Rattle.vt_recorded.specs.PlainForms.{word_length, unpadded, word, second_word, after_word, starts_with_byte, is_of_fd, is_pair, pairs, data_form, frame_form}
+use Rattle.vt_recorded.specs.PlainForms.{word_length, unpadded, word, second_word, after_word, starts_with_byte, is_data, is_of_fd, is_pair, pairs, data_form, frame_form}
 
 pub word_is : (text : List ℕ) → word text ≡ take (word_length (unpadded text)) (unpadded text)
 unfolding word
@@ -14,9 +14,13 @@ pub remote_form : (text : List ℕ) → starts_with_byte 114 (word text) ≡ tru
 unfolding data_form
 remote_form text is = rw is refl
 
-pub bytes_form : (text : List ℕ) → starts_with_byte 114 (word text) ≡ false → data_form text ≡ pairs 8 text
+pub bytes_form : (text : List ℕ) → starts_with_byte 114 (word text) ≡ false → is_data (word text) ≡ true → data_form text ≡ pairs 8 text
 unfolding data_form
-bytes_form text is = rw is refl
+bytes_form text is some = rw (is, some) refl
+
+pub other_form : (text : List ℕ) → starts_with_byte 114 (word text) ≡ false → is_data (word text) ≡ false → data_form text ≡ codes " "
+unfolding data_form
+other_form text is none = rw (is, none) refl
 
 pub fd_form : (text : List ℕ) → starts_with_byte 91 (second_word text) ≡ true → is_of_fd (second_word text) ≡ true → frame_form text ≡ word text ++ codes "##"
 unfolding frame_form

@@ -1,6 +1,6 @@
 -- The plain form of a line: what `candump -L` writes for a frame that was recorded in another way (docs/PROFILE.md, "Lines of
 -- other recorders").
-use Rattle.std.specs.Prelude.{ℕ, zero, suc, ◌==◌, ◌&&◌, not, Bool, false, if◌then◌else◌, unwrap_or, List, [], ◌∷◌, ◌++◌, length, take, drop, codes, position}
+use Rattle.std.specs.Prelude.{ℕ, zero, suc, ◌==◌, ◌&&◌, ◌||◌, not, Bool, false, if◌then◌else◌, unwrap_or, List, [], ◌∷◌, ◌++◌, length, take, drop, codes, position}
 
 -- where the first word of a text begins, and how long the word at the front of a text is: words stand between spaces
 unfoldable pub word_start : List ℕ → ℕ
@@ -36,9 +36,16 @@ unfoldable pub pairs : ℕ → List ℕ → List ℕ
 pairs zero text = []
 pairs (suc most) text = if is_pair (word text) then word text ++ pairs most (after_word text) else []
 
--- the data of a frame: its bytes, or R for a remote frame
+-- whether bytes of data, or none, are at the front of a text: nothing is there but perhaps the characters of candump -a
+abbrev pub is_data : List ℕ → Bool
+is_data word = is_pair word || length word == 0 || starts_with_byte 39 word
+
+-- the data of a frame: its bytes, R for a remote frame, or a space, which no data begins with, if another word is there
 unfoldable pub data_form : List ℕ → List ℕ
-data_form text = if starts_with_byte 114 (word text) then codes "R" else pairs 8 text
+data_form text =
+    if starts_with_byte 114 (word text) then codes "R"
+    else if is_data (word text) then pairs 8 text
+    else codes " "
 
 -- a number of bytes in brackets, as [8]; that of a CAN FD frame has two digits, as [08]
 abbrev pub is_of_fd : List ℕ → Bool

@@ -1,112 +1,53 @@
 //! Files that are no log of candump, and what makes a log of them.
 
-use std::fmt;
+/// The byte order mark of a text in UTF-8.
+pub const MARK: &[u8] = b"\xEF\xBB\xBF";
 
-/// A file that is no log of candump: how it begins, what it is, and what makes a log of it.
-#[derive(Clone, Copy, PartialEq, Eq)]
-pub struct Form {
-    start: &'static [u8],
-    what: &'static str,
-    cure: Cure,
-}
+const VECTOR_TEXT: &str =
+    "this is a Vector log (.asc); convert it: python3 -m can.logconvert my.asc my.log";
 
-#[derive(Clone, Copy, PartialEq, Eq)]
-enum Cure {
-    /// The converter of python-can.
-    Convert,
-    /// The program that reads such captures.
-    Export,
-    /// An editor that saves it as another text.
-    Save,
-}
+const VECTOR_BINARY: &str =
+    "this is a Vector log (.blf); convert it: python3 -m can.logconvert my.blf my.log";
 
-const FORMS: [Form; 10] = [
-    Form {
-        start: b"date ",
-        what: "a Vector log (.asc)",
-        cure: Cure::Convert,
-    },
-    Form {
-        start: b"LOGG",
-        what: "a Vector log (.blf)",
-        cure: Cure::Convert,
-    },
-    Form {
-        start: b";$FILEVERSION",
-        what: "a PEAK log (.trc)",
-        cure: Cure::Convert,
-    },
-    Form {
-        start: b"\xD4\xC3\xB2\xA1",
-        what: "a pcap capture",
-        cure: Cure::Export,
-    },
-    Form {
-        start: b"\xA1\xB2\xC3\xD4",
-        what: "a pcap capture",
-        cure: Cure::Export,
-    },
-    Form {
-        start: b"\x4D\x3C\xB2\xA1",
-        what: "a pcap capture",
-        cure: Cure::Export,
-    },
-    Form {
-        start: b"\x0A\x0D\x0D\x0A",
-        what: "a pcapng capture",
-        cure: Cure::Export,
-    },
-    Form {
-        start: b"\xFF\xFE",
-        what: "a text in UTF-16",
-        cure: Cure::Save,
-    },
-    Form {
-        start: b"\xFE\xFF",
-        what: "a text in UTF-16",
-        cure: Cure::Save,
-    },
-    Form {
-        start: b"\xEF\xBB\xBF",
-        what: "a text with a byte order mark",
-        cure: Cure::Save,
-    },
+const PEAK: &str = "this is a PEAK log (.trc); convert it: python3 -m can.logconvert my.trc my.log";
+
+const CAPTURE: &str = "this is a pcap capture; export its frames as candump -L writes them";
+
+const UTF_16: &str = "this is a text in UTF-16; save it as ASCII or UTF-8";
+
+const MARKED: &str =
+    "the text begins with a byte order mark, so its first line is not read; save it without the mark";
+
+/// How files begin, and what they are with what makes a log of them.
+const FORMS: [(&[u8], &str); 10] = [
+    (b"date ", VECTOR_TEXT),
+    (b"LOGG", VECTOR_BINARY),
+    (b";$FILEVERSION", PEAK),
+    (b"\xD4\xC3\xB2\xA1", CAPTURE),
+    (b"\xA1\xB2\xC3\xD4", CAPTURE),
+    (b"\x4D\x3C\xB2\xA1", CAPTURE),
+    (PCAPNG, CAPTURE),
+    (b"\xFF\xFE", UTF_16),
+    (b"\xFE\xFF", UTF_16),
+    (MARK, MARKED),
 ];
 
-/// The form of a file, by its first bytes. `None` if they are not known.
-pub fn form_of(file: &[u8]) -> Option<Form> {
+/// The first bytes of a capture in pcapng, which begin with an empty line.
+const PCAPNG: &[u8] = b"\n\r\r\n";
+
+/// What a file is and what makes a log of it, by its first bytes. `None` if they are not known.
+pub fn form_of(file: &[u8]) -> Option<&'static str> {
     FORMS
         .iter()
-        .copied()
-        .find(|form| file.starts_with(form.start))
+        .find(|(start, _)| file.starts_with(start))
+        .map(|(_, what)| *what)
 }
 
-/// What the file at a path is, and what makes a log of it.
-#[derive(Clone, Copy)]
-pub struct FormSentence<'a> {
-    /// The form of the file.
-    pub form: Form,
-    /// The file's path.
-    pub path: &'a str,
-}
-
-impl fmt::Display for FormSentence<'_> {
-    fn fmt<W: fmt::Write>(&self, f: &mut fmt::Formatter<W>) -> fmt::Result {
-        let Form { what, cure, .. } = self.form;
-        let path = self.path;
-        match cure {
-            Cure::Convert => write!(
-                f,
-                "this is {what}; convert it: python3 -m can.logconvert {path} my.log"
-            ),
-            Cure::Export => write!(
-                f,
-                "this is {what}; export its frames as candump -L writes them"
-            ),
-            Cure::Save => write!(
-                f,
-                "this is {what}; save it as ASCII, or as UTF-8 without a mark"
-            ),
-        }
+/// The same by the first line that could not be read, and its number, from 1.
+pub fn form_by(number: u64, line: &[u8]) -> Option<&'static str> {
+    match number {
+        1 => form_of(line),
+        2 if line.starts_with(b"\r\r") => form_of(PCAPNG),
+        _ => None,
     }
 }

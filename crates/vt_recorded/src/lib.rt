@@ -3,7 +3,7 @@
 //! - `Reader` reads a line as `vt_can::parse_line` does. If the line does not have that form, it reads the frame in the line's plain form:
 //!   single spaces around the interface, whose name `candump` may pad, and joined bytes in place of `18EEFF80   [8]  01 02`.
 //! - `interface_in` is the name of the interface in a line, and `is_of_interface` chooses the lines of one.
-//! - `form_of` recognises files of other recorders, and `FormSentence` says what makes a log of them.
+//! - `form_of` says what a file of another recorder is, and what makes a log of it.
 //! - `laws` has a theorem about the definitions in specs/: the reading of a line is unique.
 //!
 //! docs/PROFILE.md, "Lines of other recorders", has the forms.
@@ -16,6 +16,6 @@ mod plain;
 mod reader;
 mod words;
 
-pub use forms::{Form, FormSentence, form_of};
+pub use forms::{MARK, form_by, form_of};
 pub use interfaces::{interface_in, is_of_interface};
 pub use reader::Reader;

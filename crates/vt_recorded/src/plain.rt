@@ -1,7 +1,7 @@
 //! The plain form of a line.
 
 ghost use Rattle.std.specs.Prelude.{◌≡◌, ◌++◌, OnOk};
-ghost use Rattle.vt_recorded.specs.PlainForms.{is_of_fd, is_pair, pairs, data_form, frame_form, plain_form};
+ghost use Rattle.vt_recorded.specs.PlainForms.{is_data, is_of_fd, is_pair, pairs, data_form, frame_form, plain_form};
 
 use crate::words::{next_word, starts_with, unpadded};
 use std::alloc::AllocError;
@@ -52,10 +52,19 @@ fn put_data(text: &[u8], plain: &mut Vec<u8>) -> Result<(), AllocError>
     let (first, _) = next_word(text);
     if starts_with(b'r', first) {
         plain.push(b'R')?;
-        return Ok(());
+    } else if is_data(first) {
+        put_pairs(text, 8, plain)?;
+    } else {
+        plain.push(b' ')?;
     }
-    put_pairs(text, 8, plain)?;
     Ok(())
+}
+
+/// Whether a word is a byte of data, or there is none: the text ends, or the characters of candump -a begin.
+fn is_data(word: &[u8]) -> bool
+    ensures { result ≡ is_data word.now }
+{
+    is_pair(word) || word.is_empty() || starts_with(b'\'', word)
 }
 
 /// Appends the bytes at the front of a text, at most so many.

@@ -1,13 +1,14 @@
 -- The changes are unique, and there are none exactly if the lines are the same.
-use Rattle.std.proofs.Common.{◌≡◌, ◌∙◌, ◌||◌, ◌⊎◌, inl, inr, ℕ, Bool, true, false, List, [], ◌∷◌, ◌++◌, refl, sym, ap, subst, append_assoc, append-nil}
+use Rattle.std.proofs.Common.{◌≡◌, ◌∙◌, ◌||◌, ◌⊎◌, inl, inr, ℕ, Bool, true, false, List, [], ◌∷◌, ◌++◌, codes, refl, sym, ap, subst, append_assoc, append-nil}
 use Rattle.std.specs.List.{list_any}
 use Rattle.std.specs.Set.{is_member}
 use Rattle.std.specs.Str.{bytes_eq}
 use Rattle.std.proofs.lemmas.List.Folds.{list_any-append}
 use Rattle.std.proofs.lemmas.Slice.Eq.{bytes_eq-Decides}
 use Rattle.std.proofs.Math.Bool.{or-true}
-use Rattle.vt_trace.specs.Changes.{AreChanges, AreNotAmong, AreScreenChanges, ChangesAreOne, SameLinesHaveNone, come, gone, lines_in, marked, replaced, stays}
-use Rattle.vt_trace.specs.Lines.{Gains}
+use Rattle.vt_logs.specs.Texts.{newline}
+use Rattle.vt_trace.specs.Changes.{AreChanges, AreNotAmong, AreScreenChanges, ChangesAreOne, OneReplacedLine, SameLinesHaveNone, come, gone, lines_in, marked, replaced, stays}
+use Rattle.vt_trace.specs.Lines.{Gains, dotted}
 
 -- ---- the first element that passes
 
@@ -139,3 +140,35 @@ same-none old new text changes = (
   none-same old new text changes,
   λ same. changes-one old new text [] changes (subst (λ (ls : List (List ℕ)). AreChanges old ls []) same (own_changes old)),
 )
+
+-- ---- one replaced line
+
+not_there : (behind : List (List ℕ)) (line old : List ℕ) (b : Bool) → bytes_eq line old ≡ b → is_member bytes_eq (line ∷ behind) old ≡ false → is_member bytes_eq (old ∷ []) line ≡ false
+not_there behind line old true is absent =
+    let same : line ≡ old = (bytes_eq-Decides line old).0 is in
+    let there : bytes_eq old line ≡ true = (bytes_eq-Decides old line).1 (sym same) in
+    absurd (clash (bytes_eq old line) (is_member bytes_eq behind old) there absent)
+not_there behind line old false is absent = rw is refl
+
+replaced_first : (behind : List (List ℕ)) (old new : List ℕ) → is_member bytes_eq behind old ≡ false → is_member bytes_eq (old ∷ behind) new ≡ false
+    → AreChanges (old ∷ behind) (new ∷ behind) (gone (old ∷ []) ++ come (new ∷ []))
+replaced_first [] old new absent fresh = replaced (old ∷ []) (new ∷ []) (none_of fresh)
+  where
+    none_of : is_member bytes_eq (old ∷ []) new ≡ false → AreNotAmong (old ∷ []) (new ∷ [])
+    none_of is = ap (λ (b : Bool). b || false) is
+replaced_first (line ∷ behind) old new absent fresh =
+    subst (AreChanges (old ∷ line ∷ behind) (new ∷ line ∷ behind)) (append-nil (gone (old ∷ []) ++ come (new ∷ [])))
+    (stays (old ∷ []) (new ∷ []) line behind behind [] (ap (λ (b : Bool). b || false) fresh) (not_there behind line old (bytes_eq line old) refl absent) (own_changes behind))
+
+replaced_behind : (before behind : List (List ℕ)) (old new : List ℕ) → is_member bytes_eq behind old ≡ false → is_member bytes_eq (old ∷ behind) new ≡ false
+    → AreChanges (before ++ old ∷ behind) (before ++ new ∷ behind) (gone (old ∷ []) ++ come (new ∷ []))
+replaced_behind [] behind old new absent fresh = replaced_first behind old new absent fresh
+replaced_behind (line ∷ before) behind old new absent fresh =
+    stays [] [] line (before ++ old ∷ behind) (before ++ new ∷ behind) (gone (old ∷ []) ++ come (new ∷ [])) refl refl (replaced_behind before behind old new absent fresh)
+
+pub replaced-line : OneReplacedLine
+replaced-line before behind old new absent fresh =
+    let text : gone (old ∷ []) ++ come (new ∷ []) ≡ codes "  - " ++ dotted old ++ newline ++ (codes "  + " ++ dotted new ++ newline) =
+    ap (λ (t : List ℕ). t ++ come (new ∷ [])) (append-nil (codes "  - " ++ dotted old ++ newline))
+    ∙ ap (λ (t : List ℕ). codes "  - " ++ dotted old ++ newline ++ t) (append-nil (codes "  + " ++ dotted new ++ newline)) in
+    subst (AreChanges (before ++ old ∷ behind) (before ++ new ∷ behind)) text (replaced_behind before behind old new absent fresh)

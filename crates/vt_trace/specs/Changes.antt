@@ -36,9 +36,14 @@ pub data AreChanges : (old new : List (List ℕ)) → (text : List ℕ) → Type
   stays : (goes comes : List (List ℕ)) (line : List ℕ) (old new : List (List ℕ)) (text : List ℕ) → AreNotAmong (goes ++ line ∷ old) comes
       → is_member bytes_eq goes line ≡ false → AreChanges old new text → AreChanges (goes ++ line ∷ old) (comes ++ line ∷ new) (gone goes ++ come comes ++ text)
 
--- The changes are unique, and there are none exactly if the lines are the same.
+-- The changes are unique. There are none exactly if the lines are the same.
 abbrev pub ChangesAreOne : Type 0
 ChangesAreOne = (old new : List (List ℕ)) (a b : List ℕ) → AreChanges old new a → AreChanges old new b → a ≡ b
+
+-- A line that is not left behind it is replaced by one that the old screen does not have there: these two lines are written.
+abbrev pub OneReplacedLine : Type 0
+OneReplacedLine = (before behind : List (List ℕ)) (old new : List ℕ) → is_member bytes_eq behind old ≡ false → is_member bytes_eq (old ∷ behind) new ≡ false
+    → AreChanges (before ++ old ∷ behind) (before ++ new ∷ behind) (codes "  - " ++ dotted old ++ newline ++ (codes "  + " ++ dotted new ++ newline))
 
 abbrev pub SameLinesHaveNone : Type 0
 SameLinesHaveNone = (old new : List (List ℕ)) (text : List ℕ) → AreChanges old new text → (text ≡ []) ↔ (old ≡ new)
@@ -51,7 +56,7 @@ AreScreenChanges old new text = AreChanges (lines_in old) (lines_in new) text
 abbrev pub IsNext : List ℕ → List (List ℕ) → ℕ → Type 0
 IsNext line lines before = (behind : List (List ℕ)) × (lines ≡ take before lines ++ line ∷ behind) × (is_member bytes_eq (take before lines) line ≡ false)
 
--- A map has no line at a place before its last one.
+-- A map has each line, at a place that is not before any of its places.
 abbrev pub AreLastPlaces : List (List ℕ) → BTreeMap (Bor (List ℕ)) ℕ → Type 0
 AreLastPlaces lines map =
     (line : List ℕ) (place : ℕ) → place < length lines → get_or lines place [] ≡ line

@@ -1,6 +1,6 @@
 //! Theorems about the changes of a screen. Each is the contract of a function without effect.
 
-ghost use Rattle.vt_trace.specs.Changes.{ChangesAreOne, SameLinesHaveNone};
+ghost use Rattle.vt_trace.specs.Changes.{ChangesAreOne, OneReplacedLine, SameLinesHaveNone};
 
 /// The changes from one screen to another are unique.
 pub fn changes_are_one()
@@ -10,4 +10,9 @@ pub fn changes_are_one()
 /// There are no changes if the lines of both screens are the same, and only then.
 pub fn same_lines_have_none()
     ensures { SameLinesHaveNone }
+{}
+
+/// If one line is replaced, the changes are this line and the one in its place.
+pub fn one_replaced_line()
+    ensures { OneReplacedLine }
 {}

@@ -1,0 +1,5 @@
+use Rattle.vt_trace.proofs.OneDifference.{replaced-line}
+use Rattle.vt_trace.proofs.laws.one_replaced_line.Goals as goal
+
+pub returns : goal.returns
+returns c = replaced-line
