@@ -1,4 +1,6 @@
-"""The lines of a log, as `candump -L` writes them, with lines of the operator (docs/PROFILE.md, "Log lines")."""
+"""The lines of a log, as `candump -L` or `candump -ta` writes them, with lines of the operator (docs/PROFILE.md, "Log lines" and "Lines of
+other recorders").
+"""
 from __future__ import annotations
 
 import re
@@ -85,9 +87,18 @@ def read_log(lines: Iterable[str | bytes]) -> Iterator[Line]:
 
 
 def read_line(number: int, text: bytes) -> Line:
-    """A line of a log, without its newline."""
-    if text.endswith(b'\r'):
-        text = text[:-1]
+    """A line of a log, without its newline. One of another form than that of `candump -L` is read in its plain form, if this is a frame."""
+    line = _as_it_stands(number, text)
+    if isinstance(line, FaultyLine) and line.fault in ('Time', 'Shape'):
+        plain = _as_it_stands(number, _plain_form(_content(text)))
+        if isinstance(plain, (FrameLine, SkippedLine)):
+            return plain
+    return line
+
+
+def _as_it_stands(number: int, text: bytes) -> Line:
+    """A line of the form of `candump -L`, or of the operator."""
+    text = _content(text)
     good = GOOD.fullmatch(text)
     if good is not None:
         time = int(good[1]) * 1_000_000 + int(good[2])
@@ -97,6 +108,42 @@ def read_line(number: int, text: bytes) -> Line:
     if text.startswith(b'! '):
         return _action(number, text) or FaultyLine(number, 'Operator')
     return _other(number, text)
+
+
+def _content(text: bytes) -> bytes:
+    """A line without the one carriage return that may end it."""
+    return text[:-1] if text.endswith(b'\r') else text
+
+
+def _plain_form(text: bytes) -> bytes:
+    """What `candump -L` would write for a line that was recorded in another way (docs/PROFILE.md, "Lines of other recorders")."""
+    time, rest = _word(text)
+    interface, rest = _word(rest)
+    identifier, data = _word(rest)
+    count, data = _word(data)
+    if not count.startswith(b'['):
+        return b'%b %b %b' % (time, interface, rest.lstrip(b' '))
+    # (a CAN FD frame has two digits in its brackets)
+    return b'%b %b %b#%b' % (time, interface, identifier, b'#' if len(count) == 4 else _joined(data))
+
+
+def _joined(text: bytes) -> bytes:
+    """The data of a frame without the spaces between its bytes, or R of a remote frame."""
+    word, rest = _word(text)
+    if word.startswith(b'r'):
+        return b'R'
+    data = b''
+    while len(data) < 16 and len(word) == 2 and not word.startswith(b"'"):
+        data += word
+        word, rest = _word(rest)
+    return data
+
+
+def _word(text: bytes) -> tuple[bytes, bytes]:
+    """The first word of a text, and what is behind it. Words stand between spaces."""
+    text = text.lstrip(b' ')
+    word = text.partition(b' ')[0]
+    return word, text[len(word):]
 
 
 def _other(number: int, text: bytes) -> Line:

@@ -52,7 +52,7 @@ class Others(unittest.TestCase):
                     self.assertEqual(after_the_time(rest), SkippedLine(1, why))
 
     def test_times(self) -> None:
-        for text in (b' (1.000000) can0 123#', b'!press 400', b'(1.0000000) can0 123#', b'(.000000) can0 123#', b'(1234567890123.000000) c 123#'):
+        for text in (b'x (1.000000) can0 123#', b'!press 400', b'(1.0000000) can0 123#', b'(.000000) can0 123#', b'(1234567890123.000000) c 123#'):
             with self.subTest(text=text):
                 self.assertEqual(read_line(1, text), FaultyLine(1, 'Time'))
 

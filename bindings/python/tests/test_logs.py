@@ -2,11 +2,12 @@
 import io
 import os
 import re
+import subprocess
 import unittest
 from concurrent.futures import ThreadPoolExecutor
 from unittest import mock
 
-from segyolant import Frame, LogError, NoPool, Refusal, replay, replay_text
+from segyolant import Frame, LogError, NoPool, Refusal, programs, read_log, replay, replay_text
 from segyolant.log_lines import FaultyLine, FrameLine
 from tests import stored
 from tests.support import EXAMPLES, SET, example, is_quick
@@ -45,6 +46,47 @@ class Stored(unittest.TestCase):
         for run, text in texts_of(runs):
             with self.subTest(run.shown):
                 self.assertEqual(text, run.printed)
+
+
+# What stands before a frame, and the frame: a request for a claim, which the terminal answers, and others.
+FRONTS = [b'(1.000000) can0 ', b'(1.000000)  can0  ', b'  (1.000000)   vcan1  ', b'(1.000000)  an_interface_of_more_than_15 ', b' can0  ']
+FRAMES = [
+    b'18EA2680#00EE00', b'18EA2680   [3]  00 EE 00', b'18EA2680 [3] 00 EE 00 R', b'18EA2680#00EE00  T', b'18EA2680#00EE00 T R', b'18EA2680#00EE00 T',
+    b'18EA2680#00EE00 ', b'18EA2680  [8]  00 EE 00', b'18EA2680  [2]  00 EE 00', b'18EA2680   [3]  00 EE 0', b"18EA2680   [3]  00 EE 00   '...'",
+    b"18EA2680   [3]  00 EE 00 'x", b'18EA2680   [3]  00 EE \'0', b'18EA2680   [3]  00 EE 0G', b'18EA2680   [9]  1 2', b'18EA2680   [3]  00  EE  00\r',
+    b'18EA2680   [3]  00 EE 00\r\r', b'18EA2680   [0]', b'18EA2680   [8]  00 01 02 03 04 05 06 07 08', b'18EA2680   [8]  remote request',
+    b'18EA2680   [0]  r', b'18EA2680   [0]  Remote', b'18EA2680  [08]  00 EE 00', b'18EA2680  [12]  00 01 02 03 04 05 06 07 08 09 0A 0B',
+    b'18EA2680 [123] 00 EE 00', b'18EA2680 [', b'18EA2680##100EE00', b'123   [2]  00 01', b'123#0001', b'20000004   [8]  00 00 00 00 00 00 00 00',
+    b'18EA268G   [3]  00 EE 00', b'18EA268   [3]  00 EE 00', b'18EA2680# [3] 00', b'18EA2680', b'18EA2680 00EE00', b'', b'\t18EA2680   [3]  00 EE 00',
+]
+OTHERS = [
+    b'\xef\xbb\xbf(1.000000)  can0  18EA2680   [3]  00 EE 00', b'! press 400', b'  ! press 400', b'!  press 400', b'! press  400', b'! set 80 ',
+    b' # a comment', b'#', b' ', b'\r', b' \r', b'', b'(1.000000)', b'(1.000000) ', b'(2026-11-10 10:00:00.000000)  can0  18EA2680   [3]  00 EE 00',
+    b'1.000000  can0  18EA2680   [3]  00 EE 00', b'(1.00000)  can0  18EA2680   [3]  00 EE 00', b'(1.123456789)  can0  18EA2680   [3]  00 EE 00',
+]
+
+
+class OtherRecorders(unittest.TestCase):
+    """Lines of `candump -ta`, padded lines and others, against what the programs read in them."""
+
+    LINES = [front + frame for front in FRONTS for frame in FRAMES] + OTHERS
+    LOG = b''.join(line + b'\n' for line in LINES)
+
+    def printed(self, name: str, *words: str) -> bytes:
+        return subprocess.run([str(programs.find(name)), *words, '-'], input=self.LOG, capture_output=True, check=True).stdout
+
+    def test_they_are_read_as_vt_replay_reads_them(self) -> None:
+        text = self.printed('vt_replay')
+        self.assertEqual(replay_text(self.LOG.split(b'\n')[:-1]).encode('latin-1'), text)
+        self.assertGreater(text.count(b'18EEFF26#'), 20)
+
+    def test_their_frames_are_those_that_segyolant_log_writes(self) -> None:
+        def frames_in(log: bytes) -> list[tuple[int, Frame]]:
+            return [(each.time, each.frame) for each in read_log(log.split(b'\n')[:-1]) if isinstance(each, FrameLine)]
+
+        written = frames_in(self.printed('segyolant_log', 'operator'))
+        self.assertEqual(frames_in(self.LOG), written)
+        self.assertIn((1_000_000, Frame(0x18EA2680, bytes(range(8)))), written)
 
 
 class Steps(unittest.TestCase):
