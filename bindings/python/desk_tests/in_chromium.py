@@ -2,9 +2,11 @@
 from __future__ import annotations
 
 import statistics
+import tempfile
 import time
 import unittest
 from collections.abc import Callable, Iterable, Sequence
+from pathlib import Path
 
 from selenium.webdriver.common.action_chains import ActionChains
 from selenium.webdriver.common.keys import Keys
@@ -357,6 +359,13 @@ class OtherLines(WithPage):
         browser.until(lambda: 'the end' in browser.text('#player'), 'the end of the log', 60)
         browser.until(lambda: browser.said(), 'the mask')
         browser.shot('15-log')
+
+    def test_a_log_without_a_frame(self) -> None:
+        with tempfile.NamedTemporaryFile(suffix='.log') as log:
+            log.write(b'# a comment\n18EEFF80#01000000001D0020\n')
+            log.flush()
+            self.open(log=Path(log.name))
+            self.browser.until(lambda: 'line 2 is faulty (Time); the log has no frame' in self.browser.text('#player'), 'what it lacks')
 
     def test_a_terminal_that_ends_comes_back_with_its_sets(self) -> None:
         self.open_sprayer()

@@ -350,7 +350,34 @@ class Logs(WithDesk):
         line.play(speed=64)
         await self.until(lambda: line._next is None)
         self.assertFalse(desk.terminal.lost)
-        self.assertEqual(line.faults, 0)
+        self.assertEqual(line.problems, '')
+
+    async def played(self, log: bytes) -> tuple[Desk, LogLine, list[str]]:
+        """A log that was played to its end, with its warnings."""
+        path = self.folder / 'played.log'
+        path.write_bytes(log)
+        line, warnings = LogLine(path, 0x26), []
+        line.warn = warnings.append
+        desk = self.desk(line)
+        line.play(speed=64)
+        await self.until(lambda: line.is_over and line._next is None)
+        return desk, line, warnings
+
+    async def test_lines_of_candump_are_played(self) -> None:
+        desk, line, warnings = await self.played(
+            b'(1.000000)  can0  18EEFF80   [8]  01 00 00 00 00 1D 00 20\n(1.100000)  vcan1 1CFE0D80#01FFFFFFFFFFFFFF\n')
+        self.assertEqual([each.address for each in desk.terminal.sets()], [0x80])
+        self.assertEqual((warnings, line.problems), ([], ''))
+
+    async def test_faulty_lines_are_told(self) -> None:
+        frame = b'.000000) can0 18EEFF80#01000000001D0020\n'
+        _, line, warnings = await self.played(b'(1' + frame + b'x\n(9' + frame + b'(9.000000) can0 18EEFF80\n')
+        self.assertEqual(warnings, ['line 2 is faulty (Time)', '2 lines are faulty, the first is line 2 (Time)'])
+        self.assertEqual(line.state['problems'], warnings[-1])
+
+    async def test_a_log_without_a_frame_is_told(self) -> None:
+        _, _, warnings = await self.played(b'# a comment\n18EEFF80#01000000001D0020\n')
+        self.assertEqual(warnings, ['line 2 is faulty (Time); the log has no frame'])
 
 
 class Pieces(unittest.TestCase):

@@ -96,6 +96,7 @@ def make_desk(chosen: argparse.Namespace) -> Desk:
     if isinstance(line, LogLine):
         line.act = desk.play_action
         line.told = lambda: desk.audience.tell(line.state)
+        line.warn = lambda problems: print(f'segyolant.desk: {line.name}: {problems}', file=sys.stderr)
     elif hasattr(line, 'told'):
         line.told = lambda words: desk.note(words, 'bad')
     return desk

@@ -7,7 +7,6 @@ from __future__ import annotations
 
 import asyncio
 import os
-import re
 import time
 from collections.abc import Callable, Sequence
 from typing import Any, Protocol
@@ -15,7 +14,7 @@ from typing import Any, Protocol
 from ..bus import Bus, Node
 from ..errors import LogError
 from ..frames import Frame
-from ..log_lines import ActionLine, FrameLine, read_log
+from ..log_lines import ActionLine, FaultyLine, FrameLine, read_log
 from .clock import SECOND, Clock, PlayClock, SlowClock
 
 Received = tuple[int, int, bytes]
@@ -125,16 +124,20 @@ class _Gate:
 class LogLine:
     """A log, played by its own times. Frames of the terminal's address are left out, as the terminal sends its own.
 
-    It is read as it is played. `told` is called when something of `state` has changed.
+    It is read as it is played. `told` is called when something of `state` has changed, and `warn` with `problems`: when the first one is
+    found, and at the end of the log.
     """
 
     def __init__(self, path: str | os.PathLike[str], own: int, act: Act = lambda line: None) -> None:
         self.name, self.own, self.act = os.path.basename(path), own, act
         self.told: Callable[[], None] = lambda: None
+        self.warn: Callable[[str], None] = lambda problems: None
         self.position, self.faults, self.fault, self.is_over = 0, 0, '', False
+        self._first_faulty: FaultyLine | None = None
+        self._has_frames = self._has_warned = self._has_warned_at_end = False
         self._size = max(os.path.getsize(path), 1)
         self._file = open(path, 'rb')
-        self._lines = read_log(_with_single_spaces(line) for line in self._file)
+        self._lines = read_log(self._file)
         self._read = 0
         self._next: FrameLine | ActionLine | None = self._next_line()
         self._first = self._next.time if isinstance(self._next, FrameLine) else 0
@@ -146,8 +149,22 @@ class LogLine:
     def state(self) -> dict[str, Any]:
         """How far it is, for the pages."""
         return {'kind': 'player', 'name': self.name, 'line': self.position, 'part': self._read / self._size, 'runs': self.clock.runs,
-                'speed': self.clock.speed, 'over': self.is_over, 'faults': self.faults, 'fault': self.fault,
+                'speed': self.clock.speed, 'over': self.is_over, 'problems': self.problems,
                 'time': round((self.clock.now() - self._shift - self._first) / SECOND, 1)}
+
+    @property
+    def problems(self) -> str:
+        """What could not be read so far, in words, and whether the log has no frame. Empty if all is well."""
+        found, first = [], self._first_faulty
+        if first is not None and self.faults == 1:
+            found.append(f'line {first.number} is faulty ({first.fault})')
+        elif first is not None:
+            found.append(f'{self.faults} lines are faulty, the first is line {first.number} ({first.fault})')
+        if self.fault:
+            found.append(self.fault)
+        if self.is_over and not self._has_frames:
+            found.append('the log has no frame')
+        return '; '.join(found)
 
     def open(self, hear: Hear) -> None:
         self._hear = hear
@@ -208,9 +225,12 @@ class LogLine:
         try:
             for line in self._lines:
                 self._read = self._file.tell()
-                if isinstance(line, (FrameLine, ActionLine)):
+                if isinstance(line, FaultyLine):
+                    self.faults += 1
+                    self._first_faulty = self._first_faulty or line
+                elif isinstance(line, (FrameLine, ActionLine)):
+                    self._has_frames |= isinstance(line, FrameLine)
                     return line
-                self.faults += hasattr(line, 'fault')
         except (LogError, OSError) as error:
             self.fault = str(error)
         self.is_over = True
@@ -223,6 +243,13 @@ class LogLine:
             time = self._next.time + self._shift if isinstance(self._next, FrameLine) else 0
             self._timer = asyncio.get_running_loop().call_later(self.clock.seconds_until(time) or 0.0, self._run)
         self.told()
+        self._warn_once()
+
+    def _warn_once(self) -> None:
+        """Warns of the first problem, and of all at the end."""
+        if self.problems and not (self._has_warned_at_end if self.is_over else self._has_warned):
+            self._has_warned, self._has_warned_at_end = True, self.is_over
+            self.warn(self.problems)
 
 
 class _ShiftedClock(PlayClock):
@@ -234,8 +261,3 @@ class _ShiftedClock(PlayClock):
 
     def wall(self, moment: int) -> float:
         return (moment - self._shift) / SECOND
-
-
-def _with_single_spaces(line: bytes) -> bytes:
-    """A line of `candump` with padded interfaces, as one without padding."""
-    return re.sub(rb' +', b' ', line) if line.startswith(b'(') else line

@@ -470,7 +470,8 @@ function showPlayer(message) {
   $('speed').value = message.speed;
   $('player').querySelector('progress').value = message.part;
   const end = message.over ? ', the end' : '';
-  $('player').lastElementChild.textContent = message.fault || `line ${message.line}, ${message.time.toFixed(1)} s${end}`;
+  const problems = message.problems && `; ${message.problems}`;
+  $('player').lastElementChild.textContent = `line ${message.line}, ${message.time.toFixed(1)} s${end}${problems}`;
 }
 $('speed').append(...SPEEDS.map(speed => make('option', { value: speed, textContent: `${speed} times` })));
 $('speed').addEventListener('change', () => send({ do: 'play', speed: +$('speed').value }));
