@@ -1,4 +1,5 @@
 """Man pages and completions for shells, made of the command lines of the programs."""
+import itertools
 import re
 
 
@@ -17,11 +18,18 @@ def man_page(line, version):
             parts += ['.TP', f'.B {plain(row.word)}', plain(row.meaning)]
     if line.after:
         parts.append('.SH NOTES')
-        for block in line.after:
-            is_code = block[0].startswith(' ')
-            parts += ['.PP', *(['.nf'] if is_code else []), *map(plain, block), *(['.fi'] if is_code else [])]
+        parts += [each for block in line.after for each in notes(block)]
     parts += ['.SH SEE ALSO', 'The documents below share/doc/segyolant.']
     return '\n'.join(parts) + '\n'
+
+
+def notes(block):
+    """The lines of a block of notes. Those that are indented keep their breaks and spaces."""
+    made = ['.PP']
+    for is_code, lines in itertools.groupby(block, lambda line: line.startswith(' ')):
+        text = list(map(plain, lines))
+        made += ['.nf', *text, '.fi'] if is_code else text
+    return made
 
 
 def plain(text):
