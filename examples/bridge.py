@@ -3,7 +3,8 @@
 
     bridge.py [--own AA] [--name N] [--interface TYPE --channel NAME [--bitrate N]] [PROGRAM]
 
-PROGRAM is vt_replay, or else crates/vt_replay/out/vt_replay. It runs as a child that reads its log from a pipe. The bridge sends the
+PROGRAM is vt_replay. Without it the bridge takes the proved one, crates/vt_replay/out/vt_replay, or else the quick build,
+out/quick/vt_replay, and says on the error output which. It runs as a child that reads its log from a pipe. The bridge sends the
 address claim, gives the child each frame with the time of its reception, sends the frames that the child prints, and repeats the
 status each second. For 250 ms after its claim it gives the child only claims and requests for them, and passes over other frames.
 The child hears the time with frames only; so before each action of the operator, and each tenth of a second in which no frame waits, it
@@ -25,7 +26,7 @@ import threading
 import time
 
 ROOT = os.path.dirname(os.path.dirname(os.path.abspath(__file__)))
-PROGRAM = f'{ROOT}/crates/vt_replay/out/vt_replay'
+PROGRAMS = [f'{ROOT}/crates/vt_replay/out/vt_replay', f'{ROOT}/out/quick/vt_replay']
 FRAME = re.compile(r'([0-9A-Fa-f]{8})#((?:[0-9A-Fa-f]{2}){0,8})$')
 STATUS_SECONDS = 1
 TICK_SECONDS = 0.1
@@ -76,10 +77,16 @@ class Bus:
     """A bus of python-can."""
 
     def __init__(self, words):
-        import can
+        try:
+            import can
+        except ImportError:
+            sys.exit(f'bridge.py: {sys.executable} has no python-can: apt-get install python3-can, and run bridge.py by /usr/bin/python3')
         self.can = can
         more = {'bitrate': words.bitrate} if words.bitrate else {}
-        self.bus = can.Bus(interface=words.interface, channel=words.channel, receive_own_messages=False, **more)
+        try:
+            self.bus = can.Bus(interface=words.interface, channel=words.channel, receive_own_messages=False, **more)
+        except (can.CanError, OSError, ValueError) as error:
+            sys.exit(f'bridge.py: {words.interface} {words.channel} cannot be opened: {error}')
         self.people = sys.stdout
 
     def send(self, identifier, data):
@@ -105,7 +112,10 @@ class Terminal:
         self.own, self.name = own, bytes.fromhex(name)[::-1]
         self.status = bytes.fromhex('FEFEFFFFFFFF00FF')
         words = [program, '-', '--own', f'{own:02X}', '--name', name]
-        self.child = subprocess.Popen(words, stdin=subprocess.PIPE, stdout=subprocess.PIPE, text=True, encoding='latin-1')
+        try:
+            self.child = subprocess.Popen(words, stdin=subprocess.PIPE, stdout=subprocess.PIPE, text=True, encoding='latin-1')
+        except OSError as error:
+            sys.exit(f'bridge.py: {program}: {error.strerror}: PROGRAM is the path of vt_replay')
         threading.Thread(target=self.listen, args=[events], daemon=True).start()
 
     def listen(self, events):
@@ -225,13 +235,22 @@ def words_of():
     parser.add_argument('--interface', metavar='TYPE')
     parser.add_argument('--channel', metavar='NAME')
     parser.add_argument('--bitrate', type=int, metavar='N')
-    parser.add_argument('program', nargs='?', default=PROGRAM, metavar='PROGRAM')
+    parser.add_argument('program', nargs='?', metavar='PROGRAM')
     words = parser.parse_args()
     if (words.interface is None) != (words.channel is None):
         parser.error('--interface and --channel are given together or not at all')
     if int(words.own, 16) > 0xFD:
         parser.error(f'--own {words.own}: an address up to FD is wanted')
+    words.program = words.program or found_program()
     return words
+
+
+def found_program():
+    """The vt_replay of this repository, proved or a quick build."""
+    for path in filter(os.path.exists, PROGRAMS):
+        print(f'bridge.py: runs {path}', file=sys.stderr)
+        return path
+    sys.exit('bridge.py: vt_replay is not there: make build proves it, make quick builds it without a proof, and PROGRAM names another one')
 
 
 def main():
