@@ -29,6 +29,10 @@ from version import version  # noqa: E402
 # Files at the top that are installed with the documents, if they are there.
 PAGES = ['README.md', 'CHANGELOG.md', 'CONTRIBUTING.md', 'SECURITY.md', 'LICENSE', 'LICENSE.md', 'COPYING']
 FOLDERS = ['docs', 'examples']
+# What the README of an archive of quick builds says in place of the libraries.
+LACKS = '''
+This archive has no libraries and no headers: an archive that `make dist` packs without `QUICK=1` has them. No archive has the package for Python, which is in the repository.
+'''
 
 
 def write(path, text):
@@ -67,7 +71,7 @@ def put_documents(at):
 def put_readme(at, libraries):
     """What to do with what was unpacked."""
     with open(f'{ROOT}/packaging/README.md.in', encoding='utf-8') as file, open(f'{ROOT}/packaging/libraries.md.in', encoding='utf-8') as more:
-        text = file.read().replace('@LIBRARIES@\n', more.read() if libraries else '')
+        text = file.read().replace('@LIBRARIES@\n', more.read() if libraries else LACKS)
     write(f'{at}/README.md', text.replace('@VERSION@', version() + ('' if libraries else ', quick builds, not proved,')))
 
 
