@@ -128,10 +128,12 @@ def _plain_form(text: bytes) -> bytes:
 
 
 def _joined(text: bytes) -> bytes:
-    """The data of a frame without the spaces between its bytes, or R of a remote frame."""
+    """The data of a frame without the spaces between its bytes, R of a remote frame, or a space, which no data begins with."""
     word, rest = _word(text)
     if word.startswith(b'r'):
         return b'R'
+    if len(word) not in (0, 2) and not word.startswith(b"'"):
+        return b' '
     data = b''
     while len(data) < 16 and len(word) == 2 and not word.startswith(b"'"):
         data += word
