@@ -13,15 +13,15 @@ pub fn messages_depend_on_their_source()
     ensures { MessagesDependOnTheirSource }
 {}
 
-/// A run of a receiver from no session hands out the messages of each source. At each frame, overdue sessions
-/// end before the frame is received.
+/// A run of a receiver that starts without sessions hands out the messages of each source. At each frame,
+/// overdue sessions end before the frame is received.
 pub fn runs_hand_out_messages()
     ensures { RunsHandOutMessages }
 {}
 
-/// A run of a receiver from no session hands out a message of a source exactly when it becomes whole in the
-/// source's history: its frames, and a mark at each input of the bus with its session overdue. The session
-/// of the source in the run is that of the history.
+/// A run of a receiver that starts without sessions hands out a message of a source exactly when it becomes
+/// whole in the history of the source. The history has the frames of the source, and a mark at each input of
+/// the bus at which its session is overdue. The session of the source in the run is that of the history.
 pub fn runs_hand_out_whole_messages()
     ensures sessions { SessionsAreOfHistories }
     ensures messages { RunsHandOutWholeMessages }

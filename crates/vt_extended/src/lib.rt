@@ -1,7 +1,7 @@
 //! The extended transport protocol (ETP) of ISO 11783-3, limited to messages of 9 to 1,048,576 bytes.
 //!
-//! - `Receiver` handles the frames of all sources, and answers each with `Heard`: nothing, a reply, or a whole
-//!   message with its `Bytes`.
+//! - `Receiver` processes the frames of all sources, and answers each with `Heard`: nothing, a reply, or a
+//!   whole message with its `Bytes`.
 //! - `laws` has theorems about the definitions in specs/.
 //!
 //! docs/PROFILE.md, "Transport", has the rules. Times are in microseconds.

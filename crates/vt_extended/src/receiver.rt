@@ -23,8 +23,8 @@ use std::marker::Model;
 use std::mem;
 use vt_can::{Frame, Heard, Reason, Received, Sessions, Timed};
 
-/// The ETP receiver of a node: at most one session for each source, seen as the map of the sessions by
-/// source, the node's address, and the number of bytes reserved for a message. Without its table no byte is reserved.
+/// The ETP receiver of a node, with at most one session for each source. Contracts see it as the map of the sessions by source, the
+/// node's address, and the number of bytes reserved for a message. Without its table no byte is reserved.
 ///
 /// docs/PROFILE.md, "The ETP receiver".
 pub struct Receiver {
@@ -76,8 +76,8 @@ impl Receiver {
         }
     }
 
-    /// Handles a frame received at `now`. Only a request to send allocates, for the whole message and the first for the table. After
-    /// `OutOfMemory` the receiver is unchanged. docs/PROFILE.md, "The ETP receiver".
+    /// Processes a frame received at `now`. Only a request to send allocates: for the whole message, and the first one also for the
+    /// table. After `OutOfMemory` the receiver is unchanged. docs/PROFILE.md, "The ETP receiver".
     pub fn hear(&mut self, now: u64, frame: &Frame) -> Result<Heard, OutOfMemory>
         ensures step { IfOk result (λ heard. MakesStep protocol self.old self.new (source_of frame.now) (outcome protocol self.old now frame.now) heard) }
         ensures others { OthersStay self.old self.new (source_of frame.now) }
@@ -94,9 +94,8 @@ impl Receiver {
         }
     }
 
-    /// Ends the overdue session of the least source and returns its abort. A session is overdue more than
-    /// 1,250,000 microseconds after its last frame. Call it until it returns `None`. docs/PROFILE.md,
-    /// "Timeouts".
+    /// Ends the overdue session with the lowest source address, and returns its abort. A session is overdue more than 1,250,000
+    /// microseconds after its last frame. Call it until it returns `None`. docs/PROFILE.md, "Timeouts".
     pub fn expire(&mut self, now: u64) -> Option<Frame>
         ensures own_address { self.new.own_address ≡ self.old.own_address }
         ensures spare { self.new.spare ≡ self.old.spare }
@@ -120,8 +119,8 @@ impl Receiver {
         self.sessions.overdue_from()
     }
 
-    /// Of a message of a parameter group that is arriving from a source, and begins with a byte: the number of its bytes so far, and its
-    /// size as announced. Both are 0 without such a message.
+    /// How much has arrived of a message from a source, if it is of this parameter group and begins with this byte: the number of bytes
+    /// so far, and the announced size. Both are 0 if there is no such message.
     pub fn arrived(&self, source: u8, pgn: u32, first: u8) -> (usize, u32)
         ensures { result ≡ arrived_in pgn first (finite.get self.now.sessions source) }
     {
@@ -131,9 +130,9 @@ impl Receiver {
         }
     }
 
-    /// Reserves the memory for `hear` of this frame, so that it is not refused, even after calls of
-    /// `expire`. The sessions are unchanged. Returns the size and first byte of the message that `hear`
-    /// hands out after those calls, if any. docs/PROFILE.md, "The ETP receiver".
+    /// Reserves the memory that `hear` needs for this frame, so that it is not refused, even after calls of `expire`. The sessions are
+    /// unchanged. Returns the size and first byte of the message that `hear` hands out after those calls, if any. docs/PROFILE.md, "The
+    /// ETP receiver".
     pub fn prepare(&mut self, now: u64, frame: &Frame) -> Result<Option<(usize, u8)>, OutOfMemory>
         ensures own_address { self.new.own_address ≡ self.old.own_address }
         ensures sessions { self.new.sessions ≡ self.old.sessions }

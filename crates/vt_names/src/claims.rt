@@ -18,14 +18,14 @@ const NULL_ADDRESS: u8 = 254;
 pub enum ClaimMeaning {
     /// The claim needs no answer.
     Nothing,
-    /// A greater NAME claimed the own address: this node claims it again.
+    /// A greater NAME claimed the address of this node: this node claims it again.
     Defend,
-    /// A lower NAME claimed the own address: this node loses it.
+    /// A lower NAME claimed the address of this node: this node loses it.
     Lost,
 }
 
-/// The address claims received by a node, seen as its own address and NAME, and the address of each NAME
-/// that has one.
+/// The address claims received by a node. Contracts see them as the node's own address and NAME, and the
+/// address of each NAME that has one.
 ///
 /// A claim takes time that grows with the logarithm of the number of NAMEs. docs/PROFILE.md, "The holder of
 /// an address".
@@ -61,7 +61,7 @@ impl Model for Claims {
 }
 
 impl Claims {
-    /// Creates the claims of a node, of which there are none yet. Does not allocate.
+    /// Creates the claims of a node with this address and NAME, before it receives any. Does not allocate.
     pub fn new(alloc: Global, own: u8, name: Name) -> Claims
         ensures { result ≡ record { own = own; name = name; addresses = [] } }
     {
@@ -117,7 +117,7 @@ impl Claims {
         self.addresses.get(&name.raw()).copied()
     }
 
-    /// Returns the holder of an address: the least NAME among those whose last claim was of it.
+    /// Returns the holder of an address: the least NAME among those whose last claim was for it.
     /// docs/PROFILE.md, "The holder of an address".
     pub fn holder(&self, address: u8) -> Option<Name>
         ensures { result ≡ holder_of self.now.addresses address }
@@ -125,7 +125,7 @@ impl Claims {
         self.holders.get(address)
     }
 
-    /// Returns the meaning of a claim of an address by a NAME for this node, and records nothing.
+    /// Returns what the claim of an address by a NAME means for this node, and records nothing.
     pub fn answer(&self, address: u8, name: Name) -> ClaimMeaning
         ensures { result ≡ answer self.now address name }
     {

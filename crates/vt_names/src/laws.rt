@@ -14,7 +14,7 @@ pub fn addresses_are_last()
     ensures { AddressesAreLast }
 {}
 
-/// The holder of an address is the least NAME among those whose last claim was of it, over all claims received.
+/// The holder of an address is the least NAME among those whose last claim was for it, over all claims received.
 pub fn holders_are_least()
     ensures { HoldersAreLeast }
 {}

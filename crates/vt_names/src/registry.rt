@@ -31,8 +31,8 @@ pub enum RegistryFault {
     OutOfMemory,
 }
 
-/// The working sets, seen as their list in order of registration, and the capacity reserved for one more, 1 or 0.
-/// No two sets have the same address.
+/// The working sets. Contracts see them as a list in order of registration, and the capacity reserved for one
+/// more, 1 or 0. No two sets have the same address.
 ///
 /// docs/PROFILE.md, "Working sets".
 pub struct Registry {
@@ -171,7 +171,7 @@ impl Registry {
         self.sets.get(&address)
     }
 
-    /// Adds a set without a NAME, for an address without a set. After an error the sets are unchanged.
+    /// Adds a set without a NAME. The address must have no set yet. After an error the sets are unchanged.
     /// docs/PROFILE.md, "Preloaded sets".
     pub fn preload(&mut self, address: u8) -> Result<(), OutOfMemory>
         requires none { set_at address self.old.sets ≡ None }
@@ -181,8 +181,8 @@ impl Registry {
         self.add(address, None, 1)
     }
 
-    /// Gives a NAME to the set of an address, which exists and has none. Does not allocate.
-    /// docs/PROFILE.md, "Preloaded sets".
+    /// Gives a NAME to the set of an address. There must be a set, and it must have no NAME yet. Does not
+    /// allocate. docs/PROFILE.md, "Preloaded sets".
     pub fn bind(&mut self, address: u8, name: Name)
         requires unnamed { IsUnnamed (set_at address self.old.sets) }
         ensures sets { self.new.sets ≡ binding (set_at address self.old.sets) name self.old.sets }

@@ -10,8 +10,8 @@ use std::marker::Model;
 /// The NAMEs of a set's members, boxed so that a move of the set does not copy them.
 pub(crate) type Members = Box<ArrayVec<Name, 254>>;
 
-/// A working set: the address of its master, its NAME if it has one, the number of its members with the master,
-/// and the announced NAMEs of the others. docs/PROFILE.md, "What a set has".
+/// A working set: the address of its master, its NAME if it has one, the number of its members including the
+/// master, and the announced NAMEs of the others. docs/PROFILE.md, "What a set has".
 #[derive(Drop)]
 pub struct Set {
     address: u8,
@@ -75,7 +75,7 @@ impl Set {
         self.name
     }
 
-    /// The number of members with the master, at least 1.
+    /// The number of members including the master, at least 1.
     pub fn count(&self) -> u8
         ensures { result ≡ self.now.count }
     {

@@ -1,9 +1,10 @@
-//! The terminal as a node of the bus (ISO 11783-3, -5, -6): the meaning of frames for it, the address claims received, its
-//! transport sessions, its working sets with the times of their last frames, and the bytes of its messages.
+//! The terminal as a node of the bus: what frames mean, claims, transport sessions, and working sets with their times (ISO
+//! 11783-3, -5, -6).
 //!
-//! - `notice_of` reads what a frame says, as a `FrameMeaning`.
-//! - `Node` has the claims heard, the two receivers and the sender. `WatchedRegistry` has the sets, and finds one that is silent.
-//! - `message_to`, `claim_from` and `technical_reply` make messages, and a `Profile` is what a terminal says of itself.
+//! - `notice_of` returns the `FrameMeaning` of a frame.
+//! - `Node` has the claims received, the two receivers and the sender. `WatchedRegistry` has the sets, and finds one that is
+//!   silent.
+//! - `message_to`, `claim_from` and `technical_reply` make messages, and a `Profile` has the technical data of a terminal.
 //!
 //! docs/PROFILE.md, "Messages of address claim", "Working sets", "Silence", "Other messages".
 #![tactic(auto)]

@@ -30,7 +30,7 @@ pub fn message_to(own: u8, address: u8, bytes: [u8; 8]) -> Frame
     }
 }
 
-/// A frame without data from the terminal to all, which the terminal takes as an echo.
+/// A frame without data from the terminal to all nodes. The terminal takes such a frame as an echo.
 pub fn echo(own: u8) -> Frame
     ensures { result ≡ message_to own GLOBAL_ADDRESS [] }
 {

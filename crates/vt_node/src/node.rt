@@ -27,7 +27,7 @@ use vt_can::{Frame, Heard, earlier};
 use vt_names::{ClaimMeaning, Claims, Name};
 use vt_transport::SendFault;
 
-/// The address claims received by a node, and its transport sessions, both for one own address.
+/// The address claims that a node received, and its transport sessions, both for the node's own address.
 pub struct Node {
     claims: Claims,
     tp: vt_transport::Receiver,
@@ -104,7 +104,7 @@ impl Node {
         self.claims.holder(address)
     }
 
-    /// Returns the meaning of a claim of an address by a NAME for this node.
+    /// Returns what the claim of an address by a NAME means for this node, and records nothing.
     pub fn answer(&self, address: u8, name: Name) -> ClaimMeaning
         ensures { result ≡ answer self.now.claims address name }
     {
@@ -150,7 +150,7 @@ impl Node {
         self.etp.prepare(now, frame)
     }
 
-    /// Handles a frame of the transport protocol as the receiver. Its memory is reserved by `prepare_tp`.
+    /// Processes a frame of the transport protocol as the receiver. Its memory must be reserved by `prepare_tp`.
     pub fn receive_tp(&mut self, now: u64, frame: &Frame) -> Heard
         requires { HasCapacityFor tp.protocol (tp_frame self.old.claims.own frame.now) self.old.tp_spare }
         ensures taken { HasTaken (tp_taken self.old now frame.now) (source_of frame.now) self.old.tp self.new.tp result }
@@ -162,7 +162,7 @@ impl Node {
         }
     }
 
-    /// Handles a frame of the extended transport protocol as the receiver. Its memory is reserved by `prepare_etp`.
+    /// Processes a frame of the extended transport protocol as the receiver. Its memory must be reserved by `prepare_etp`.
     pub fn receive_etp(&mut self, now: u64, frame: &Frame) -> Heard
         requires { HasCapacityFor etp.protocol (etp_frame self.old.claims.own frame.now) self.old.etp_spare }
         ensures taken { HasTaken (etp_taken self.old now frame.now) (source_of frame.now) self.old.etp self.new.etp result }
@@ -174,8 +174,8 @@ impl Node {
         }
     }
 
-    /// Of a message of a parameter group that is arriving from an address, and begins with a byte: the number of its bytes so far, and its
-    /// size as announced. Both are 0 without such a message. Of two, the one in the extended protocol counts.
+    /// How much has arrived of a message from an address, if it is of this parameter group and begins with this byte: the number of bytes
+    /// so far, and the announced size. Both are 0 if there is no such message. Of two, the one in the extended protocol counts.
     pub fn arrived(&self, address: u8, pgn: u32, first: u8) -> (usize, u32)
         ensures { result ≡ arrived_at pgn first (finite.get self.now.tp address) (finite.get self.now.etp address) }
     {
@@ -186,7 +186,7 @@ impl Node {
         long
     }
 
-    /// Whether the session in which a message is being sent to an address would be overdue at a time. False without such a session.
+    /// Whether the session that sends a message to an address would be overdue at the time `now`. False if there is no such session.
     pub fn is_overdue_to(&self, address: u8, now: u64) -> bool
         ensures { result ≡ is_overdue now (finite.get self.now.sending address) }
     {
@@ -200,7 +200,7 @@ impl Node {
         self.sender.is_sending(address)
     }
 
-    /// Handles a frame of the transport protocol as the sender, and returns the frames to send.
+    /// Processes a frame of the transport protocol as the sender, and returns the frames to send.
     pub fn receive_as_sender(&mut self, now: u64, frame: &Frame) -> ArrayVec<Frame, 255>
         ensures answered { HasAnswered (sender_answer self.old now frame.now) (source_of frame.now) self.old.sending self.new.sending result.items }
         ensures rest { self.new ≡ record self.old { sending = self.new.sending } }
@@ -208,7 +208,7 @@ impl Node {
         self.sender.hear(now, frame)
     }
 
-    /// Ends the overdue receiving session of the least address, and returns its abort.
+    /// Ends the overdue receiving session with the lowest address, and returns its abort.
     pub fn expire_tp(&mut self, now: u64) -> Option<Frame>
         ensures some { IfSome result (HasExpired (abort_by tp.protocol self.old.claims.own) self.old.tp self.new.tp now) }
         ensures none { IfNone result (NoneExpires self.old.tp self.new.tp now) }
@@ -227,7 +227,7 @@ impl Node {
         self.etp.expire(now)
     }
 
-    /// Ends the overdue sending session of the least address, and returns its abort.
+    /// Ends the overdue sending session with the lowest address, and returns its abort.
     pub fn expire_sending(&mut self, now: u64) -> Option<Frame>
         ensures some { IfSome result (HasExpired (timeout_frame self.old.claims.own) self.old.sending self.new.sending now) }
         ensures none { IfNone result (NoneExpires self.old.sending self.new.sending now) }

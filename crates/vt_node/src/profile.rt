@@ -1,4 +1,4 @@
-//! What a terminal says of itself (docs/PROFILE.md, "Other messages").
+//! The technical data of a terminal (docs/PROFILE.md, "Other messages").
 
 ghost use Rattle.std.specs.Prelude.{◌≡◌};
 ghost use Rattle.vt_node.specs.Profile.{standard};

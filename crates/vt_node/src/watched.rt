@@ -132,8 +132,8 @@ impl WatchedRegistry {
         self.registry.member(address, name)
     }
 
-    /// Adds a set without a NAME, for an address without a set. Its silence begins with the next frame line. After an error
-    /// nothing is changed.
+    /// Adds a set without a NAME. The address must have no set yet. Its silence begins with the next frame line. After an
+    /// error nothing is changed.
     pub fn preload(&mut self, address: u8) -> Result<(), OutOfMemory>
         requires none { set_at address self.old.sets ≡ None }
         ensures sets { OnOk result (self.new.sets ≡ with_set (preloaded address) self.old.sets) }
@@ -146,7 +146,7 @@ impl WatchedRegistry {
         Ok(())
     }
 
-    /// Gives a NAME to the set of an address, which exists and has none.
+    /// Gives a NAME to the set of an address. There must be a set, and it must have no NAME yet.
     pub fn bind(&mut self, address: u8, name: Name)
         requires unnamed { IsUnnamed (set_at address self.old.sets) }
         ensures sets { self.new.sets ≡ binding (set_at address self.old.sets) name self.old.sets }
@@ -184,7 +184,7 @@ impl WatchedRegistry {
         self.watch.note_frame(address, now);
     }
 
-    /// Whether an address would be silent at a time of a frame line. docs/PROFILE.md, "Silence".
+    /// Whether an address would be silent at a frame line with the time `now`. docs/PROFILE.md, "Silence".
     pub fn is_silent_at(&self, address: u8, now: u64) -> bool
         ensures { result ≡ is_silent now (heard_of self.now.watch address) }
     {

@@ -1,9 +1,9 @@
 //! The transport protocol (TP) of ISO 11783-3, for messages of 9 to 1785 bytes in packets of seven.
 //!
-//! - `Receiver` handles the frames of all sources, and answers each with `Heard`: nothing, a reply, or a whole
-//!   message with its `Bytes`.
+//! - `Receiver` processes the frames of all sources, and answers each with `Heard`: nothing, a reply, or a
+//!   whole message with its `Bytes`.
 //! - `Sender` sends at most one message at a time to each destination. `SendFault` is the reason of a refusal.
-//! - `ends_message` tells whether a frame acknowledges the end of a message that was sent.
+//! - `ends_message` returns whether a frame acknowledges the end of a message that was sent.
 //! - `laws` has theorems about the definitions in specs/.
 //!
 //! docs/PROFILE.md, "Transport", has the rules. Times are in microseconds.

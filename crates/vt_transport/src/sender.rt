@@ -33,7 +33,7 @@ pub enum SendFault {
     OutOfMemory,
 }
 
-/// The TP sender of a node: at most one session for each destination, seen as the map of the messages by
+/// The TP sender of a node, with at most one session for each destination. Contracts see it as the map of the messages by
 /// destination, and the node's address.
 ///
 /// docs/PROFILE.md, "The TP sender".
@@ -81,8 +81,8 @@ impl Sender {
     /// of the parameter group number count. The faults are tested in the order of the enum; after one the
     /// sender is unchanged. docs/PROFILE.md, "The TP sender".
     ///
-    /// The parameter group may be any. Aborts are those of a virtual terminal: an abort with PGN 00E600 ends
-    /// the session to its source, whatever the parameter group of that session, and no other abort does.
+    /// The parameter group may be any. Aborts are those of a virtual terminal: only an abort with PGN 00E600 ends the session to
+    /// its source, whatever the parameter group of that session.
     pub fn start(&mut self, now: u64, to: u8, pgn: u32, message: &[u8]) -> Result<Frame, SendFault>
         ensures ok { IfOk result
             (λ frame. Starts self.old self.new now to (record { pgn = pgn % 2 ^ 24; bytes = message.now }) frame) }
@@ -116,8 +116,8 @@ impl Sender {
         self.sessions.overdue_from()
     }
 
-    /// Whether the session to a destination would be overdue at a time. False if no message is being sent there. docs/PROFILE.md,
-    /// "Timeouts".
+    /// Whether the session to a destination would be overdue at the time `now`. False if no message is being sent there.
+    /// docs/PROFILE.md, "Timeouts".
     pub fn is_overdue(&self, to: u8, now: u64) -> bool
         ensures { result ≡ is_overdue now (finite.get self.now.sessions to) }
     {
@@ -134,8 +134,7 @@ impl Sender {
         self.sessions.get(to).is_some()
     }
 
-    /// Handles a frame, and returns the frames to send to its source. Does not allocate.
-    /// docs/PROFILE.md, "The TP sender".
+    /// Processes a frame, and returns the frames to send to its source. Does not allocate. docs/PROFILE.md, "The TP sender".
     pub fn hear(&mut self, now: u64, frame: &Frame) -> ArrayVec<Frame, 255>
         ensures { Answers self.old self.new (source_of frame.now) (answer self.old now frame.now)
             result.items }
@@ -151,9 +150,8 @@ impl Sender {
         }
     }
 
-    /// Ends the overdue session of the least destination and returns its abort. A session is overdue more
-    /// than 1,250,000 microseconds after its last frame. Call it until it returns `None`. docs/PROFILE.md,
-    /// "Timeouts".
+    /// Ends the overdue session with the lowest destination address, and returns its abort. A session is overdue more than
+    /// 1,250,000 microseconds after its last frame. Call it until it returns `None`. docs/PROFILE.md, "Timeouts".
     pub fn expire(&mut self, now: u64) -> Option<Frame>
         ensures some { IfSome result (λ frame. TimesOut self.old self.new now frame) }
         ensures none { IfNone result (self.new ≡ self.old) }

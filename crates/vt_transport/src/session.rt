@@ -49,7 +49,8 @@ impl Session {
         }
     }
 
-    /// The number of the bytes so far and the size of the message, if it is of a parameter group and begins with a byte, or else 0 and 0.
+    /// The number of bytes so far and the size of the message. Both are 0 if it is of another parameter group or begins with another
+    /// byte.
     pub(crate) fn arrived(&self, pgn: u32, first: u8) -> (usize, u32)
         ensures { result ≡ arrived_of pgn first self.now }
     {

@@ -51,7 +51,8 @@ fn connection_management(bytes: &[u8]) -> TpFrame
     }
 }
 
-/// Whether a frame tells this node that its message of a parameter group has come as a whole (End of Message Acknowledgment).
+/// Whether a frame acknowledges that its source received a whole message of this node, of this parameter group (End of
+/// Message Acknowledgment).
 pub fn ends_message(own_address: u8, pgn: u32, frame: &Frame) -> bool
     ensures { result ≡ ends_message pgn (tp_frame own_address frame.now) }
 {

@@ -25,7 +25,7 @@ impl Model for CanId {
 }
 
 impl CanId {
-    /// Returns the identifier with a number, or `None` above 1FFFFFFF.
+    /// Returns the identifier with a number, or `None` for a number above 1FFFFFFF (hex).
     pub fn from_raw(raw: u32) -> Option<CanId>
         ensures { SomeIff result (raw < 2 ^ 29) raw }
     {
@@ -37,7 +37,7 @@ impl CanId {
     }
 
     /// Returns the identifier of a frame from `source` to `destination`. The PDU format of its
-    /// parameter group is below 240, and the priority below 8.
+    /// parameter group must be below 240, and the priority below 8.
     pub fn new(priority: u8, pgn: u32, destination: u8, source: u8) -> CanId
         requires priority { priority < 2 ^ 3 }
         requires group { HasDestination pgn }

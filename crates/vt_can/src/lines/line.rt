@@ -23,7 +23,7 @@ pub enum Line<'a> {
     Comment,
 }
 
-/// An action of the operator. The first number is an object ID, but an address in `Set`.
+/// An action of the operator. The first number is the ID of an object; in `Set` it is the address of a working set.
 #[derive(Clone, Copy, PartialEq, Eq)]
 pub enum Action<'a> {
     /// Presses a key or button.

@@ -4,7 +4,7 @@ ghost use Rattle.std.specs.Prelude.{◌≡◌};
 
 use std::marker::Model;
 
-/// The bytes of a whole message, seen as their list.
+/// The bytes of a whole message. Contracts see them as a list.
 #[derive(Drop)]
 pub struct Bytes {
     bytes: Vec<u8>,

@@ -8,7 +8,7 @@ use crate::transport::bytes::Bytes;
 pub enum Heard {
     Nothing,
     Reply(Frame),
-    /// A whole message. The caller sends `reply`, the acknowledgement of its end, before it handles the message.
+    /// A whole message. The caller sends `reply`, the acknowledgement of its end, before it processes the message.
     Message {
         source: u8,
         pgn: u32,

@@ -23,7 +23,8 @@ pub struct Timed<T> {
 /// The number of addresses.
 const ADDRESSES: usize = 256;
 
-/// At most one session for each of the 256 addresses, seen as a finite map from addresses, and whether its table is allocated.
+/// The sessions of a transport protocol, at most one for each of the 256 addresses. Contracts see them as a finite map from
+/// addresses, and whether the table is allocated.
 ///
 /// Only `allocate` allocates. A session is found by its index, without a search.
 pub struct Sessions<T> {
@@ -74,7 +75,7 @@ impl<T> Timed<T> {
 }
 
 impl<T> Sessions<T> {
-    /// Creates the map without sessions. Does not allocate.
+    /// Creates a map without sessions. Does not allocate.
     pub fn new(alloc: Global) -> Sessions<T>
         ensures { result ≡ record { sessions = finite.empty; allocated = false } }
     {
@@ -84,7 +85,7 @@ impl<T> Sessions<T> {
         }
     }
 
-    /// Allocates the table, so that `put` may be called. Does nothing if the table is there. After an error nothing is
+    /// Allocates the table that `put` needs. Does nothing if it is allocated already. After an error nothing is
     /// changed.
     pub fn allocate(&mut self) -> Result<(), AllocError>
     where
@@ -122,8 +123,8 @@ impl<T> Sessions<T> {
         self.places[usize::from(address)].take()
     }
 
-    /// Opens a session for an address, with its last frame at `last`. An open session of the address ends. The table is
-    /// allocated.
+    /// Opens a session for an address, with its last frame at `last`. It replaces an open session of the address. The
+    /// table must be allocated (`allocate`).
     pub fn put(&mut self, address: u8, last: u64, session: T)
     where
         T: Drop,

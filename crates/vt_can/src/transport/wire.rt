@@ -13,15 +13,15 @@ use arrayvec::ArrayVec;
 /// Why a node ends a session of a transport protocol.
 #[derive(Clone, Copy)]
 pub enum Reason {
-    /// A request of more bytes than the node accepts.
+    /// The message has more bytes than the node accepts.
     TooLarge,
-    /// No frame of the session within the timeout.
+    /// No frame of the session arrived within the timeout.
     Timeout,
     /// A frame out of order, or a request that no session can meet.
     Disorder,
 }
 
-/// Whether a frame is addressed to this node and has eight bytes, as every frame of a transport protocol.
+/// Whether a frame is addressed to this node and has eight bytes, as every frame of a transport protocol has.
 pub fn is_transport_frame_to(own_address: u8, frame: &Frame) -> bool
     ensures { result ≡ is_transport_frame_to own_address frame.now }
 {
@@ -49,7 +49,7 @@ pub fn frame_of(pgn: u32, own_address: u8, to: u8, bytes: [u8; 8]) -> Frame
     }
 }
 
-/// The bytes of the abort of a session, by the parameter group of its message.
+/// The bytes of an abort, for a session whose message is of this parameter group.
 pub fn abort_bytes(reason: Reason, pgn: u32) -> [u8; 8]
     ensures { result ≡ abort_bytes reason pgn }
 {
