@@ -18,8 +18,8 @@ pub type Chain = ArrayVec<ObjectId, 34>;
 const UNSET: u8 = 255;
 
 /// Finds the depth of each object of a store, by rising ID: the greatest number of inclusions in a chain that begins with
-/// it. Returns instead a chain of `most` + 1 inclusions if there is one; `depths` is then useless. Visits each object once.
-/// docs/PROFILE.md, "Inclusions and chains".
+/// it. If there is a chain of `most` + 1 inclusions, returns it instead; the values in `depths` then have no meaning.
+/// Visits each object once. docs/PROFILE.md, "Inclusions and chains".
 pub fn find_depths<S: Store>(store: &S, depths: &mut [u8], most: u8) -> Result<(), Chain>
     requires each { length depths.old ≡ length (ids_of (S.contents store.now)) }
     requires closed { IsClosed (ids_of (S.contents store.now)) (inclusions_of (S.contents store.now)) }

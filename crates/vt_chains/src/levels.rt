@@ -14,8 +14,8 @@ use std::mem;
 use vt_kinds::ObjectId;
 use vt_stores::Store;
 
-/// A level for each object of a store, by rising ID. Each object is above those that it includes, so no chain is longer
-/// than the greatest level, and a change that keeps this needs no look at other objects.
+/// A level for each object of a store, by rising ID. Each object is above those that it includes, so no chain is longer than
+/// the greatest level. A change that keeps this need not look at other objects.
 #[derive(Drop)]
 pub struct Levels {
     pub(crate) levels: Vec<u8>,
@@ -56,8 +56,8 @@ impl Levels {
         &self.levels
     }
 
-    /// Updates the levels for a new inclusion in the store. Returns false, with the levels unchanged, if a chain is too long
-    /// with it.
+    /// Updates the levels for a new inclusion in the store. Returns false if a chain is then too long; the levels are then
+    /// unchanged.
     pub fn take_up<S: Store>(&mut self, store: &S, from: ObjectId, to: ObjectId) -> bool
         requires { AreLevelsBut (S.contents store.now) self.old from to }
         ensures short { result ≡ true → AreLevels (S.contents store.now) self.new }

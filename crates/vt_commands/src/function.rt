@@ -1,4 +1,5 @@
-//! The functions of commands, and of the messages that tell an implement of its operator: the first byte of each.
+//! The functions of commands, and of the messages that report the operator's actions to an implement: the first byte of
+//! each.
 
 // Commands of an implement, and the replies to them
 

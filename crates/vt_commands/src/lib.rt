@@ -1,11 +1,11 @@
 //! The commands of an ISOBUS virtual terminal (ISO 11783-6): their bytes, the objects and attributes in them, and the
 //! events that they raise.
 //!
-//! - `Command` is read from its bytes; `split_command` takes one command off the bytes of a macro.
-//! - `targets` gives each `Target` that a command names, `attribute` the `Attribute` of a number, and `row_events` each `Event` that is
-//!   `Raised` by a command.
-//! - `function` has the functions of commands, and of the messages that tell an implement of its operator.
-//! - `laws` has what the definitions come to.
+//! - `Command` is read from its bytes; `split_command` splits the first command off the bytes of a macro.
+//! - `targets` returns each `Target` in a command, `attribute` the `Attribute` with a number, and `row_events` each `Event` that a
+//!   command raises, as a `Raised`.
+//! - `function` has the functions of commands, and of the messages that report the operator's actions to an implement.
+//! - `laws` has the theorems about the definitions.
 //!
 //! docs/PROFILE.md has the tables: "Commands" for the bytes of the commands, "Attributes" for Change Attribute.
 #![tactic(auto)]

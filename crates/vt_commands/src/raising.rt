@@ -17,8 +17,8 @@ pub struct Raised {
     pub event: Event,
 }
 
-/// The events that an accepted command raises by its row, in their order. Change Active Mask also raises Hide on the
-/// former active mask.
+/// The events that an accepted command raises by its row in docs/PROFILE.md, "Commands: all rows", in their order.
+/// Change Active Mask also raises Hide on the former active mask, which is not among them.
 pub fn row_events(command: &Command<'_>) -> ArrayVec<Raised, 2>
     ensures { result.items ≡ row_events command.now }
 {

@@ -23,8 +23,8 @@ use values::{change_item, change_value};
 use vt_commands::Command;
 use vt_kinds::{Child, Field, Kind, Kinds, Object};
 
-/// Does a command on its object. `kind_of_other` is the kind of the command's other object, or `None` if that object is missing.
-/// A refusal is the error byte of the command's reply, with the bit of the first test that fails, and leaves the object
+/// Executes a command on its object. `kind_of_other` is the kind of the command's other object, or `None` if that object is
+/// missing. A refusal is the error byte of the command's reply, with the bit of the first test that fails, and leaves the object
 /// unchanged (ISO 11783-6; docs/PROFILE.md, "Commands: all rows").
 pub fn change(
     object: &mut Object<Vec<u8>>,

@@ -12,8 +12,8 @@ use vt_commands::Command;
 use vt_kinds::{Kind, ObjectId};
 use vt_stores::Store;
 
-/// Does a command on the objects of a store, except the extra checks for pointer values and list items. `kind_of_other` is the
-/// kind of the command's other object, or `None` if that object is missing. A refusal is the error byte of the command's
+/// Executes a command on the objects of a store, except the extra checks for pointer values and list items. `kind_of_other` is
+/// the kind of the command's other object, or `None` if that object is missing. A refusal is the error byte of the command's
 /// reply, and changes nothing.
 pub fn change_in<S: Store>(
     store: &mut S,

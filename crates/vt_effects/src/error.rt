@@ -3,7 +3,8 @@
 /// The object or the parent is missing, or the command is not for its kind.
 pub(crate) const OBJECT: u8 = 1 << 0;
 
-/// The same in Hide/Show, Enable/Disable, Change String Value and Execute Macro.
+/// The object is missing or the command is not for its kind, in Hide/Show, Enable/Disable, Change String Value and
+/// Execute Macro.
 pub(crate) const OBJECT_ID: u8 = 1 << 1;
 
 /// The child is missing.

@@ -20,8 +20,8 @@ use vt_commands::Command;
 use vt_kinds::{Kind, Kinds, ObjectId};
 use vt_stores::Store;
 
-/// Does a command on the objects of a store. A refusal is the error byte of the command's reply, with the bit of the first
-/// test that fails, and changes nothing (docs/PROFILE.md, "Commands: all rows").
+/// Executes a command on the objects of a store. A refusal is the error byte of the command's reply, with the bit of the
+/// first test that fails, and changes nothing (docs/PROFILE.md, "Commands: all rows").
 pub fn execute<S: Store>(
     store: &mut S,
     levels: &mut Levels,

@@ -26,8 +26,8 @@ pub fn commands_keep_shapes()
     ensures { CommandsKeepShapes }
 {}
 
-/// A command that writes no field in the text of a screen, or values that are there already, keeps the look of a store.
-/// docs/PROFILE.md, "The drawing and the screen text".
+/// A command keeps the look of a store if it writes no field that the text of a screen shows, or only values that are
+/// there already. docs/PROFILE.md, "The drawing and the screen text".
 pub fn looks_are_kept()
     ensures { LooksAreKept }
 {}

@@ -1,9 +1,9 @@
 //! The effect of each command on the objects of a working set (ISO 11783-6), with its error byte.
 //!
-//! - `change` does a command on its object, and `change_in` on a store. `execute` keeps references and chains in order:
+//! - `change` executes a command on its object, and `change_in` on a store. `execute` keeps references and chains in order:
 //!   it also tests new pointer values and list items, and undoes the change on a refusal.
-//! - `keeps_look` tells whether a command leaves what the text of a screen shows, and `writes_unseen` tells it by the kind of
-//!   the object.
+//! - `keeps_look` returns whether a command leaves unchanged what the text of a screen shows; `writes_unseen` returns it for
+//!   the kind of the object alone.
 //! - `laws` has the theorems about the definitions.
 //!
 //! docs/PROFILE.md, "Commands: all rows" and the section of each command, "Attributes", "What every store keeps".

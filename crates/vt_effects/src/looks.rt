@@ -1,4 +1,4 @@
-//! Commands that leave what the text of a screen shows (docs/PROFILE.md, "The drawing and the screen text").
+//! Commands that leave unchanged what the text of a screen shows (docs/PROFILE.md, "The drawing and the screen text").
 
 ghost use Rattle.std.specs.Prelude.{◌≡◌, ◌≤◌};
 ghost use Rattle.vt_kinds.specs.Records.{seen};
@@ -10,8 +10,8 @@ use vt_commands::{Command, attribute};
 use vt_kinds::{Field, Kind, Object, ObjectId};
 use vt_stores::Store;
 
-/// Whether a command leaves what a screen's text shows of its object. True for a command without an object, and for one
-/// whose object is missing. A refused command changes nothing, whatever this returns.
+/// Whether a command leaves unchanged what a screen's text shows of its object. True for a command without an object,
+/// and for one whose object is missing. A refused command changes nothing, whatever this returns.
 pub fn keeps_look<S: Store>(store: &S, command: &Command<'_>) -> bool
     ensures { result ≡ looks.keeps_look (S.contents store.now) command.now }
 {

@@ -1,5 +1,5 @@
-//! The judgement of an object pool from its bytes alone: its objects if it meets all rules, or else the first fault or the first
-//! refusal (ISO 11783-6; docs/PROFILE.md, "Pools and faults", "Verification of a pool").
+//! Judges the bytes of an object pool: the accepted pool, or the first fault or refusal (ISO 11783-6; docs/PROFILE.md, "Pools
+//! and faults", "Verification of a pool").
 #![tactic(auto)]
 
 ghost use Rattle.std.specs.Prelude.{◌≡◌, IfOk, IfErr};
@@ -36,7 +36,7 @@ pub fn judge(alloc: Global, bytes: &[u8]) -> Result<Accepted, NotAccepted>
 }
 
 impl NotAccepted {
-    /// Whether memory was refused. Then the bytes may be an accepted pool all the same.
+    /// Whether memory was refused. The bytes may then still be a pool that meets all rules.
     pub fn wants_memory(&self) -> bool
         ensures { result ≡ wants_memory self.now }
     {

@@ -69,7 +69,7 @@ impl LineAttributes {
 /// Fill Attributes, type 25: how a shape is filled.
 #[derive(Drop)]
 pub struct FillAttributes {
-    /// Whether and with what the shape is filled.
+    /// Whether the shape is filled, and with what.
     pub fill_type: u8,
     /// The fill's colour number.
     pub colour: u8,
@@ -96,7 +96,7 @@ impl FillAttributes {
 /// Input Attributes, type 26: the characters that an input accepts. Stored, not applied.
 #[derive(Drop)]
 pub struct InputAttributes<B: AsSlice<u8>> {
-    /// Whether the listed characters are the allowed or the refused ones.
+    /// Whether the listed characters are allowed or refused.
     pub validation_type: u8,
     /// The listed characters.
     pub text: ShortText<B>,

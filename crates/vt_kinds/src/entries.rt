@@ -92,7 +92,7 @@ impl<T: Copy> Entries<T> {
         self.items[usize::from(index)] = entry;
     }
 
-    /// Copies the list into memory of its own.
+    /// Copies the list into new memory. `AllocError` if memory is refused.
     pub fn copied(&self, alloc: Global) -> Result<Entries<T>, AllocError>
         ensures { IfOk result (λ copy. copy ≡ self.now) }
     {

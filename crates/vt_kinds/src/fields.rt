@@ -69,7 +69,8 @@ pub enum ValueType {
     Long,
     /// Every value of four bytes, signed.
     SignedLong,
-    /// A reference of two bytes: NULL or an object, as this `Place` allows. An object pointer's value has to meet more.
+    /// An ID of two bytes: NULL or that of an object, as this `Place` allows. The value of an object pointer must meet
+    /// further conditions.
     Reference(Place),
     /// A priority, 0 to 2, one byte.
     Priority,
@@ -91,7 +92,7 @@ impl ValueType {
         }
     }
 
-    /// The lowest bytes of a value, which the field stores.
+    /// The lowest bytes of a value, as many as the field stores.
     pub fn lowest(self, value: u32) -> u32
         ensures { result ≡ table.lowest self value }
     {

@@ -41,7 +41,7 @@ impl<B: AsSlice<u8>> LongText<B> {
         self.bytes.as_slice()
     }
 
-    /// Copies the text into memory of its own.
+    /// Copies the text into new memory. `AllocError` if memory is refused.
     pub fn copied(&self, alloc: Global) -> Result<LongText<Vec<u8>>, AllocError>
         ensures { IfOk result (λ copy. copy ≡ self.now) }
     {

@@ -40,7 +40,7 @@ impl<B: AsSlice<u8>> MacroBytes<B> {
         self.bytes.as_slice()
     }
 
-    /// Copies the macro into memory of its own.
+    /// Copies the macro into new memory. `AllocError` if memory is refused.
     pub fn copied(&self, alloc: Global) -> Result<MacroBytes<Vec<u8>>, AllocError>
         ensures { IfOk result (λ copy. copy ≡ self.now) }
     {

@@ -73,7 +73,7 @@ pub struct AlarmMask {
     pub colour: u8,
     /// The soft key mask, or NULL.
     pub soft_key_mask: ObjectId,
-    /// The priority: the lowest number is shown first. Commands write 0 to 2; a record may hold more.
+    /// The priority: the lowest number is shown first. Commands write 0 to 2; a record may have a greater number.
     pub priority: u8,
     /// The acoustic signal's number.
     pub acoustic: u8,

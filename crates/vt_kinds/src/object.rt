@@ -164,7 +164,7 @@ impl<B: AsSlice<u8>> Object<B> {
         }
     }
 
-    /// Copies the object into memory of its own.
+    /// Copies the object into new memory. `AllocError` if memory is refused.
     pub fn copied(&self, alloc: Global) -> Result<Object<Vec<u8>>, AllocError>
         ensures { IfOk result (λ copy. seen copy ≡ seen self.now) }
     {
@@ -203,8 +203,8 @@ impl<B: AsSlice<u8>> Object<B> {
 }
 
 impl<B: AsSlice<u8> + Drop> Object<B> {
-    /// Takes the object over, with its texts, picture and macro bytes copied into memory of its own. `AllocError` if memory
-    /// is refused; the object is dropped then.
+    /// Converts the object into one that owns its bytes: its texts, picture and macro bytes are copied, and its lists are
+    /// moved. `AllocError` if memory is refused; the object is then dropped.
     pub fn into_owned(self, alloc: Global) -> Result<Object<Vec<u8>>, AllocError>
         ensures { IfOk result (λ owned. seen owned ≡ seen self) }
     {

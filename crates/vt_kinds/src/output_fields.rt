@@ -101,7 +101,7 @@ pub struct OutputNumber {
     pub value: u32,
     /// The offset added to the raw value.
     pub offset: i32,
-    /// The factor of the sum of raw value and offset.
+    /// The factor by which the sum of raw value and offset is multiplied.
     pub scale: Scale,
     /// The number of decimals shown.
     pub decimals: Decimals,

@@ -40,7 +40,7 @@ impl<B: AsSlice<u8>> PictureBytes<B> {
         self.bytes.as_slice()
     }
 
-    /// Copies the picture into memory of its own.
+    /// Copies the picture into new memory. `AllocError` if memory is refused.
     pub fn copied(&self, alloc: Global) -> Result<PictureBytes<Vec<u8>>, AllocError>
         ensures { IfOk result (λ copy. copy ≡ self.now) }
     {

@@ -21,7 +21,7 @@ pub enum Scale {
 }
 
 impl Scale {
-    /// The scale with these four bytes, or `None` if they are no scale's.
+    /// The scale with these four bytes, or `None` if they are not those of a scale.
     pub fn from_bytes(bytes: [u8; 4]) -> Option<Scale>
         ensures scale { result ≡ scale_at (little_number 4 bytes) }
         ensures number { IfSome result (λ s. scale_number s ≡ little_number 4 bytes) }
@@ -48,7 +48,7 @@ impl Scale {
         }
     }
 
-    /// The decimal places that the scale shifts a value by, 0 to 3.
+    /// The number of decimal places by which the scale shifts a value, 0 to 3.
     pub fn places(self) -> u8
         ensures { result ≡ scale_places self }
     {

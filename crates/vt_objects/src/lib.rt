@@ -1,8 +1,8 @@
-//! The objects of an ISOBUS virtual terminal (ISO 11783-6): their kinds, fields and references, the commands that
-//! change them, and the stores that hold them.
+//! Shown numbers as text, and the objects, commands and stores of vt_kinds, vt_commands and vt_stores under one name (ISO
+//! 11783-6).
 //!
-//! - Objects: `Object` is one of the 29 kinds (`Kind`, `Kinds`), each a type of its own, under an `ObjectId`; `Scale`, `Decimals`
-//!   and `Decimal` format shown numbers, and `Entries`, `ShortText`, `LongText`, `MacroBytes` and `PictureBytes` are the
+//! - Objects: an `Object` is of one of the 29 kinds (`Kind`, `Kinds`), each with its own type, and has an `ObjectId`. `Scale`,
+//!   `Decimals` and `Decimal` format shown numbers. `Entries`, `ShortText`, `LongText`, `MacroBytes` and `PictureBytes` are the
 //!   lists, texts and bytes.
 //! - References: `slots` yields each reference of an object as a `Slot`, with its `Place`; `attribute` looks up an `Attribute`.
 //! - Commands: `Command` is decoded from its bytes, `targets` returns each `Target` of it, and `row_events` each `Event` that

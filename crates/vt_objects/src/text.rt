@@ -5,7 +5,7 @@ ghost use Rattle.std.specs.Prelude.{◌≡◌, ◌++◌, OnOk};
 use itoa::{Buffer, Integer};
 use std::alloc::AllocError;
 
-/// Appends a text and then a number in decimal. After `AllocError` perhaps the text alone is appended.
+/// Appends a text and then a number in decimal. After `AllocError` the text may be appended without the number.
 pub fn push_number<I: Integer>(
     out: &mut Vec<u8>,
     before: &[u8],

@@ -65,8 +65,8 @@ impl Reading {
     }
 
     /// Appends the bytes of a piece from index `from` on, and reads the records that they complete. Does not allocate within
-    /// the reserved capacity; an empty upload adopts the piece without a copy. On error returns the piece, with the upload
-    /// unchanged. docs/PROFILE.md, "Object Pool Transfer (11)".
+    /// the reserved capacity; an empty upload takes over the piece without a copy. After an error the piece is returned, and
+    /// the upload is unchanged. docs/PROFILE.md, "Object Pool Transfer (11)".
     pub fn feed(&mut self, piece: Vec<u8>, from: usize) -> Result<(), (Vec<u8>, OutOfMemory)>
         requires { from ≤ length piece.items }
         ensures ok { OnOk result (self.new.bytes ≡ self.old.bytes ++ drop from piece.items) }
@@ -93,8 +93,8 @@ impl Reading {
         self.bytes.reserve(count)
     }
 
-    /// The lasting fault of the bytes so far, which more bytes do not cure; `None` if they only end inside a record. Does
-    /// not allocate.
+    /// The fault of the bytes so far, if more bytes cannot cure it. `None` if they have no fault, or only end inside a
+    /// record. Does not allocate.
     pub fn fault(&self) -> Option<PoolFault>
         ensures some { IfSome result (λ fault. IsFault self.now.bytes fault × IsLasting fault) }
         ensures none { IfNone result (HasNoFaultYet self.now.bytes) }

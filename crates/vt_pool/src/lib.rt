@@ -1,4 +1,4 @@
-//! Object pools: the records that an implement uploads (ISO 11783-6).
+//! Reads object pools (ISO 11783-6), whole or in pieces, and reports the first fault.
 //!
 //! - `read_pool` reads a `Pool`, or returns the first `PoolFault`; `write_object` of vt_writing writes a record.
 //! - `Reading` is a pool upload in pieces.

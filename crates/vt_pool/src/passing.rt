@@ -12,7 +12,7 @@ use vt_kinds::Kind;
 use vt_records::{PoolFault, Reader, RecordFault, kind_with};
 
 /// Skips the whole records from index `from` on, where earlier records end. Returns the end of the last one, and the
-/// lasting fault of the bytes after it, if they have one.
+/// fault of the bytes after it, if they have one that more bytes cannot cure.
 pub fn pass_records(pool: &[u8], from: usize) -> (usize, Option<PoolFault>)
     requires { AreWholeTo pool.now from }
     ensures { IsReadTo pool.now result.0 result.1 }

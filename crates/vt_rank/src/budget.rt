@@ -37,8 +37,8 @@ impl Costs {
         self.costs[usize::from(node)]
     }
 
-    /// The cost of a group of the graph: the sum over its nodes, repeats counted. `graph` is the graph of
-    /// these costs.
+    /// The cost of a group of the graph: the sum over its nodes, repeats counted. `graph` must be the
+    /// graph of these costs.
     pub fn group(&self, graph: &Graph, group: usize) -> u32
         requires { AreCosts graph.now self.now }
         ensures { result ≡ group_cost graph.now group }

@@ -10,11 +10,11 @@ use crate::graph::Graph;
 use crate::ranking::Ranks;
 use crate::table::{cost_of_nodes, fill, no_costs};
 
-/// Returns the cost of each node, or what is over the cap: the least node, or the first group if no node is
-/// over it. A step costs one, a group the sum of its nodes' costs, and `Item::Most` the cost of the costliest
-/// of its groups, or 0 without groups. `ranks` are those of this graph.
+/// Returns the cost of each node, or what is over the cap: the least node, or the first group if no node is over it. A step costs
+/// one, a group the sum of its nodes' costs, and `Item::Most` the cost of the costliest of its groups, or 0 without groups.
+/// `ranks` must be those of this graph.
 ///
-/// Does not allocate. Uses about three kilobytes of stack on x86-64, and is not inlined, so that they are free again when it
+/// Does not allocate. Uses about three kilobytes of stack on x86-64. It is not inlined, so that this stack is free again when it
 /// returns. Visits each node once. Reads each item once, with the nodes of its group, the groups of `Item::Most` once in all, and
 /// at the end each group once more.
 #[inline(never)]
@@ -44,7 +44,7 @@ pub fn costs(graph: &Graph, ranks: &Ranks, cap: u32) -> Result<Costs, OverBudget
     Ok(costs)
 }
 
-/// The cost of each node, but at most `limit`. `ranks` are those of this graph.
+/// The cost of each node, but at most `limit`. `ranks` must be those of this graph.
 ///
 /// Does not allocate. Reads each item once, with the nodes of its group, and the groups of `Item::Most` once in all.
 pub fn costs_up_to(graph: &Graph, ranks: &Ranks, limit: u64) -> [u64; 256]

@@ -1,4 +1,4 @@
-//! Ranks and costs on a graph of triggers.
+//! Ranks and costs of macros on a graph of triggers, or a circle among them.
 //!
 //! - `Graph` has an `Item` for each step, group and choice of a node.
 //! - `rank` returns `Ranks` or a `Circle`; `rank_on_heap` does the same with less stack. `costs` returns `Costs`, or

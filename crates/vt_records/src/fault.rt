@@ -12,7 +12,7 @@ use thiserror::Error;
 pub enum PoolFault {
     /// The bytes end inside a record.
     Truncated { at: usize },
-    /// A record has an unknown type, outside 29 to 33.
+    /// A record has an unknown type other than 29 to 33.
     UnknownType { at: usize },
     /// A record is of an auxiliary function or input, types 29 to 33.
     LeftOutType { at: usize },

@@ -1,4 +1,4 @@
-//! Reading records: the bytes of an object under its ID (ISO 11783-6).
+//! Reads the record of an object (ISO 11783-6).
 //!
 //! - `read_record` reads the `Record` at the front of bytes, or returns its fault as a `RecordFault`, which becomes the
 //!   `PoolFault` of the pool; `Reader` reads numbers from the front, and `kind_with` maps a type to its kind.

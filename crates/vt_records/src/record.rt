@@ -51,7 +51,7 @@ fn parse_record<'a>(alloc: Global, bytes: &'a [u8]) -> Result<Record<'a>, Record
     })
 }
 
-/// The kind of a type number, or the stop of a type without a kind.
+/// The kind of a type number, or the fault of a type without a kind.
 pub fn kind_with(number: u8) -> Result<Kind, RecordFault>
     ensures { result ≡ or_stop (other_type number) (kind_of_type number) }
 {

@@ -1,8 +1,8 @@
-//! The objects that a mask shows (ISO 11783-6): the elements of its drawing, however long, and its soft keys.
+//! The objects that a mask shows, and its soft keys (ISO 11783-6).
 //!
-//! `search_shown` searches them for one object, and marks those that it visits. `soft_key_mask` has the soft keys of a mask.
-//! `resolve` looks up the object that an ID in a list resolves to, `is_element` tells whether that is drawn, and
-//! `number_shown` has the number that it shows.
+//! `search_shown` searches the elements of a mask's drawing, however long, and its soft keys for one object, and marks those
+//! that it visits. `soft_key_mask` returns the soft key mask of a mask. `resolve` returns the object that an ID in a list
+//! resolves to, `is_element` whether that is drawn, and `number_shown` the number that it shows.
 //!
 //! docs/PROFILE.md, "The drawing".
 #![tactic(auto)]

@@ -21,11 +21,11 @@ use vt_stores::Store;
 /// A level above those of all objects.
 const ABOVE_ALL: u8 = TERMINAL_LIMITS.inclusions + 1;
 
-/// Searches a mask's drawing, however long, and its soft keys for the object at the index `sought`. True when it gets to the
-/// object: the mask shows each marked object then. False if the mask does not show it: the marked objects are then all that
-/// the mask shows, as after a search for an index past the last object. `levels` has the level of each object
-/// (`Levels::as_slice`), and `marks` a mark for each object, at its index; former marks are cleared. docs/PROFILE.md, "The
-/// drawing".
+/// Searches a mask's drawing, however long, and its soft keys for the object at the index `sought`. Returns true when it
+/// reaches the object; the mask then shows each marked object. Returns false if the mask does not show it; the marked
+/// objects are then all that the mask shows. This is also so for an index past the last object. `levels` has the level of
+/// each object (`Levels::as_slice`), and `marks` a mark for each object, at its index; former marks are cleared.
+/// docs/PROFILE.md, "The drawing".
 pub fn search_shown<S: Store>(
     store: &S,
     levels: &[u8],

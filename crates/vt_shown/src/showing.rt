@@ -8,7 +8,8 @@ ghost use Rattle.vt_shown.specs.ShownElements as showing;
 use vt_kinds::{Object, ObjectId};
 use vt_stores::Store;
 
-/// The object that an ID in a list resolves to, if it is there, and its own ID: a pointer resolves to its value.
+/// The object that an ID in a list resolves to, with that object's ID; a pointer resolves to its value. `None` if the object
+/// is missing.
 pub fn resolve<S: Store>(store: &S, id: ObjectId) -> Option<(ObjectId, &Object<Vec<u8>>)>
     ensures some { IfSome result (λ found. (showing.resolves_to (S.contents store.now) id ≡ Some found.0) × (finite.get (S.contents store.now) found.0 ≡ Some (seen found.1.now))) }
     ensures none { IfNone result (showing.resolves_to (S.contents store.now) id ≡ None) }
@@ -34,8 +35,8 @@ pub fn is_element(object: &Object<Vec<u8>>) -> bool
     }
 }
 
-/// The number that an object shows: that of its variable, if it has one; none where the variable is not there, which a store
-/// in order rules out.
+/// The number that an object shows: that of its variable, or its own number if `variable` is NULL. `None` if the variable is
+/// missing, which cannot happen in a store in order.
 pub fn number_shown<S: Store>(store: &S, variable: ObjectId, own: u32) -> Option<u32>
     ensures { result ≡ showing.number_shown (S.contents store.now) variable own }
 {

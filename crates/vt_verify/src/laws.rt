@@ -13,8 +13,8 @@ pub fn refusals_are_true()
     ensures { RefusalsAreTrue }
 {}
 
-/// The refusal of a pool is unique, except for want of memory, the choice of a chain with too many inclusions, and the
-/// choice of a circle that begins with the same macro.
+/// The refusal of a pool is unique, with three exceptions: a refusal of memory, the choice of a chain with too many
+/// inclusions, and the choice of a circle that begins with the same macro.
 pub fn refusals_are_one()
     ensures { RefusalsAreOne }
 {}

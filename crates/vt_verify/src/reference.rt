@@ -24,7 +24,7 @@ pub struct Reference {
 /// A test of a reference.
 #[derive(Clone, Copy, PartialEq, Eq)]
 pub enum Test {
-    /// The ID is NULL, where NULL is allowed, or the ID of an existing object.
+    /// The ID is that of an existing object, or NULL if NULL is allowed.
     IsThere,
     /// The object is of an allowed kind. NULL and missing objects pass.
     Fits,

@@ -18,7 +18,7 @@ pub enum Refusal {
     NoWorkingSet,
     /// More than one object is a working set.
     TwoWorkingSets,
-    /// A slot of `parent` refers to a missing object, or is NULL where NULL is not allowed.
+    /// A slot of `parent` refers to a missing object, or is NULL although NULL is not allowed there.
     Missing { parent: ObjectId, id: ObjectId },
     /// A slot of `parent` refers to an object of a kind that is not allowed, or to a pointer to such an object; `id` is
     /// then the pointer's value.
@@ -29,13 +29,14 @@ pub enum Refusal {
     MacroBytes { id: ObjectId },
     /// A macro has a command that is not allowed in macros; `at` is its offset in the macro's bytes.
     MacroCommand { id: ObjectId, at: usize },
-    /// A macro entry or a command of `parent` refers to a missing object, or is NULL where NULL is not allowed.
+    /// A macro entry or a command of `parent` refers to a missing object, or is NULL although NULL is not allowed
+    /// there.
     MacroMissing { parent: ObjectId, id: ObjectId },
     /// A macro entry or a command of `parent` refers to an object of a kind that is not allowed.
     MacroKind { parent: ObjectId, id: ObjectId },
     /// A macro changes an attribute that its object does not have; `at` is the command's offset in the macro's bytes.
     MacroValue { id: ObjectId, at: usize },
-    /// A circle: each macro triggers the next, and the last one the first, the least macro on any circle.
+    /// A circle: each macro triggers the next, and the last one the first. The first is the least macro on any circle.
     MacroCircle { path: ArrayVec<u8, 256> },
     /// A macro can cost too many steps, or else an event of an object: `id` is the macro or the object.
     OverBudget { id: ObjectId },

@@ -1,4 +1,4 @@
-//! Writing records: the bytes of an object under its ID (ISO 11783-6).
+//! Writes the record of an object (ISO 11783-6).
 //!
 //! - `write_object` writes a record.
 //! - `laws` has the theorem that every object has a record.

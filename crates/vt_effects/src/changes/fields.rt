@@ -21,7 +21,7 @@ pub(crate) fn write_fields(
     write_fields_if(object, kinds, true, 0, fields)
 }
 
-/// Writes values into fields of an object of these kinds, one after the other, where a test is passed. A field that the object's
+/// Writes values into fields of an object of these kinds, one after the other, if a test is passed. A field that the object's
 /// kind lacks is left out. `error` is the error byte of the test.
 pub(crate) fn write_fields_if(
     object: &mut Object<Vec<u8>>,
