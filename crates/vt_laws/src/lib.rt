@@ -1,8 +1,8 @@
-//! Laws on a terminal over all its inputs: the headline, and laws on its addresses, its sets and its outputs.
+//! Laws about a terminal over all its inputs: the headline, and laws about its addresses, its sets and its outputs.
 //!
-//! Each law is the contract of a function that changes nothing. It is a statement over the definitions of vt_server and the crates
-//! below; the contracts of the code carry it over to the code. `the_machine_never_sticks` is the headline. docs/PROOFS.md explains
-//! each law.
+//! Each law is the contract of a function that changes nothing. It is a statement about the definitions of vt_server and the
+//! crates below; the contracts of the code carry it over to the code. `the_machine_never_sticks` is the headline. docs/PROOFS.md
+//! explains each law.
 #![tactic(auto)]
 
 ghost use Rattle.vt_laws.specs.UniqueSteps.{StepsAreOne};
@@ -17,7 +17,7 @@ ghost use Rattle.vt_laws.specs.SetLists.{SetsAfterSteps};
 ghost use Rattle.vt_laws.specs.ShownSets.{ShownAreChosen};
 ghost use Rattle.vt_laws.specs.Ticks.{EchoesAreTicks, OthersAreIdle, ProfilesAreKept};
 
-/// The headline: after its pools were accepted, a terminal gives for any inputs the sets and outputs of the written machine, and
+/// The headline: after its pools were accepted, a terminal has for any inputs the sets and outputs of the specified machine, and
 /// that machine never sticks. Each command of a macro finds its object, of a kind that it may change. Each event ends within the
 /// steps that the pool's report prints for it. Each shown reference leads to an object of a kind allowed there.
 pub fn the_machine_never_sticks()
@@ -60,7 +60,7 @@ pub fn costs_are_within()
 }
 
 /// The step is a function of the input alone: all right verdicts on an upload, and all right judgements of shown objects, give one
-/// step. Inputs from one state lead to one state and to the same outputs.
+/// step. The same inputs lead from one state to one state, with the same outputs.
 pub fn steps_are_one()
     ensures { StepsAreOne }
 {
@@ -154,7 +154,7 @@ pub fn profiles_are_kept()
     ensures { ProfilesAreKept }
 {}
 
-/// The holder of each address after a run is the least NAME among those whose last claim was of that address. The claims of the
+/// The holder of each address after a run is the least NAME among those whose last claim was for that address. The claims of the
 /// run count only before the one by which the terminal loses its own address.
 pub fn holders_are_of_runs()
     ensures { HoldersOfRuns }

@@ -1,5 +1,5 @@
-//! The screen of a working set as text: the elements that its active mask and its soft keys show
-//! (ISO 11783-6; docs/PROFILE.md, "The drawing and the screen text").
+//! The screen of a working set as text: the elements of its active mask and soft keys (ISO 11783-6;
+//! docs/PROFILE.md, "The drawing and the screen text").
 //!
 //! - `draw` appends the screen of a working set.
 //! - `laws` has the theorems about the definitions.

@@ -82,7 +82,7 @@ pub(crate) fn write_value(text: &mut Vec<u8>, value: Option<u32>) -> Result<(), 
     }
 }
 
-/// Writes whether a value is true: all values are but 0.
+/// Writes whether a value is true: every value except 0 is.
 pub(crate) fn write_decision(text: &mut Vec<u8>, value: Option<u32>) -> Result<(), AllocError>
     ensures { OnOk result (text.new.items ≡ text.old.items ++ parts.decided value) }
 {

@@ -6,7 +6,7 @@ ghost use Rattle.vt_logs.specs.declared.fault.ReplayFault.TheVariants.{Memory};
 use std::alloc::AllocError;
 use thiserror::Error;
 
-/// A fault that ends a replay early. The bytes written by then are the first of its text.
+/// A fault that ends a replay early. The bytes written before it are the beginning of the replay's text.
 #[derive(Clone, Copy, Debug, PartialEq, Eq, Error)]
 pub enum ReplayFault {
     /// A read failed, or 1,000,000,000 reads did not reach the end of the log.

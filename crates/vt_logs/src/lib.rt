@@ -2,9 +2,9 @@
 //!
 //! `replay` reads a log from a `Source`, gives its lines to a `Terminal`, and writes the terminal's outputs, its screens and the
 //! `Counts` to a `Sink`; it returns the counts, or a `ReplayFault`. A slice of bytes is a source and a vector is a sink: between
-//! these two the faults Read and Write never occur for a log of fewer than 1,000,000,000 bytes. `Stream` makes a source or a sink
-//! of any other reader or writer, of which nothing like this is promised. `Notes` are for messages to people. `refusal_name` is how a
-//! refusal to the operator is printed. docs/PROFILE.md, "Log lines" and "The program", has the output.
+//! these two the faults Read and Write never occur for a log of fewer than 1,000,000,000 bytes. `Stream` makes a source or a sink of
+//! any other reader or writer, for which this is not promised. `Notes` are for messages to people. `refusal_name` returns a refusal
+//! to the operator as a replay prints it. docs/PROFILE.md, "Log lines" and "The program", has the output.
 #![tactic(auto)]
 
 mod counts;

@@ -24,8 +24,8 @@ const READS: u32 = 1_000_000_000;
 
 /// Replays a log to its end, line by line, and returns its counts. It writes the first screen, the terminal's outputs, each new
 /// screen, the faulty lines and, at the end, the counts. The text of the lines read is flushed before the next read. After an
-/// error the terminal has taken the first lines of the log, the first screen and the text of these lines are written, and of the
-/// last line's text or of the counts perhaps only the first bytes.
+/// error the terminal has taken the first lines of the log, and the first screen and the text of these lines are written. Of the
+/// last line's text or of the counts, possibly only the first bytes are written.
 pub fn replay<R: Source, W: Sink>(
     alloc: Global,
     reader: &mut R,

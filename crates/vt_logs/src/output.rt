@@ -112,8 +112,8 @@ fn put_number<W: Sink>(number: u64, writer: &mut W) -> Result<(), ReplayFault>
     put(Buffer::new().format(number).as_bytes(), writer)
 }
 
-/// Writes bytes as they are, with several writes where one does not take them all. After a fault the first of the bytes are
-/// written, none, some or all.
+/// Writes bytes as they are, with several writes if one does not take them all. After a fault, none, some or all of the
+/// bytes are written, always the first ones.
 pub fn put<W: Sink>(bytes: &[u8], writer: &mut W) -> Result<(), ReplayFault>
     ensures text { OnOk result (Appends (W.contents writer.old) (W.contents writer.new) bytes.now) }
     ensures front { OnErr result (Begins (W.contents writer.old) (W.contents writer.new) bytes.now) }

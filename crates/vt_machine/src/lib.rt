@@ -1,12 +1,11 @@
-//! The event machine of a working set (ISO 11783-6): the effects of its commands, the runs of its events' macros, the
-//! objects that it shows, and the operator's actions.
+//! One working set with its objects: its commands, the runs of its macros, and the operator's actions (ISO 11783-6).
 //!
-//! - `Live` is a working set with its objects: `apply` does a command, with its `Outcome`, `raise` an event, and `press`, `release`,
-//!   `select`, `enter_number` and `enter_text` the operator's actions, each `Acted` or refused by an `OperatorRefusal`;
-//!   `text_message` has the message of a text.
-//! - `Replacement` is an update that replaces objects and leaves macros and references: `Live::replacement` finds it, and
+//! - `Live` is a working set with its objects. `apply` executes a command and returns its `Outcome`, and `raise` raises an event.
+//!   `press`, `release`, `select`, `enter_number` and `enter_text` are the operator's actions; each returns `Acted` or an
+//!   `OperatorRefusal`. `text_message` returns the message of a text.
+//! - `Replacement` is an update that replaces objects and leaves macros and references unchanged: `Live::replacement` finds it, and
 //!   `Live::replace` puts its objects in place.
-//! - `laws` has what the definitions come to.
+//! - `laws` has the theorems about the definitions.
 //!
 //! docs/PROFILE.md, "Commands: all rows" and the section of each command, "Attributes", "Runs", "Steps", "The operator".
 #![tactic(auto)]

@@ -227,8 +227,8 @@ impl<S: Store> Live<S> {
     }
 
     /// Raises an event of an object, by its number: runs the macros listed for it, and those of the events that their
-    /// commands raise. Returns the number of steps: 0 for a missing object, and for a number above 26. Event 0 of a macro
-    /// runs the macro itself.
+    /// commands raise. Returns the number of steps, which is 0 for a missing object and for a number above 26. Event 0 of a
+    /// macro runs the macro itself.
     pub fn raise(&mut self, id: ObjectId, event: u8) -> u32
         ensures run { HasRun self.old.objects (event_commands (shape_in self.old.objects) (listing id event)) (budget (shape_in self.old.objects) id event) result self.new.objects }
         ensures kept { self.new ≡ after_run self.old self.new.objects self.new.audio }
@@ -295,7 +295,7 @@ impl<S: Store> Live<S> {
         index
     }
 
-    /// Does a command, and runs the macros of the events that it raises. Delete Object Pool changes nothing here: the
+    /// Executes a command, and runs the macros of the events that it raises. Delete Object Pool changes nothing here: the
     /// terminal handles it.
     pub fn apply(&mut self, command: &Command<'_>) -> Outcome
         ensures applied { Applied self.old.objects command.now result self.new.objects }
@@ -320,8 +320,8 @@ impl<S: Store> Live<S> {
         }
     }
 
-    /// Whether a command leaves what the text of a screen shows, with the macros of its events. If true, the screen is the
-    /// same after `apply`. docs/PROFILE.md, "The drawing and the screen text".
+    /// Whether a command and the macros of its events leave unchanged what the text of a screen shows. If true, the screen is
+    /// the same after `apply`. docs/PROFILE.md, "The drawing and the screen text".
     pub fn keeps_look(&self, command: &Command<'_>) -> bool
         ensures { result ≡ true → KeepsLook self.now.objects command.now }
     {
@@ -332,8 +332,8 @@ impl<S: Store> Live<S> {
         self.index.are_quiet(&raised)
     }
 
-    /// Whether the macros of an event leave what the text of a screen shows. docs/PROFILE.md, "The drawing and the screen
-    /// text".
+    /// Whether the macros of an event leave unchanged what the text of a screen shows. docs/PROFILE.md, "The drawing and the
+    /// screen text".
     pub fn keeps_look_at(&self, id: ObjectId, event: Event) -> bool
         ensures { result ≡ true → RunsKeepLook self.now.objects (events.raise id event ∷ []) }
     {

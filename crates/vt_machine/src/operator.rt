@@ -29,7 +29,7 @@ pub enum OperatorRefusal {
     /// The text is longer than the text of the object or of its variable.
     #[error("the text is longer than that of the object, or of its variable")]
     TooLong,
-    /// The object is of a kind that the action does not take.
+    /// The object is of a kind that the action does not accept.
     #[error("the object is of a kind that the action does not take")]
     WrongKind,
     /// The key is not the held key.
@@ -91,7 +91,7 @@ impl<S: Store> Live<S> {
     }
 
     /// Releases the held key, shown or not. Its message has code 0, the mask of the press and the present key code, and
-    /// its event Key Release is raised. Refuses any other ID as not pressed, which changes nothing.
+    /// its event Key Release is raised. Refuses any other ID with `NotPressed`; a refusal changes nothing.
     pub fn release(&mut self, id: ObjectId) -> Result<Acted, OperatorRefusal>
         ensures released { ComesTo self.old (operating.release self.old id) result self.new }
         // The held key is a Key or a Button, so there is a message.
@@ -113,8 +113,8 @@ impl<S: Store> Live<S> {
     }
 
     /// Selects an input. Raises Input Deselected on the former input, if one was selected, and then Input Selected on
-    /// this one; no event if the input is selected already. Sends no message. Refuses, in this order, an object that is
-    /// not shown, one that is no input, and a disabled one; a refusal changes nothing.
+    /// this one. Raises no event if the input is selected already. Sends no message. Refuses, in this order, an object
+    /// that is not shown, one that is no input, and a disabled one; a refusal changes nothing.
     pub fn select(&mut self, id: ObjectId) -> Result<Acted, OperatorRefusal>
         ensures { ComesToShown self.old id (λ shown mask. operating.select shown self.old id) result self.new }
     {

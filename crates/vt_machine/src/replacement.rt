@@ -34,7 +34,7 @@ impl Model for Replacement {
 
 impl<S: Store> Live<S> {
     /// Copies of the objects of an update, if each replaces an object with the same kind, macros and references. Such an
-    /// update is accepted, and no other object is looked at. `None` for any other update, which may be accepted too.
+    /// update is accepted without a look at other objects. `None` for any other update, which may be accepted too.
     pub fn replacement(&self, update: &Pool<'_>) -> Result<Option<Replacement>, AllocError>
         ensures objects { IfOk result (λ found. IfSome found (λ replacement. replacement ≡ update.now)) }
         ensures fits { IfOk result (λ found. IfSome found (AreReplacements self.now.objects)) }

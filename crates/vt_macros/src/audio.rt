@@ -5,12 +5,12 @@ ghost use Rattle.vt_macros.specs.Audio.{noted, silence};
 
 use vt_objects::Command;
 
-/// An audio signal, as a Control Audio command asks for it.
+/// An audio signal, as a Control Audio command requests it.
 #[derive(Clone, Copy, PartialEq, Eq)]
 pub struct Signal {
-    /// How often it sounds.
+    /// The number of times that it sounds.
     pub activations: u8,
-    /// Hz.
+    /// The frequency in Hz.
     pub frequency: u16,
     /// The milliseconds that it sounds each time.
     pub on: u16,
@@ -18,21 +18,21 @@ pub struct Signal {
     pub off: u16,
 }
 
-/// The audio commands that a working set has done: how many there were, and the last of each.
+/// The audio commands that a working set has done: the number of them, and the last of each.
 #[derive(Clone, Copy, PartialEq, Eq)]
 pub struct Audio {
-    /// How many signals. After 2^32 - 1 comes 0.
+    /// The number of signals, modulo 2^32.
     pub signals: u32,
     /// The last signal. All its numbers are 0 before the first.
     pub signal: Signal,
-    /// How often the volume was set. After 2^32 - 1 comes 0.
+    /// The number of times that the volume was set, modulo 2^32.
     pub volumes: u32,
     /// The last volume in percent. 0 before the first.
     pub volume: u8,
 }
 
 impl Audio {
-    /// No audio command is done.
+    /// The state before the first audio command.
     pub fn new() -> Audio
         ensures { result ≡ silence }
     {
@@ -50,7 +50,7 @@ impl Audio {
         }
     }
 
-    /// Notes a command that is done. Only Control Audio and Set Audio Volume change anything.
+    /// Records a command that is done. Only Control Audio and Set Audio Volume change anything.
     pub fn note(&mut self, command: &Command<'_>)
         ensures { self.new ≡ noted self.old command.now }
     {

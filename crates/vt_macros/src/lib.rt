@@ -1,8 +1,8 @@
 //! The macros of a working set (ISO 11783-6): which of them run at an event, and how their commands change its objects.
 //!
 //! - `Index` has the macros of a pool by the object and event that trigger them, and their commands.
-//! - `Index::find_quiet` looks for the quiet macros, which leave what the text of a screen shows; `Index::are_quiet` tells whether
-//!   events trigger quiet macros alone.
+//! - `Index::find_quiet` finds the quiet macros, which leave unchanged what the text of a screen shows; `Index::are_quiet` returns
+//!   whether events trigger quiet macros alone.
 //! - `events_of` returns the events that a command raises; `raise` and `raise_all` run the macros of events, to their
 //!   end.
 //! - `Audio` has the audio commands that are done, for a host that sounds them.

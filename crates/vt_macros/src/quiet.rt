@@ -1,4 +1,4 @@
-//! Quiet macros: they leave what the text of a screen shows (docs/PROFILE.md, "The drawing and the screen text").
+//! Quiet macros: they leave unchanged what the text of a screen shows (docs/PROFILE.md, "The drawing and the screen text").
 
 ghost use Rattle.std.specs.Prelude.{◌≡◌, true, false, set, slice_index_or};
 ghost use Rattle.std.specs.List.{list_all};
@@ -12,9 +12,9 @@ use vt_effects::writes_unseen;
 use vt_objects::{Command, ObjectId, Raised, Store, row_events};
 
 impl Index {
-    /// Finds the quiet macros of `order` and notes them in the index: a macro is quiet if its commands write no field that a
-    /// screen's text shows, and trigger only known quiet macros. In the order of ranks, each macro after those that it
-    /// triggers, none is missed; no contract says so.
+    /// Finds the quiet macros of `order` and records them in the index: a macro is quiet if its commands write no field that
+    /// a screen's text shows, and trigger only known quiet macros. If `order` is that of the ranks, with each macro after
+    /// those that it triggers, none is missed. No contract states this.
     pub fn find_quiet<S: Store>(&mut self, store: &S, order: &[u8])
         requires { IsIndexOf (shape_in (S.contents store.now)) self.old }
         ensures { IsIndexOf (shape_in (S.contents store.now)) self.new }

@@ -1,4 +1,5 @@
-//! The program over words, files and writers: replays logs, and prints the reports of object pools.
+//! The program `vt_replay` as a function of its command line, files and writers. It replays logs, and prints the reports of object
+//! pools.
 //!
 //! `run` takes the words of the command line, opens files by an `Open`, such as the `Files` of the system, and returns a `Status`.
 //! `Options::parse` reads the words, and returns `Options` or a `UsageError`. docs/PROFILE.md, "The program", has the words and the

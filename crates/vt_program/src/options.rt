@@ -33,7 +33,7 @@ pub struct Options<'a> {
     pub name: Name,
     /// The working set that is present from the start.
     pub preload: Option<Preload<'a>>,
-    /// Whether a report is asked for in place of a replay.
+    /// Whether a report is asked for instead of a replay.
     pub report: bool,
 }
 
@@ -273,7 +273,7 @@ fn address_given<'a>(
     }
 }
 
-/// The address that two hex digits write, up to FD.
+/// The address written as two hex digits, up to FD. `None` for any other text.
 pub fn address(text: &str) -> Option<u8>
     ensures { MatchOption result ((n : ℕ) → IsAddress text.now n → ⊥) (IsAddress text.now) }
 {
@@ -295,7 +295,7 @@ fn name_given<'a>(matches: &ArgMatches<'a>) -> Result<Name, UsageError<'a>>
     }
 }
 
-/// The NAME that 16 hex digits write.
+/// The NAME written as 16 hex digits. `None` for any other text.
 pub fn name(text: &str) -> Option<Name>
     ensures { MatchOption result ((n : ℕ) → IsName text.now n → ⊥) (IsName text.now) }
 {

@@ -5,7 +5,7 @@ use vt_kinds::{Kind, ObjectId};
 use vt_records::PoolFault;
 use vt_verify::Refusal;
 
-/// The kinds of the objects in a refusal, where the pool has these objects.
+/// The kinds of the objects in a refusal, if the pool has these objects.
 #[derive(Clone, Copy, Default, PartialEq, Eq)]
 pub struct Named {
     /// The kind of the parent, or of the only object.
@@ -80,7 +80,7 @@ fn write_fault<W: fmt::Write>(
     )
 }
 
-/// Writes that the file may be a log, where that is likely.
+/// Writes that the file may be a log, if that is likely.
 fn write_log_hint<W: fmt::Write>(f: &mut fmt::Formatter<W>, is_likely: bool) -> fmt::Result {
     if is_likely {
         write!(f, "; if it is a log, leave out --report")?;
@@ -236,7 +236,7 @@ impl RefusalSentence<'_> {
     }
 }
 
-/// An object by its kind and ID, or by its ID alone where the pool does not have it.
+/// An object by its kind and ID, or by its ID alone if the pool does not have it.
 #[derive(Drop)]
 struct WithKind {
     kind: Option<Kind>,

@@ -69,9 +69,9 @@ struct About<'a> {
     in_report: bool,
 }
 
-/// Runs the program on its words, of which the first is its name. The fault or the refusal of a pool is printed to `out`.
-/// `errors` gets a sentence for each fault, for the faulty lines of a log and for refused actions of the operator; the status
-/// is the same if that cannot be written.
+/// Runs the program on its words, of which the first is its name. The fault or the refusal of a pool is printed to `out`. A
+/// sentence is printed to `errors` for each fault, for the faulty lines of a log and for refused actions of the operator; the
+/// status is the same if that cannot be written.
 pub fn run<S: AsStr, F: Open, W: Sink, E: Write>(
     alloc: Global,
     words: &[S],

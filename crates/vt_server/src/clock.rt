@@ -54,8 +54,8 @@ impl Terminal {
         self.lost
     }
 
-    /// Moves the time on without a frame: sessions time out, silent sets are closed, and the shown set is chosen. It is the step
-    /// of an echo. Appends at most 1,024 outputs. After `OutOfMemory` the terminal and the outputs are unchanged.
+    /// Advances the time without a frame: sessions time out, silent sets are closed, and the shown set is chosen. The step is
+    /// that of an echo. Appends at most 1,024 outputs. After `OutOfMemory` the terminal and the outputs are unchanged.
     /// docs/PROFILE.md, "Ticks".
     pub fn tick(&mut self, time: u64, outputs: &mut Vec<Output>) -> Result<(), OutOfMemory>
         ensures ok { OnOk result (TakesInput (state_of self.old) (inputs.Frame time (echo (state_of self.old).claims.own)) (state_of self.new) outputs.old.items outputs.new.items) }
@@ -71,8 +71,8 @@ impl Terminal {
         self.step_frame(time, &echo, outputs)
     }
 
-    /// The first time at which a tick would do anything but move the time on, or `None` if no tick ever would. A time that is not
-    /// after the latest one means: at once. docs/PROFILE.md, "Ticks".
+    /// The first time at which a tick would do more than advance the time, or `None` if no tick ever would. If it is not after
+    /// the latest time, a tick is due at once. docs/PROFILE.md, "Ticks".
     pub fn next_deadline(&self) -> Option<u64>
         ensures { IsFirstTime (IsDue (state_of self.now)) result }
     {

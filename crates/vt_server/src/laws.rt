@@ -1,5 +1,5 @@
-//! Laws on the states of a terminal. Each is the contract of a function that changes nothing. The laws on its steps are in
-//! vt_laws.
+//! Laws about the states of a terminal. Each is the contract of a function that changes nothing. The laws about its steps are
+//! in vt_laws.
 
 ghost use Rattle.vt_server.specs.state.StateInvariants.{IsOrderly};
 ghost use Rattle.vt_server.specs.States.{state_of};
@@ -7,8 +7,8 @@ ghost use Rattle.vt_server.specs.States.{state_of};
 use crate::terminal::Terminal;
 use vt_names::Name;
 
-/// Every terminal keeps its address claims by rising NAME and has at most one set at an address. The laws on its steps require
-/// this.
+/// Every terminal keeps its address claims by rising NAME and has at most one set at an address. The laws about its steps
+/// require this.
 pub fn terminals_are_orderly(terminal: &Terminal)
     ensures { IsOrderly (state_of terminal.now) }
 {

@@ -2,9 +2,9 @@
 //!
 //! - `Terminal` takes each `Input`, a frame or an action of the operator, and appends each `Output`, a frame or an
 //!   `OperatorFault`. A run of inputs ends with a `RunFault` at the first refusal of memory.
-//! - `Terminal::tick` moves the time on without a frame, and `Terminal::next_deadline` tells from when on that does anything. A
-//!   `Profile` is what the terminal says of itself.
-//! - `laws` has the invariants of every terminal; the laws on its steps are in vt_laws.
+//! - `Terminal::tick` advances the time without a frame, and `Terminal::next_deadline` returns the first time at which that
+//!   does more. A `Profile` has the technical data of the terminal.
+//! - `laws` has the invariants of every terminal; the laws about its steps are in vt_laws.
 //!
 //! docs/PROFILE.md, "The step", has the rules.
 #![tactic(auto)]

@@ -13,7 +13,7 @@ use vt_machine::OperatorRefusal;
 /// Why an action of the operator is refused: the refusals 1 to 9 of docs/PROFILE.md, "Refusals".
 #[derive(Clone, Copy, Debug, PartialEq, Eq, Error)]
 pub enum OperatorFault {
-    /// The working set that is shown refuses it: 1 to 7.
+    /// The shown working set refuses it: 1 to 7.
     #[error(transparent)]
     Refused(OperatorRefusal),
     /// A message to the working set is still being sent: 8.

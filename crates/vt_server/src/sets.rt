@@ -13,12 +13,12 @@ use crate::upload_end::UploadEnd;
 use vt_can::assigned::{ECU_TO_VT, TRANSFER};
 use vt_names::Set;
 
-/// How much of an upload has come.
+/// How much of an upload has arrived.
 #[derive(Clone, Copy, PartialEq, Eq)]
 pub struct Progress {
-    /// The bytes of the pool that have come.
+    /// The number of bytes of the pool that have arrived.
     pub came: usize,
-    /// The bytes of the pool that have come or are announced by a message that is arriving.
+    /// The number of bytes of the pool that have arrived, or are announced by a message that is arriving.
     pub announced: usize,
 }
 
@@ -44,7 +44,7 @@ impl Terminal {
         self.node.is_sending(address)
     }
 
-    /// Whether the session in which a message is being sent to an address would be overdue at a time. False without such a session.
+    /// Whether the session that sends a message to an address would be overdue at a time. False if there is no such session.
     /// docs/PROFILE.md, "Timeouts".
     pub fn is_overdue_to(&self, address: u8, time: u64) -> bool
         ensures { result ≡ is_overdue time ((state_of self.now).places address).sending }
@@ -52,14 +52,14 @@ impl Terminal {
         self.node.is_overdue_to(address, time)
     }
 
-    /// Whether the set of an address would be silent at a time of a frame line. docs/PROFILE.md, "Silence".
+    /// Whether the set of an address would be silent at a frame line with this time. docs/PROFILE.md, "Silence".
     pub fn is_silent_at(&self, address: u8, time: u64) -> bool
         ensures { result ≡ is_silent time ((state_of self.now).places address).heard }
     {
         self.registry.is_silent_at(address, time)
     }
 
-    /// How much of the upload of an address has come, with the message that is arriving.
+    /// How much of the upload of an address has arrived, including the message that is arriving.
     pub fn progress(&self, address: u8) -> Progress
         ensures { result ≡ progress_of ((state_of self.now).places address) }
     {
@@ -71,8 +71,8 @@ impl Terminal {
         }
     }
 
-    /// How the upload ended that the last frame ended. Right only after a frame that ended one, to which the reply to End of Object Pool was
-    /// sent; otherwise it may be that of an earlier frame.
+    /// The result of the upload that the last frame ended. Valid only after a frame that ended an upload, for which the reply to End of
+    /// Object Pool was sent; otherwise it may be the result of an earlier upload.
     pub fn upload_end(&self) -> Option<UploadEnd>
         ensures { result ≡ upload_end self.now }
     {

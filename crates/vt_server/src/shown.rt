@@ -26,7 +26,7 @@ pub(crate) struct Alarm {
     pub(crate) priority: u8,
 }
 
-/// What is shown, as the status message says it. Without a shown set the address is 254, and the IDs are NULL.
+/// What is shown, as in the status message. If no set is shown, the address is 254, and the IDs are NULL.
 #[derive(Clone, Copy, PartialEq, Eq)]
 pub struct ShownMasks {
     /// The address of the shown set.

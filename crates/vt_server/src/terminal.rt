@@ -74,8 +74,8 @@ pub struct RunFault {
 }
 
 impl Terminal {
-    /// A terminal without working sets, at address `own` (at most 253), with its NAME and the standard profile. It allocates
-    /// nothing.
+    /// A terminal without working sets, at address `own` (at most 253), with its NAME and the standard profile. Does not
+    /// allocate.
     pub fn new(alloc: Global, own: u8, name: Name) -> Terminal
         requires { own ≤ 253 }
         ensures claims { (state_of result).claims ≡ record { own = own; name = name; addresses = [] } }
@@ -141,8 +141,8 @@ impl Terminal {
     }
 
     /// Whether the screen may differ from the one before the last call of `step` or `run` that took an input, so that it has to
-    /// be drawn again. `new` and a successful `preload` set it. A call that takes no input, for want of memory or of inputs,
-    /// leaves it as it was.
+    /// be drawn again. Also true after `new` and after a successful `preload`. A call that takes no input, because memory was
+    /// refused or there is none, leaves it as it was.
     pub fn redraws(&self) -> bool
         ensures { result ≡ redraws self.now }
     {
@@ -161,9 +161,9 @@ impl Terminal {
         }
     }
 
-    /// Adds a working set without a NAME, with the objects of an accepted pool, and chooses the shown set. The address is at most
-    /// 253, is not the terminal's own, and has no set yet. No event is raised, and nothing is sent. After `OutOfMemory` the
-    /// terminal is unchanged. docs/PROFILE.md, "Preloaded sets".
+    /// Adds a working set without a NAME, with the objects of an accepted pool, and chooses the shown set. The address must be at
+    /// most 253, must not be the terminal's own, and must have no set yet. No event is raised, and nothing is sent. After
+    /// `OutOfMemory` the terminal is unchanged. docs/PROFILE.md, "Preloaded sets".
     pub fn preload(&mut self, address: u8, pool: &Accepted) -> Result<(), OutOfMemory>
         requires none { set_at address (state_of self.old).sets ≡ None }
         requires claimed { address ≤ 253 }
@@ -183,8 +183,8 @@ impl Terminal {
         Ok(())
     }
 
-    /// Handles one input and appends its outputs, at most 1,024. After `OutOfMemory` the terminal and the outputs are unchanged.
-    /// docs/PROFILE.md, "The order of a step".
+    /// Processes one input and appends its outputs, at most 1,024. After `OutOfMemory` the terminal and the outputs are
+    /// unchanged. docs/PROFILE.md, "The order of a step".
     pub fn step(&mut self, input: &Input<'_>, outputs: &mut Vec<Output>) -> Result<(), OutOfMemory>
         ensures ok { OnOk result (TakesInput (state_of self.old) input.now (state_of self.new) outputs.old.items outputs.new.items) }
         ensures err { OnErr result (state_of self.new ≡ state_of self.old) }
@@ -202,7 +202,7 @@ impl Terminal {
         }
     }
 
-    /// Handles inputs in order and appends their outputs. After a `RunFault` the terminal and the outputs are those after the
+    /// Processes inputs in order and appends their outputs. After a `RunFault` the terminal and the outputs are those after the
     /// inputs before the faulty one. `redraws` covers all inputs done.
     pub fn run(&mut self, inputs: &[Input<'_>], outputs: &mut Vec<Output>) -> Result<(), RunFault>
         ensures ok { OnOk result (TakesInputs (state_of self.old) inputs.now (state_of self.new) outputs.old.items outputs.new.items) }

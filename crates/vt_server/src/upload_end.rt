@@ -21,13 +21,13 @@ pub enum UploadEnd {
 /// A rule that the objects of an upload break. docs/PROFILE.md, "Verification of a pool".
 #[derive(Clone, Copy, PartialEq, Eq)]
 pub struct BrokenRule {
-    /// The number of the rule, 1 to 12; want of memory is told as an error, never as a rule.
+    /// The number of the rule, 1 to 12. A refusal of memory is reported as an error, never as a rule.
     pub rule: u8,
-    /// The offset of a command in its macro, with the rules 7 and 10, or else 0.
+    /// For the rules 7 and 10, the offset of the command in its macro; otherwise 0.
     pub at: usize,
-    /// The object that breaks the rule, of a chain or a circle the first one; NULL if the rule names none.
+    /// The object that breaks the rule, or the first one of a chain or a circle. NULL if the rule names no object.
     pub object: ObjectId,
-    /// The object to which it refers, with the rules 3, 4, 8 and 9, or else NULL.
+    /// For the rules 3, 4, 8 and 9, the object to which it refers; otherwise NULL.
     pub other: ObjectId,
 }
 
