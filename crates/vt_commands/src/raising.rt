@@ -17,8 +17,9 @@ pub struct Raised {
     pub event: Event,
 }
 
-/// The events that an accepted command raises by its row in docs/PROFILE.md, "Commands: all rows", in their order.
-/// Change Active Mask also raises Hide on the former active mask, which is not among them.
+/// The events that the fields of an accepted command give, in their order. Two events of Change Active Mask depend
+/// on the store: Hide on the former active mask is not among these, and Show is not raised if the mask is active
+/// already.
 pub fn row_events(command: &Command<'_>) -> ArrayVec<Raised, 2>
     ensures { result.items ≡ row_events command.now }
 {

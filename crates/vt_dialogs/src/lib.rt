@@ -1,10 +1,9 @@
-//! What a dialog for an input needs (ISO 11783-6): what the input accepts, the text that it shows, and the raw value of a number that
-//! the operator typed.
+//! What an input dialog needs: its limits, its text, and the raw value of a typed number (ISO 11783-6).
 //!
-//! - `limits_of` has the `Limits` of an input.
+//! - `limits_of` returns the `Limits` of an input.
 //! - `write_text` appends the text of a number or a string as the terminal shows it.
-//! - `typed_of` reads a `Typed` number from its text, and `raw_of` is its raw value, exactly.
-//! - `laws` says that the limits are those of the terminal.
+//! - `typed_of` reads a `Typed` number from its text, and `raw_of` returns its exact raw value.
+//! - `laws` has the theorem that the limits are those of the terminal, and the theorem that a typed number has one raw value at most.
 #![tactic(auto)]
 
 pub mod laws;

@@ -32,7 +32,7 @@ pub struct Limits {
     pub value: u32,
     /// The least raw value that is accepted.
     pub least: u32,
-    /// The greatest raw value that is accepted. It is below `least` where no number is.
+    /// The greatest raw value that is accepted. It is below `least` if no number is accepted.
     pub greatest: u32,
     /// The number added to a raw value before it is scaled.
     pub offset: i32,

@@ -21,7 +21,7 @@ struct Form {
 }
 
 /// Appends the text of an input or output field as the terminal shows it: a number with its offset, scale and decimals, or the whole text
-/// of a string, in the bytes of its font. Of another object nothing is appended. After `OutOfMemory` the vector is unchanged.
+/// of a string, in the bytes of its font. For any other object nothing is appended. After `OutOfMemory` the vector is unchanged.
 pub fn write_text<S: Store>(store: &S, id: ObjectId, out: &mut Vec<u8>) -> Result<(), OutOfMemory>
     ensures ok { OnOk result (out.new.items ≡ out.old.items ++ text_in (S.contents store.now) (finite.get (S.contents store.now) id)) }
     ensures err { OnErr result (out.new.items ≡ out.old.items) }

@@ -5,20 +5,20 @@ ghost use Rattle.vt_dialogs.specs.TypedNumbers.{IsRaw, with_sign};
 
 use vt_objects::InputNumber;
 
-/// A number as the operator typed it: its digits without the point, and how many of them are behind the point. -20.5 has the digits 205
-/// and one decimal.
+/// A number as the operator typed it: its digits without the point, and the number of digits after the point. For example, -20.5 has the
+/// digits 205 and one decimal.
 #[derive(Clone, Copy, PartialEq, Eq)]
 pub struct Typed {
-    /// Whether it has a minus before it.
+    /// Whether it has a minus sign.
     pub is_negative: bool,
     /// The digits as a number, less than 10 to the 15.
     pub digits: u64,
-    /// The number of digits behind the point, at most 15.
+    /// The number of digits after the point, at most 15.
     pub decimals: u32,
 }
 
-/// The raw value whose shown number is exactly the typed one, before it is rounded to the decimals of the input. `None` if there is none
-/// of 32 bits, as for 20.55 where the scale is 0.1. It may be outside the limits of the input.
+/// The raw value whose shown number, before it is rounded to the decimals of the input, is exactly the typed one. `None` if there is
+/// none of 32 bits, such as for 20.55 if the scale is 0.1. It may be outside the limits of the input.
 pub fn raw_of(input: &InputNumber, typed: Typed) -> Option<u32>
     requires digits { typed.digits < 10 ^ 15 }
     requires decimals { typed.decimals ≤ 15 }

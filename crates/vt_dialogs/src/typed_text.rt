@@ -6,8 +6,8 @@ ghost use Rattle.vt_dialogs.specs.TypedTexts as texts;
 
 use crate::typed::Typed;
 
-/// Reads a number as the operator typed it: an optional minus, digits, and perhaps a point and more digits; at most 15 digits. `None` for
-/// another text.
+/// Reads a number as the operator typed it: an optional minus sign, digits, and optionally a point and more digits, at most 15 digits in
+/// all. `None` for any other text.
 pub fn typed_of(text: &[u8]) -> Option<Typed>
     ensures { result ≡ texts.typed_of text.now }
 {

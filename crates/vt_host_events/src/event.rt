@@ -5,15 +5,15 @@ use vt_objects::ObjectId;
 use vt_pool::PoolFault;
 use vt_server::{BrokenRule, Progress, ShownMasks};
 
-/// What a host is told after an input. Its address is that of a working set, with `AddressLost` the terminal's own, and with `Shown` that of the
-/// shown set or 254. docs/PROFILE.md, "Events for a host".
+/// An event that a host receives after an input. Its address is that of a working set. For `AddressLost` it is the terminal's own, and for
+/// `Shown` that of the shown set, or 254 if none is shown. docs/PROFILE.md, "Events for a host".
 #[derive(Clone, Copy)]
 pub enum HostEvent {
     /// A set registered at an address without one, or with one that fell silent.
     SetCame { address: u8 },
     /// A set fell silent and is closed.
     SetSilent { address: u8 },
-    /// A set is closed because its NAME does not hold its address any more.
+    /// A set is closed because its NAME no longer holds its address.
     SetClosed { address: u8 },
     /// The first pool of a set is accepted.
     PoolAccepted { address: u8 },
@@ -31,13 +31,13 @@ pub enum HostEvent {
     TextAborted { address: u8 },
     /// Another mask is shown, or another set, or other soft keys.
     Shown(ShownMasks),
-    /// An alarm mask is shown, or its priority or its acoustic signal is another one.
+    /// An alarm mask is shown, or its priority or its acoustic signal has changed.
     Alarm(Alarm),
     /// No alarm mask is shown any more.
     AlarmOver { address: u8 },
-    /// The set asks for an audio signal. Of several in one input it is the last.
+    /// The set requests an audio signal. If it requests several in one input, this is the last.
     Signal { address: u8, signal: Signal },
-    /// The set asks for an audio volume in percent. Of several in one input it is the last.
+    /// The set requests an audio volume in percent. If it requests several in one input, this is the last.
     Volume { address: u8, percent: u8 },
     /// A lower NAME took the terminal's address.
     AddressLost { address: u8 },

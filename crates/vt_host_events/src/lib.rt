@@ -1,11 +1,11 @@
-//! What a host is told after an input of its terminal: the sets that came and went, the ends of uploads, what is shown, alarms, sounds, and
-//! texts whose end an implement did not acknowledge (ISO 11783-6).
+//! The events that a host receives after an input of its terminal. They report the sets that came and went, the ends of uploads, what is
+//! shown, alarms, sounds, and texts whose end an implement did not acknowledge (ISO 11783-6).
 //!
-//! - A `HostEvent` is one thing that is told.
-//! - An `Observer` looks at a terminal before an input, and tells its events after it.
+//! - A `HostEvent` is one of these events.
+//! - An `Observer` looks at a terminal before an input, and reports its events after it.
 //!
 //! The events of an input are a function of the terminal before it, the input, what was sent, and the terminal after it with the end of the
-//! upload that it tells. docs/PROFILE.md, "Events for a host", has them all.
+//! upload that it reports. docs/PROFILE.md, "Events for a host", has them all.
 #![tactic(auto)]
 
 mod event;

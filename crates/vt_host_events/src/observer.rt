@@ -33,7 +33,7 @@ pub struct Observer {
 }
 
 impl Observer {
-    /// An observer that has seen nothing. Allocates nothing.
+    /// An observer that has not looked at a terminal yet. Does not allocate.
     pub fn new(alloc: Global) -> Observer
         ensures { result.events.items ≡ [] }
     {
@@ -51,8 +51,8 @@ impl Observer {
         }
     }
 
-    /// Looks at a terminal before an input: a frame with its time, a time alone, or neither for an action at the latest time so far. Takes the
-    /// memory that `tell` needs; at a terminal that lost its address it takes none. After `OutOfMemory` no event is left.
+    /// Looks at a terminal before an input: a frame with its time, a time alone, or neither for an action at the latest time so far.
+    /// Reserves the memory that `tell` needs; for a terminal that lost its address it reserves none. After `OutOfMemory` no event is left.
     pub fn look(
         &mut self,
         terminal: &Terminal,
@@ -93,7 +93,7 @@ impl Observer {
         Ok(())
     }
 
-    /// Tells the events of the input: from the terminal after it, the frame if it was one, and what was sent.
+    /// Reports the events of the input in `events`, from the terminal after it, the frame if it was one, and what was sent.
     pub fn tell(&mut self, terminal: &Terminal, frame: Option<&Frame>, outputs: &[Output])
         requires room { self.old.is_lost ≡ false → HasRoom self.old }
         requires none { self.old.events.items ≡ [] }

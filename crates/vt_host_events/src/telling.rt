@@ -1,4 +1,4 @@
-//! The events of an input: what is otherwise than it was seen before it.
+//! The events of an input: what has changed since it was seen before the input.
 
 ghost use Rattle.std.specs.Prelude.{◌≡◌, ◌*◌, ◌++◌, length};
 ghost use Rattle.std.specs.List.{flat_map, list_any};

@@ -15,9 +15,10 @@ use vt_dialogs::{Limits, Typed, limits_of, raw_of, write_text};
 use vt_objects::Object;
 use vt_server::Terminal;
 
-/// Writes the limits of an input of the set at an address, 24 bytes: its kind, 1 or 0 for whether it is enabled, the decimal places of its
-/// scale, its decimals, the number of its items, the most bytes of a text, and two bytes of 0; and in four bytes each, from the lowest
-/// on, the raw value shown, the least and the greatest one accepted, and the offset. Without such an input the text is empty.
+/// Writes the limits of an input of the set at an address, 24 bytes. The first eight are: its kind; 1 or 0 for whether it is enabled; the
+/// decimal places of its scale; its decimals; the number of its items; the most bytes of a text; and two bytes of 0. Then follow in four
+/// bytes each, the lowest first: the raw value shown, the least and the greatest one accepted, and the offset. Without such an input the
+/// text is empty.
 pub fn limits(session: &mut Session, address: u32, id: u32) -> u64
     ensures { WritesLimits session.old address id session.new result }
 {
@@ -112,9 +113,9 @@ pub fn write_value(
     write_text(live.store(), id, text)
 }
 
-/// The raw value of a number that the operator typed for an Input Number of the set at an address, exactly: its digits without the point,
-/// and how many of them are behind it. It is negative if `sign` is not 0. 2^64 - 1 if there is no such value or no such input, or for more
-/// than 15 digits or decimals.
+/// The exact raw value of a number that the operator typed for an Input Number of the set at an address. `digits` are its digits without
+/// the point, and `decimals` is the number of digits after the point. It is negative if `sign` is not 0. Returns 2^64 - 1 if there is no
+/// such value or no such input, or for more than 15 digits or decimals.
 pub fn raw(
     session: &mut Session,
     address: u32,
@@ -136,7 +137,7 @@ pub fn raw(
     }
 }
 
-/// The raw value of a typed number for an Input Number of the set at an address, exactly. `None` if there is no such value or no such input,
+/// The exact raw value of a typed number for an Input Number of the set at an address. `None` if there is no such value or no such input,
 /// or for more than 15 digits or decimals.
 pub fn raw_at(terminal: &Terminal, address: u32, id: u32, typed: Typed) -> Option<u32>
     ensures { IsRawOf (object_by (pool_by (state_of terminal.now) address) id) typed result }

@@ -167,7 +167,7 @@ fn fault_number(fault: OperatorFault) -> u32
     }
 }
 
-/// Sends the address claim, which a host does at its start.
+/// Sends the address claim, which a host does at its start. Returns a status.
 pub fn claim(session: &mut Session) -> u32
     ensures { Claims session.old session.new result }
 {
@@ -178,7 +178,7 @@ pub fn claim(session: &mut Session) -> u32
     send(session, frame)
 }
 
-/// Sends the status, which a host does each second.
+/// Sends the status message, which a host does each second. Returns a status.
 pub fn status(session: &mut Session) -> u32
     ensures { SendsStatus session.old session.new result }
 {

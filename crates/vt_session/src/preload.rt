@@ -7,7 +7,7 @@ use crate::session::{Session, closed, note_change};
 use crate::status::{DONE, NO_MEMORY, NO_POOL, NO_SUCH};
 use vt_judge::judge;
 
-/// Adds a working set with the pool of these bytes at an address without a set.
+/// Adds a working set with the pool of these bytes at an address without a set. Returns a status.
 pub fn preload(session: &mut Session, address: u32, pool: &[u8]) -> u32
     ensures { Preloads session.old address pool.now session.new result }
 {

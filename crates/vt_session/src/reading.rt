@@ -72,8 +72,8 @@ fn set_bytes(terminal: &Terminal, set: &Set) -> [u8; 16]
     ]
 }
 
-/// The active mask of the set at an address, its soft key mask, its selected input and its held key, 16 bits each, the first lowest.
-/// Each is 65535 where there is none, as all are without a set that has a pool.
+/// The active mask of the set at an address, its soft key mask, its selected input and its held key, 16 bits each, the first lowest. Each
+/// is 65535 if there is none. Without a set that has a pool, all four are 65535.
 pub fn active(session: &mut Session, address: u32) -> u64
     ensures { TellsActive session.old address session.new result }
 {
@@ -146,8 +146,8 @@ pub fn write_record(
     }
 }
 
-/// Draws a mask of the set at an address with its soft keys as SVG, or the active mask where `mask` is 65535 or more. Without a set
-/// that has a pool the text is empty.
+/// Draws a mask of the set at an address with its soft keys as SVG, or the active mask if `mask` is 65535 or more. Without a set that has a
+/// pool the text is empty.
 pub fn picture(session: &mut Session, address: u32, mask: u32) -> u64
     ensures { Pictures session.old address mask session.new result }
 {
@@ -258,10 +258,11 @@ fn mask_in(live: &Live<SortedStore>, mask: u32) -> ObjectId
     }
 }
 
-/// Lists the elements of the active mask of the shown set and of its soft keys, in the order in which they are drawn, 40 bytes each: the ID,
-/// 2 bytes; the kind and the number of elements around it, a byte each; the index of the element around it, 2 bytes, or 65535; two bytes
-/// of 0; and in 4 bytes each the left and the upper edge, the width and the height, and the bounds of what is shown of it, left, top, right
-/// and bottom. All are from the lowest byte on, and in pixels from the upper left corner of the mask.
+/// Lists the elements of the active mask of the shown set and of its soft keys, in the order in which they are drawn, 40 bytes each. The
+/// first eight bytes are: the ID, 2 bytes; the kind and the number of elements around it, a byte each; the index of the element around it,
+/// 2 bytes, or 65535; and two bytes of 0. Then follow in 4 bytes each: the left and the upper edge, the width and the height, and the left,
+/// top, right and bottom bounds of its visible part. Each number has its lowest byte first. Lengths are in pixels, from the upper left
+/// corner of the mask.
 pub fn shown_elements(session: &mut Session) -> u64
     ensures { ListsElements session.old session.new result }
 {

@@ -30,7 +30,7 @@ pub fn redraws(session: &mut Session) -> u32
     u32::from(session.terminal.redraws())
 }
 
-/// A number that is another one after each call that may have changed the picture of the shown set.
+/// A number that changes with each call that may have changed the picture of the shown set.
 pub fn looks(session: &mut Session) -> u64
     ensures { TellsLooks session.old session.new result }
 {
@@ -54,7 +54,7 @@ pub fn lost(session: &mut Session) -> u32
     u32::from(session.terminal.is_lost())
 }
 
-/// The first time at which a tick would do anything, or 2^64 - 1.
+/// The first time at which a tick would do more than advance the time, or 2^64 - 1 if there is none.
 pub fn deadline(session: &mut Session) -> u64
     ensures { TellsDeadline session.old session.new result }
 {

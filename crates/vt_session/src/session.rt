@@ -21,7 +21,7 @@ use vt_names::Name;
 use vt_node::echo;
 use vt_server::{Input, Output, Profile, Terminal};
 
-/// As the time of an action: the latest time so far. Nothing times out for it.
+/// The time of an action that means the latest time so far. Nothing times out for it.
 pub const LATEST: u64 = u64::MAX;
 
 /// A terminal, the outputs of its last input, and the text written last.
@@ -48,20 +48,20 @@ impl Session {
         &self.terminal
     }
 
-    /// A number that is another one after each call that may have changed the picture of the shown set.
+    /// A number that changes with each call that may have changed the picture of the shown set.
     pub fn look(&self) -> u64
         ensures { result ≡ self.now.looks }
     {
         self.looks
     }
 
-    /// Where its memory comes from.
+    /// The allocator of the session's memory.
     pub fn allocator(&self) -> Global {
         *self.text.allocator()
     }
 }
 
-/// Begins a session with a new terminal. With an own address above 253 the session takes no input.
+/// Begins a session with a new terminal. If its own address is above 253, the session takes no input.
 pub fn begin(
     alloc: Global,
     own: u32,
@@ -82,7 +82,7 @@ pub fn begin(
     )
 }
 
-/// Begins a session with a new terminal of this profile. With an own address above 253 the session takes no input.
+/// Begins a session with a new terminal of this profile. If its own address is above 253, the session takes no input.
 pub fn begin_with(alloc: Global, own: u32, name: u64, profile: Profile) -> Session
     ensures { Begins own name profile result }
 {
@@ -128,14 +128,15 @@ pub fn discard(session: Session) {
     drop(session);
 }
 
-/// Hears a frame of the bus at a time.
+/// Receives a frame of the bus at a time in microseconds, with an identifier and the lowest `count` bytes of `bits` as
+/// its data. Returns a status.
 pub fn hear(session: &mut Session, time: u64, id: u32, count: u32, bits: u64) -> u32
     ensures { Hears session.old time id count bits session.new result }
 {
     take(session, frame_input(time, id, count, bits))
 }
 
-/// Moves the time on.
+/// Advances the time to `time`, in microseconds. Returns a status.
 pub fn tick(session: &mut Session, time: u64) -> u32
     ensures { Ticks session.old time session.new result }
 {
@@ -148,28 +149,30 @@ pub fn tick(session: &mut Session, time: u64) -> u32
     take_one(session, &Input::Frame { time, frame })
 }
 
-/// Hears a frame of the bus at a time.
+/// Receives a frame of the bus at a time in microseconds. Returns a status.
 pub fn hear_frame(session: &mut Session, time: u64, frame: Frame) -> u32
     ensures { Answers session.old (Some (inputs.Frame time frame)) session.new result }
 {
     take(session, Some(Input::Frame { time, frame }))
 }
 
-/// Does an action of the operator at a time, or at the latest time so far where it is `LATEST`.
+/// Does an action of the operator at a time in microseconds, or at the latest time so far if the time is `LATEST`.
+/// Returns a status.
 pub fn operate(session: &mut Session, time: u64, action: Action<'_>) -> u32
     ensures { AnswersWhen session.old time (Some (inputs.Operator action.entry)) session.new result }
 {
     take_when(session, time, Some(Input::Operator(action)))
 }
 
-/// Does an action of the operator by its number, at a time as for `operate`.
+/// Does an action of the operator by its number, at a time as for `operate`: 0 press, 1 release, 2 select, 3 number, 4
+/// the set at an address. Returns a status.
 pub fn act(session: &mut Session, time: u64, kind: u32, id: u32, number: u32) -> u32
     ensures { Acts session.old time kind id number session.new result }
 {
     take_when(session, time, action_input(kind, id, number))
 }
 
-/// Enters a text of the operator, at a time as for `operate`.
+/// Enters a text of the operator, at a time as for `operate`. Returns a status.
 pub fn text(session: &mut Session, time: u64, id: u32, text: &[u8]) -> u32
     ensures { Texts session.old time id text.entry session.new result }
 {

@@ -1,5 +1,5 @@
-//! What a frame says in words, for the log window of a host. The call makes it the text of the session, and returns the number of its
-//! bytes, or 2^64 - 1 if memory was refused.
+//! The meaning of a frame in words, for the log window of a host. The call makes it the text of the session, and returns the number of
+//! its bytes, or 2^64 - 1 if memory was refused.
 
 ghost use Rattle.vt_session.specs.Words.{WritesWords};
 
@@ -10,8 +10,9 @@ use vt_findings_text::Names;
 use vt_messages_text::{AddressedSentence, Sentence};
 use vt_server::{Input, Terminal};
 
-/// Writes what a frame says, with the addresses of its source and its destination, and returns the number of bytes. For numbers that are
-/// no frame the text is empty. The objects are named as the terminal has them now, so a host asks before it hears the frame.
+/// Writes the meaning of a frame, with the addresses of its source and its destination, and returns the number of bytes. If the numbers
+/// are not those of a frame, the text is empty. Objects are named as the terminal has them now, so a host calls this before the terminal
+/// receives the frame.
 pub fn words(session: &mut Session, id: u32, count: u32, bits: u64) -> u64
     ensures { WritesWords session.old id count bits session.new result }
 {
@@ -29,7 +30,7 @@ pub fn words(session: &mut Session, id: u32, count: u32, bits: u64) -> u64
     }
 }
 
-/// What a frame says, with the addresses of its source and its destination. Objects have no names.
+/// The meaning of a frame, with the addresses of its source and its destination. Objects have no names.
 pub fn sentence_of(
     alloc: Global,
     terminal: &Terminal,

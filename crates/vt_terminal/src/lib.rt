@@ -1,7 +1,7 @@
-//! The terminal for callers in C: it lies in the caller's memory and is reached by a pointer.
+//! The static library of the terminal for C. A terminal is in the caller's memory and is reached by a pointer.
 //!
-//! Each function but `vt_version`, `vt_size`, `vt_init` and `vt_done` lends the session behind the pointer to one safe function. docs/EMBEDDING.md
-//! explains the calls, and include/vt_terminal.h declares them for C.
+//! Each function but `vt_version`, `vt_size`, `vt_init` and `vt_done` lends the session behind the pointer to one safe function.
+//! docs/EMBEDDING.md explains the calls, and include/vt_terminal.h declares them for C.
 #![tactic(auto)]
 
 ghost use Rattle.std.specs.Prelude.{◌≡◌};
@@ -37,7 +37,7 @@ pub extern "C" fn vt_version() -> u32
     VERSION
 }
 
-/// The number of bytes of a terminal. It lies at a multiple of 16.
+/// The number of bytes of a terminal. Its memory must begin at a multiple of 16.
 #[unsafe(no_mangle)]
 pub extern "C" fn vt_size() -> usize
     ensures { result ≡ type_size the_row }
@@ -45,10 +45,10 @@ pub extern "C" fn vt_size() -> usize
     std::mem::size_of::<Session>()
 }
 
-/// Makes a terminal in the caller's memory, with an address, a NAME and a profile. With an own address above 253 it takes no input.
-/// `keys` has the width, the height, and the numbers of virtual and physical soft keys, the first lowest, a byte each; `fonts` the
-/// small and the large fonts and the styles; `hardware` the boot time, the graphic type and the hardware; and `size` the width and the
-/// height of a mask, 16 bits each. The highest byte of `fonts` and of `hardware` does not count.
+/// Makes a terminal in the caller's memory, with an address, a NAME and a profile. If its own address is above 253, it takes no input.
+/// `keys` has the width, the height, and the numbers of virtual and physical soft keys, the first lowest, a byte each; `fonts` the small
+/// and the large fonts and the styles; `hardware` the boot time, the graphic type and the hardware; and `size` the width and the height of
+/// a mask, 16 bits each. The highest byte of `fonts` and of `hardware` is ignored.
 #[unsafe(no_mangle)]
 pub unsafe extern "C" fn vt_init(
     alloc: Global,
@@ -71,7 +71,7 @@ pub unsafe extern "C" fn vt_init(
     }
 }
 
-/// Ends a terminal. Its place is free memory of the caller again.
+/// Ends a terminal. Its memory is then free for the caller again.
 #[unsafe(no_mangle)]
 pub unsafe extern "C" fn vt_done(at: *mut VtTerminal)
     ghost before: { Session }
@@ -81,7 +81,7 @@ pub unsafe extern "C" fn vt_done(at: *mut VtTerminal)
     session::discard(unsafe { (at as *mut Session).read() })
 }
 
-/// Hears a frame of the bus at a time in microseconds, and returns a status. `bits` has the data bytes, the first lowest.
+/// Receives a frame of the bus at a time in microseconds, and returns a status. `bits` has the data bytes, the first lowest.
 #[unsafe(no_mangle)]
 pub unsafe extern "C" fn vt_hear_bits(
     at: *mut VtTerminal,
@@ -97,7 +97,7 @@ pub unsafe extern "C" fn vt_hear_bits(
     session::hear(unsafe { &mut *(at as *mut Session) }, time, id, count, bits)
 }
 
-/// Moves the time on without a frame, and returns a status.
+/// Advances the time to `time`, in microseconds, without a frame, and returns a status.
 #[unsafe(no_mangle)]
 pub unsafe extern "C" fn vt_tick(at: *mut VtTerminal, time: u64) -> u32
     ghost before: { Session }
@@ -130,7 +130,7 @@ pub unsafe extern "C" fn vt_act(
     )
 }
 
-/// Makes the address claim the one output that waits, as a host sends it at its start. Returns a status of calls.
+/// Makes the address claim the one output that waits, as a host sends it at its start. Returns a status.
 #[unsafe(no_mangle)]
 pub unsafe extern "C" fn vt_claim(at: *mut VtTerminal) -> u32
     ghost before: { Session }
@@ -140,7 +140,7 @@ pub unsafe extern "C" fn vt_claim(at: *mut VtTerminal) -> u32
     outputs::claim(unsafe { &mut *(at as *mut Session) })
 }
 
-/// Makes the status message the one output that waits, as a host sends it each second. Returns a status of calls.
+/// Makes the status message the one output that waits, as a host sends it each second. Returns a status.
 #[unsafe(no_mangle)]
 pub unsafe extern "C" fn vt_status(at: *mut VtTerminal) -> u32
     ghost before: { Session }
@@ -220,7 +220,7 @@ pub unsafe extern "C" fn vt_screen_word(at: *mut VtTerminal, index: u64) -> u64
     screen::screen_word(unsafe { &mut *(at as *mut Session) }, index)
 }
 
-/// A number that is another one after each call that may have changed the picture of the shown set.
+/// A number that changes with each call that may have changed the picture of the shown set.
 #[unsafe(no_mangle)]
 pub unsafe extern "C" fn vt_look(at: *mut VtTerminal) -> u64
     ghost before: { Session }
@@ -250,7 +250,7 @@ pub unsafe extern "C" fn vt_lost(at: *mut VtTerminal) -> u32
     screen::lost(unsafe { &mut *(at as *mut Session) })
 }
 
-/// The first time at which a tick is due, or 2^64 - 1 if there is none.
+/// The first time at which a tick is due, in microseconds, or 2^64 - 1 if there is none.
 #[unsafe(no_mangle)]
 pub unsafe extern "C" fn vt_deadline(at: *mut VtTerminal) -> u64
     ghost before: { Session }
@@ -270,7 +270,8 @@ pub unsafe extern "C" fn vt_text_of_sets(at: *mut VtTerminal) -> u64
     reading::sets(unsafe { &mut *(at as *mut Session) })
 }
 
-/// The active mask of the set at an address, its soft key mask, its selected input and its held key, 16 bits each, the first lowest.
+/// The active mask of the set at an address, its soft key mask, its selected input and its held key, 16 bits each, the first lowest. Each
+/// is 65535 if there is none.
 #[unsafe(no_mangle)]
 pub unsafe extern "C" fn vt_ids_of_active(at: *mut VtTerminal, address: u32) -> u64
     ghost before: { Session }
@@ -345,7 +346,8 @@ pub unsafe extern "C" fn vt_text_of_elements(at: *mut VtTerminal) -> u64
     reading::shown_elements(unsafe { &mut *(at as *mut Session) })
 }
 
-/// The ID of the key, button or input that is shown at a place, 65535 if there is none, or 2^64 - 1 if memory was refused.
+/// The ID of the key, button or input that is shown at a place in pixels from the upper left corner of the mask. It is 65535 if there is
+/// none, or 2^64 - 1 if memory was refused.
 #[unsafe(no_mangle)]
 pub unsafe extern "C" fn vt_id_at(at: *mut VtTerminal, x: u32, y: u32) -> u64
     ghost before: { Session }
@@ -366,8 +368,8 @@ pub unsafe extern "C" fn vt_text_of_limits(at: *mut VtTerminal, address: u32, id
     dialog::limits(unsafe { &mut *(at as *mut Session) }, address, id)
 }
 
-/// Writes the text of an input or output field of the set at an address, as the terminal shows it, as the terminal's text, and returns the
-/// number of its bytes, or 2^64 - 1 if memory was refused.
+/// Writes the shown text of an input or output field of the set at an address as the terminal's text, and returns the number of its bytes,
+/// or 2^64 - 1 if memory was refused.
 #[unsafe(no_mangle)]
 pub unsafe extern "C" fn vt_text_of_value(at: *mut VtTerminal, address: u32, id: u32) -> u64
     ghost before: { Session }
@@ -377,8 +379,8 @@ pub unsafe extern "C" fn vt_text_of_value(at: *mut VtTerminal, address: u32, id:
     dialog::value_text(unsafe { &mut *(at as *mut Session) }, address, id)
 }
 
-/// The raw value of a typed number for an Input Number of the set at an address, or 2^64 - 1: negative if `sign` is not 0, its digits
-/// without the point, and how many of them are behind it.
+/// The exact raw value of a typed number for an Input Number of the set at an address, or 2^64 - 1 if there is none. The number is negative
+/// if `sign` is not 0. `digits` are its digits without the point, and `decimals` is the number of digits after the point.
 #[unsafe(no_mangle)]
 pub unsafe extern "C" fn vt_raw_of(
     at: *mut VtTerminal,
@@ -402,8 +404,8 @@ pub unsafe extern "C" fn vt_raw_of(
     )
 }
 
-/// Writes what a frame says in words as the terminal's text, and returns the number of its bytes, or 2^64 - 1 if memory was refused. `bits`
-/// has the data bytes, the first lowest. Without such a frame the text is empty.
+/// Writes the meaning of a frame in words as the terminal's text, and returns the number of its bytes, or 2^64 - 1 if memory was refused.
+/// `bits` has the data bytes, the first lowest. Without such a frame the text is empty.
 #[unsafe(no_mangle)]
 pub unsafe extern "C" fn vt_text_of_words(
     at: *mut VtTerminal,
