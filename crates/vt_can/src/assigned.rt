@@ -95,5 +95,5 @@ pub const VT_STATUS: u8 = 0xFE;
 /// A reserved byte.
 pub const FILL: u8 = 0xFF;
 
-/// In a request to send: a CTS may ask for any number of packets.
+/// In a request to send: a CTS may request any number of packets.
 pub const NO_LIMIT: u8 = 0xFF;

@@ -9,8 +9,8 @@ pub fn changes_keep()
     ensures { ChangesKeep }
 {}
 
-/// Each reference of an object after a command is one of its former references, or the other ID of the command where that
-/// ID is allowed.
+/// Each reference of an object after a command is one of its former references, or the other ID of the command if that ID
+/// is allowed there.
 pub fn references_may_refer()
     ensures { ReferencesMayRefer }
 {}

@@ -2,8 +2,8 @@
 //!
 //! - `change` executes a command on its object, and `change_in` on a store. `execute` keeps references and chains in order:
 //!   it also tests new pointer values and list items, and undoes the change on a refusal.
-//! - `keeps_look` returns whether a command leaves unchanged what the text of a screen shows; `writes_unseen` returns it for
-//!   the kind of the object alone.
+//! - `keeps_look` returns whether a command leaves unchanged what the text of a screen shows; `writes_unseen` returns whether
+//!   it writes no field that this text shows, by the kind of its object.
 //! - `laws` has the theorems about the definitions.
 //!
 //! docs/PROFILE.md, "Commands: all rows" and the section of each command, "Attributes", "What every store keeps".

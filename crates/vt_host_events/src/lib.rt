@@ -1,5 +1,5 @@
-//! The events that a host receives after an input of its terminal. They report the sets that came and went, the ends of uploads, what is
-//! shown, alarms, sounds, and texts whose end an implement did not acknowledge (ISO 11783-6).
+//! The events that a host receives after an input of its terminal. They report the sets that registered or were closed, the ends of
+//! uploads, what is shown, alarms, sounds, and texts whose end an implement did not acknowledge (ISO 11783-6).
 //!
 //! - A `HostEvent` is one of these events.
 //! - An `Observer` looks at a terminal before an input, and reports its events after it.

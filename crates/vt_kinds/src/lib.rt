@@ -1,8 +1,8 @@
 //! The objects of an ISOBUS virtual terminal (ISO 11783-6): their kinds, fields and references.
 //!
-//! - An `Object` is of one of the 29 kinds (`Kind`, `Kinds`), each with its own type, and has an `ObjectId`. `Scale` and `Decimals`
-//!   are the format of a number. `Entries`, `ShortText`, `LongText`, `MacroBytes` and `PictureBytes` are the lists, texts and
-//!   bytes.
+//! - An `Object` is of one of the 29 kinds (`Kind`, `Kinds`), each with its own type. An `ObjectId` is the ID of an object. `Scale`
+//!   and `Decimals` are the format of a number. `Entries`, `ShortText`, `LongText`, `MacroBytes` and `PictureBytes` are the lists,
+//!   texts and bytes.
 //! - `slots` yields each reference of an object as a `Slot`, with its `Place`.
 //! - An `Attribute` is a `Field` of a kind's record, with the `ValueType` that Change Attribute writes there.
 //!

@@ -17,7 +17,7 @@ ghost use Rattle.vt_laws.specs.SetLists.{SetsAfterSteps};
 ghost use Rattle.vt_laws.specs.ShownSets.{ShownAreChosen};
 ghost use Rattle.vt_laws.specs.Ticks.{EchoesAreTicks, OthersAreIdle, ProfilesAreKept};
 
-/// The headline: after its pools were accepted, a terminal has for any inputs the sets and outputs of the specified machine, and
+/// The headline: after its pools were accepted, a terminal gives for any inputs the sets and outputs of the specified machine, and
 /// that machine never sticks. Each command of a macro finds its object, of a kind that it may change. Each event ends within the
 /// steps that the pool's report prints for it. Each shown reference leads to an object of a kind allowed there.
 pub fn the_machine_never_sticks()

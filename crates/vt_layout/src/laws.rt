@@ -17,16 +17,16 @@ pub fn shown_are_drawn()
 {}
 
 /// No drawing gets stuck: in a store in order, each reference of the working set, of the mask and its soft key mask, of
-/// the objects in drawn lists, and of each element refers to an object of an allowed kind, or is NULL where NULL is
-/// allowed. docs/PROFILE.md, "What every store keeps".
+/// the objects in drawn lists, and of each element refers to an object of an allowed kind, or is NULL if NULL is allowed
+/// there. docs/PROFILE.md, "What every store keeps".
 pub fn drawings_never_stick()
     ensures { DrawingsNeverStick }
 {}
 
 /// A drawing finds all that it looks up, in a store in order. An active mask is a mask or NULL, and its soft key mask is
 /// a Soft Key Mask or NULL. Each ID in a drawn list resolves to an object of an allowed kind, or is NULL or a pointer
-/// with NULL where that is allowed. Each element with a variable has the number or the text of its line. docs/PROFILE.md,
-/// "The drawing".
+/// with NULL if that is allowed there. Each element with a variable has the number or the text of its line.
+/// docs/PROFILE.md, "The drawing".
 pub fn drawings_find_all()
     ensures { DrawingsFindAll }
 {}

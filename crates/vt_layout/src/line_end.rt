@@ -1,4 +1,4 @@
-//! The end of a line, put together from its last byte to its first.
+//! The end of a line, built from its last byte to its first.
 
 ghost use Rattle.std.specs.Prelude.{◌≡◌, ◌≤◌, ◌+◌, ◌∷◌, ◌++◌, [], codes, length};
 ghost use Rattle.std.specs.Fmt.{decimal, signed_decimal};
@@ -11,8 +11,8 @@ use std::marker::Model;
 /// The most bytes.
 const ROOM: usize = 64;
 
-/// The end of a line, put together from its last byte to its first, as the digits of a number come. So a line is appended to
-/// a text by one copy, and not by one for each number.
+/// The end of a line, built from its last byte to its first, since the digits of a number are found in that order. So a line
+/// is appended to a text by one copy, and not by one for each number.
 #[derive(Drop)]
 pub(crate) struct LineEnd {
     bytes: [u8; ROOM],

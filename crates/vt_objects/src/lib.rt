@@ -1,9 +1,9 @@
 //! Shown numbers as text, and the objects, commands and stores of vt_kinds, vt_commands and vt_stores under one name (ISO
 //! 11783-6).
 //!
-//! - Objects: an `Object` is of one of the 29 kinds (`Kind`, `Kinds`), each with its own type, and has an `ObjectId`. `Scale`,
-//!   `Decimals` and `Decimal` format shown numbers. `Entries`, `ShortText`, `LongText`, `MacroBytes` and `PictureBytes` are the
-//!   lists, texts and bytes.
+//! - Objects: an `Object` is of one of the 29 kinds (`Kind`, `Kinds`), each with its own type. An `ObjectId` is the ID of an
+//!   object. `Scale`, `Decimals` and `Decimal` format shown numbers. `Entries`, `ShortText`, `LongText`, `MacroBytes` and
+//!   `PictureBytes` are the lists, texts and bytes.
 //! - References: `slots` yields each reference of an object as a `Slot`, with its `Place`; `attribute` looks up an `Attribute`.
 //! - Commands: `Command` is decoded from its bytes, `targets` returns each `Target` of it, and `row_events` each `Event` that
 //!   it raises, as a `Raised`.

@@ -261,8 +261,8 @@ fn mask_in(live: &Live<SortedStore>, mask: u32) -> ObjectId
 /// Lists the elements of the active mask of the shown set and of its soft keys, in the order in which they are drawn, 40 bytes each. The
 /// first eight bytes are: the ID, 2 bytes; the kind and the number of elements around it, a byte each; the index of the element around it,
 /// 2 bytes, or 65535; and two bytes of 0. Then follow in 4 bytes each: the left and the upper edge, the width and the height, and the left,
-/// top, right and bottom bounds of its visible part. Each number has its lowest byte first. Lengths are in pixels, from the upper left
-/// corner of the mask.
+/// top, right and bottom bounds of its visible part. Each number has its lowest byte first. Positions and sizes are in pixels, positions
+/// from the upper left corner of the mask.
 pub fn shown_elements(session: &mut Session) -> u64
     ensures { ListsElements session.old session.new result }
 {

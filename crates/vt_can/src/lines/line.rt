@@ -43,7 +43,7 @@ pub enum Action<'a> {
 /// Why a frame is ignored.
 #[derive(Clone, Copy, PartialEq, Eq)]
 pub enum Skipped {
-    /// A remote frame, which asks for data and has none.
+    /// A remote frame, which requests data and has none.
     Remote,
     /// A CAN FD frame.
     Fd,
