@@ -21,12 +21,12 @@ use vt_server::{Input, Output, Terminal};
 /// Compares a recorded terminal with this one, line by line.
 ///
 /// The memory grows with the questions that are open, and not with the log. An answer takes time that grows with the open questions: those
-/// that have no answer yet, and are of the last `wait` microseconds. While the times of a log stand still or go back, none is too old.
+/// that have no answer yet, and are of the last `wait` microseconds. While the times of a log do not rise, no question becomes too old.
 #[derive(Drop)]
 pub struct Comparison {
     /// The number of the last line that was taken, 0 before the first.
     pub line: u64,
-    /// How many messages were compared so far.
+    /// The counts of the messages that were compared so far.
     pub tally: Tally,
     /// The address of the recorded terminal.
     own: u8,
@@ -41,7 +41,7 @@ pub struct Comparison {
 }
 
 impl Comparison {
-    /// A comparison before the first line of a log, with the terminal that is to replay it. The recorded terminal is the one at the same
+    /// A comparison before the first line of a log, for the terminal that is to replay it. The recorded terminal is the one at the same
     /// address, and an answer may take `wait` microseconds. Allocates nothing.
     pub fn new(alloc: Global, wait: u64, terminal: &Terminal) -> Comparison
         ensures compared { HasCompared (state_of terminal.now).claims.own wait (start_at (state_of terminal.now)) [] [] (state_of terminal.now) result }
@@ -59,7 +59,7 @@ impl Comparison {
         }
     }
 
-    /// Takes the next line of the log, as it was read, and gives it to the terminal. Appends the differences that are certain by then.
+    /// Processes the next line of the log, as it was read: gives it to the terminal, and appends the differences that are certain then.
     /// After an error the comparison is of no more use.
     pub fn take_line(
         &mut self,
@@ -95,7 +95,8 @@ impl Comparison {
         }
     }
 
-    /// Takes a frame: questions that are too old by its time are told, this terminal asks, and then the recorded one answers.
+    /// Processes a frame: lists the questions that are too old by its time, adds those that this terminal sends, and then compares the
+    /// answer of the recorded terminal.
     fn take_frame(
         &mut self,
         line: u64,
@@ -129,7 +130,7 @@ impl Comparison {
         Ok(())
     }
 
-    /// Takes an action of the operator, at which this terminal alone may speak.
+    /// Processes an action of the operator, at which only this terminal can send.
     fn take_action(
         &mut self,
         line: u64,

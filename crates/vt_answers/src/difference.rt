@@ -1,8 +1,8 @@
-//! What a recorded terminal sends otherwise than this one.
+//! Differences between what a recorded terminal sends and what this one sends.
 
 use crate::said::Said;
 
-/// What a recorded terminal sends otherwise than this one.
+/// A difference between what a recorded terminal sends and what this one sends.
 #[derive(Drop)]
 pub enum Difference {
     /// An answer with other bytes than its question.

@@ -2,7 +2,7 @@
 
 ghost use Rattle.vt_answers.specs.Laws.{NoDifferenceIsAnswered};
 
-/// Nothing is told of a log exactly if on each topic each question has an equal answer in time, and each answer a question.
+/// A log has no differences exactly if on each topic each question has an equal answer in time, and each answer has a question.
 pub fn nothing_is_told_of_equal_answers()
     ensures { NoDifferenceIsAnswered }
 {}

@@ -1,10 +1,12 @@
-//! The answers of a recorded terminal, compared with those of this terminal to the same log.
+//! Compares the answers of a recorded terminal with those of this terminal to the same log.
 //!
-//! - A `Comparison` takes the lines of a log in order. What this terminal sends at a line are questions: the messages that the recorded
-//!   terminal has to send too. What the recorded one sent are answers. Each answers the oldest open question on its `Topic`, within a
-//!   wait.
-//! - `Comparison::take_line` and `Comparison::end` tell the `Difference`s: answers with other bytes, and questions and answers alone.
-//! - `laws` has the theorem that nothing is told exactly if each question has an equal answer in time.
+//! - A `Comparison` processes the lines of a log in order. The messages that this terminal sends at a line are questions: the recorded
+//!   terminal is expected to send them too. The messages that the recorded terminal sent are answers. An answer belongs to the oldest
+//!   open question on its `Topic`, if it follows within the wait.
+//! - `Comparison::take_line` and `Comparison::end` list the `Difference`s: answers with other bytes than their questions, questions
+//!   without an answer, and answers without a question.
+//! - `laws` has the theorem that a log has no differences exactly if each question has an equal answer in time, and each answer a
+//!   question.
 //!
 //! docs/PROFILE.md, "Answers", has the rules.
 #![tactic(auto)]

@@ -52,7 +52,7 @@ impl Open {
         Ok(())
     }
 
-    /// Tells the questions that are older than the wait, and removes them. The questions must be in the order of their times.
+    /// Lists the questions that are older than the wait, and removes them. The questions must be in the order of their times.
     pub(crate) fn expire(
         &mut self,
         wait: u64,
@@ -93,7 +93,7 @@ impl Open {
             .position(|question| is_on(topic, question))
     }
 
-    /// Takes an answer, if there is one.
+    /// Processes an answer, if there is one.
     pub(crate) fn hear(
         &mut self,
         answer: Option<Said>,
@@ -108,7 +108,7 @@ impl Open {
         }
     }
 
-    /// Takes an answer: tells how it differs from the oldest question on its topic, which it takes out.
+    /// Processes an answer: removes the oldest question on its topic, and lists how the answer differs from it.
     fn answer(
         &mut self,
         theirs: Said,
@@ -131,7 +131,7 @@ impl Open {
         Ok(())
     }
 
-    /// Tells all questions, and removes them.
+    /// Lists all questions, and removes them.
     pub(crate) fn end(
         &mut self,
         tally: &mut Tally,

@@ -1,4 +1,4 @@
-//! What the recorded terminal says.
+//! The messages of the recorded terminal.
 
 ghost use Rattle.std.specs.Prelude.{◌≡◌, OnOk, IfOk};
 ghost use Rattle.std.specs.Option.{option_to_list};
@@ -11,7 +11,7 @@ use std::alloc::AllocError;
 use vt_can::Frame;
 use vt_can::assigned::{VT_STATUS, VT_TO_ECU};
 
-/// Where a frame stands in a log.
+/// The address of the recorded terminal, and the place of a frame in its log.
 #[derive(Clone, Copy, PartialEq, Eq)]
 pub(crate) struct Place {
     /// The address of the recorded terminal.
@@ -22,7 +22,8 @@ pub(crate) struct Place {
     pub(crate) now: u64,
 }
 
-/// What the recorded terminal says with a frame, or `None` if it is no message of this terminal, or repeats its last status message.
+/// The message that the recorded terminal sends in a frame. `None` if the frame is no message of this terminal, or repeats its last
+/// status message.
 pub(crate) fn recorded_in(
     place: Place,
     frame: &Frame,

@@ -8,16 +8,16 @@ use arrayvec::ArrayVec;
 use std::alloc::AllocError;
 use vt_can::Frame;
 
-/// A message of a terminal, and where in the log it is said.
+/// A message of a terminal, and its place in the log.
 #[derive(Clone, Drop)]
 pub struct Said {
     /// The number of the line.
     pub line: u64,
-    /// The time of the line, in microseconds: the latest so far.
+    /// The latest time of the log up to this line, in microseconds.
     pub time: u64,
     /// What the message is about.
     pub topic: Topic,
-    /// Its bytes.
+    /// The bytes of the message.
     pub bytes: ArrayVec<u8, 8>,
 }
 

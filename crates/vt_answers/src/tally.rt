@@ -1,6 +1,6 @@
 //! The numbers of answers, by sort.
 
-/// How many messages were compared, and how many were not.
+/// How many messages were compared, by the result, and how many were not.
 #[derive(Clone, Copy, Default, PartialEq, Eq)]
 pub struct Tally {
     /// Answers that equal their questions.

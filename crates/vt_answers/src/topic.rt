@@ -15,7 +15,7 @@ pub struct Topic {
     pub destination: u8,
     /// The function: the first byte of the message.
     pub function: u8,
-    /// The object that the reply to a command names. `None` for another message, and for a function whose reply names none.
+    /// The object that the reply to a command names. `None` for any other message, and for a reply that names no object.
     pub object: Option<u16>,
 }
 

@@ -12,6 +12,6 @@ UnchangedRecordsAreEqual = (old new : Seen) → kind_of old ≡ kind_of new → 
 abbrev pub EqualObjectsAreUnchanged : Type 0
 EqualObjectsAreUnchanged = (o : Seen) → changed o o ≡ []
 
--- each value but the counts has one name
+-- a kind has as many names as its objects have values without the counts
 abbrev pub EachValueIsNamed : Type 0
 EachValueIsNamed = (o : Seen) → length (field_names (kind_of o)) ≡ length (named_values o)

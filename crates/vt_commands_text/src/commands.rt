@@ -10,7 +10,7 @@ use vt_kinds::{Kind, ObjectId, ValueType};
 /// What is taken off the steps of Change Child Location: the byte 127 is no step.
 const NO_STEP: i16 = 127;
 
-/// A command with its fields, as ``Hide/Show Object: Container 100 `boom`, hide``. The object that the command changes stands first.
+/// A command with its fields, such as ``Hide/Show Object: Container 100 `boom`, hide``. The object that the command changes is the first.
 #[derive(Clone, Copy, Drop)]
 pub struct CommandSentence<'a, 'b> {
     /// The command.
@@ -137,8 +137,8 @@ impl CommandSentence<'_, '_> {
         }
     }
 
-    /// Writes the value of Change Numeric Value: those of its bytes that the kind of the object looks at, which are an object for an
-    /// Object Pointer.
+    /// Writes the value of Change Numeric Value: those of its bytes that count for the kind of the object, or the object that they name
+    /// for an Object Pointer.
     fn write_number<W: fmt::Write>(
         &self,
         f: &mut fmt::Formatter<W>,
@@ -195,8 +195,8 @@ fn write_state<W: fmt::Write>(
     }
 }
 
-/// The bytes of the value of Change Numeric Value that a kind looks at (docs/PROFILE.md, "Change Numeric Value"): the lowest for an Input
-/// Boolean and an Input List, the two lowest for a Meter and a bar, and else all four.
+/// The bytes of the value of Change Numeric Value that count for a kind (docs/PROFILE.md, "Commands: Change Numeric Value (A8)"): the
+/// lowest for an Input Boolean and an Input List, the two lowest for a Meter and a bar, and else all four.
 fn value_bytes(kind: Kind) -> ValueType {
     match kind {
         Kind::InputBoolean | Kind::InputList => ValueType::Byte,

@@ -1,7 +1,7 @@
-//! The commands of implements in words, and the objects that messages name.
+//! The commands of implements in words, with the objects that they name.
 //!
-//! `CommandSentence` is a command in words, and `Objects` gives the objects of a working set in words. No type has a fault of its own: they
-//! fail where the writer fails.
+//! `CommandSentence` is a command in words, and `Objects` gives the objects of a working set in words. Writing them fails only if the
+//! writer fails.
 #![tactic(auto)]
 
 mod attributes;

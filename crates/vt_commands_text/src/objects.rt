@@ -5,7 +5,7 @@ use vt_findings_text::{Label, Names};
 use vt_machine::Live;
 use vt_objects::{Kind, ObjectId, SortedStore};
 
-/// The objects of the working set that a message is of, with their names.
+/// The objects of the working set to which a message belongs, with their names.
 #[derive(Clone, Copy, Drop)]
 pub struct Objects<'a> {
     /// The pool of the set, or `None` if it has none.
@@ -40,7 +40,7 @@ impl<'a> Objects<'a> {
     }
 }
 
-/// An object by its kind, its ID and its name, as ``Container 100 `boom` ``; `object 100` where it is missing.
+/// An object by its kind, its ID and its name, such as ``Container 100 `boom` ``; `object 100` if it is missing.
 #[derive(Clone, Copy, Drop)]
 pub struct ObjectText<'a> {
     label: Label<'a>,

@@ -7,7 +7,7 @@ use vt_can::assigned::{
     ADDRESS_CLAIMED, ECU_TO_VT, NULL_ADDRESS, VT_TO_ECU, WORKING_SET_MASTER, WORKING_SET_MEMBER,
 };
 
-/// A claim of an address by a NAME, or of none.
+/// A claim of an address by a NAME, or that it cannot claim one.
 #[derive(Clone, Copy, Drop)]
 pub struct ClaimSentence<'a> {
     /// The address that sends it.
@@ -82,7 +82,7 @@ impl fmt::Display for NameText<'_> {
     }
 }
 
-/// A parameter group by its number in hex, as `parameter group FEF1`.
+/// A parameter group by its number in hex, such as `parameter group FEF1`.
 #[derive(Clone, Copy, Drop)]
 pub struct ParameterGroup(pub u32);
 

@@ -24,7 +24,7 @@ pub const SELECT_INPUT: u8 = 0x03;
 /// Working Set Maintenance.
 pub const MAINTENANCE: u8 = 0xFF;
 
-/// The name of a function of a message to or from a terminal, as `Hide/Show Object`, or `None` if it has none here.
+/// The name of the function of a message to or from a terminal, such as `Hide/Show Object`. `None` if it is not known.
 pub fn function_name(function: u8) -> Option<&'static str> {
     match command_name(function) {
         Some(name) => Some(name),
@@ -84,7 +84,7 @@ fn other_name(function: u8) -> Option<&'static str> {
     }
 }
 
-/// The error byte of a reply of a terminal, if the reply of that function has one.
+/// The error byte of a terminal's reply. `None` if the reply of that function has none.
 pub fn error_of(message: &[u8]) -> Option<u8>
     ensures table { result ≡ error_in message.now }
     // Of a terminal's reply to a command, it is the error byte of the command.

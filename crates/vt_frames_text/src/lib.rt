@@ -1,7 +1,7 @@
-//! What frames of a bus say in words, as far as no object is named: functions, claims, transport control, bytes and texts.
+//! Frames of the bus in words, without their objects: functions, claims, transport control.
 //!
-//! - `function_name` and `error_of` read the function and the error byte of a message. A `PoolRequest` is what an implement wants of its
-//!   pools, other than uploads.
+//! - `function_name` and `error_of` read the function and the error byte of a message. A `PoolRequest` is a request of an implement
+//!   about its pools, other than an upload.
 //! - `TpControl`, `EtpControl` and `Packet` are the frames of the transport protocols; `ClaimSentence`, `GroupRequest`,
 //!   `MasterSentence` and `MemberSentence` those of addresses and working sets. Each is written by its `Display`.
 //! - `HexByte`, `HexBytes`, `QuotedText`, `Destination`, `Count`, `ShownScale` and `PlainMessage` are their parts.

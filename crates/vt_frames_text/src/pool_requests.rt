@@ -1,4 +1,4 @@
-//! What implements want of their pools, other than uploads.
+//! Requests of implements about their pools, other than uploads.
 
 use crate::shown::QuotedText;
 use std::fmt;
@@ -16,12 +16,12 @@ pub const LOAD_VERSION: u8 = 0xD1;
 /// Delete Version: the pool of a label is to be deleted.
 pub const DELETE_VERSION: u8 = 0xD2;
 
-/// What an implement wants of its pools. A label has seven characters.
+/// A request of an implement about its pools. A label has seven characters.
 #[derive(Clone, Copy, Drop)]
 pub enum PoolRequest<'a> {
     /// The pool of the working set is to be deleted.
     DeletePool,
-    /// The labels of stored pools are wanted.
+    /// The labels of the stored pools are requested.
     GetVersions,
     /// The pool is to be stored under a label.
     Store(&'a [u8]),
@@ -32,7 +32,7 @@ pub enum PoolRequest<'a> {
 }
 
 impl<'a> PoolRequest<'a> {
-    /// What a message wants, if it is such a request.
+    /// The request in a message. `None` if it is no request about pools.
     pub fn in_message(bytes: &'a [u8]) -> Option<PoolRequest<'a>> {
         match bytes {
             [DELETE_POOL, ..] => Some(PoolRequest::DeletePool),

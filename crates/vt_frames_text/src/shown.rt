@@ -5,7 +5,7 @@ use std::fmt;
 use vt_can::assigned::GLOBAL_ADDRESS;
 use vt_kinds::Scale;
 
-/// A byte in hex, two digits, as `A0`.
+/// A byte in hex, two digits, such as `A0`.
 #[derive(Clone, Copy, Drop)]
 pub struct HexByte(pub u8);
 
@@ -19,7 +19,7 @@ impl fmt::Display for HexByte {
     }
 }
 
-/// Bytes in hex, two digits each, as `A0 64 00`, or `no bytes`.
+/// Bytes in hex, two digits each, such as `A0 64 00`, or `no bytes`.
 #[derive(Clone, Copy, Drop)]
 pub struct HexBytes<'a>(pub &'a [u8]);
 
@@ -65,7 +65,7 @@ impl fmt::Display for Destination {
     }
 }
 
-/// A message that has no words of its own: its function by name or by number, and its bytes.
+/// A message for which there are no other words: its function by name or by number, and its bytes.
 #[derive(Clone, Copy, Drop)]
 pub struct PlainMessage<'a>(pub &'a [u8]);
 
@@ -94,8 +94,8 @@ impl fmt::Display for Count<'_> {
     }
 }
 
-/// A scale by its four bytes, of which the first is the lowest of the number: the factor, as `0.1`, or the bytes where they are
-/// those of no scale, as `bytes 00 00 00 40`.
+/// A scale by its four bytes, of which the first is the lowest of the number: the factor, such as `0.1`. Bytes that are no scale
+/// are written as bytes, such as `bytes 00 00 00 40`.
 #[derive(Clone, Copy, Drop)]
 pub struct ShownScale(pub u32);
 

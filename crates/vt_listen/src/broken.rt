@@ -9,8 +9,8 @@ pub struct Broken {
     pub destination: u8,
     /// The parameter group of the message.
     pub pgn: u32,
-    /// The bytes of the whole message.
+    /// The size of the whole message, in bytes.
     pub size: u64,
-    /// The number of the first packet that did not come, from 1.
+    /// The number of the first packet that was not received, from 1.
     pub missing: u64,
 }

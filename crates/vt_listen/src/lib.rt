@@ -1,7 +1,7 @@
 //! Messages between any two nodes of a bus, put together from the frames of a log.
 //!
-//! - `Listener` hears frames. It puts each packet of a transport protocol where its number says, so that a packet that came twice
-//!   or was sent again does no harm, and returns each `SentMessage` when its last packet has come.
+//! - `Listener` receives frames. It puts each packet of a transport protocol at the place of its number, so that a packet that is
+//!   received twice does no harm, and returns each `SentMessage` when it has received the last of its packets.
 //! - `Broken` is a transfer that ended before it was whole, with the first packet that is missing.
 //!
 //! docs/PROFILE.md, "Transport messages", has the frames, and "Listening" the rules.

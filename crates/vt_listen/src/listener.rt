@@ -1,4 +1,4 @@
-//! Hears frames and puts messages together.
+//! Receives frames and puts messages together.
 
 ghost use Rattle.std.specs.Prelude.{◌≡◌, ◌≢◌, ℕ, Some, List, [], ◌∷◌, ◌++◌, length, map, OnOk, IfOk};
 ghost use Rattle.std.specs.Ordering.{nat_cmp};
@@ -20,10 +20,10 @@ use std::collections::BTreeMap;
 use vt_can::Frame;
 use vt_can::assigned::VT_TO_ECU;
 
-/// The open transfers between all nodes, by the frames heard so far.
+/// The open transfers between all nodes, by the frames received so far.
 ///
-/// The memory grows with the packets that came, and not with the size that a request announces. A frame takes time that grows with
-/// the logarithm of the number of open transfers and of packets.
+/// The memory grows with the packets that were received, and not with the size that a request announces. A frame takes time that
+/// grows with the logarithm of the number of open transfers and of packets.
 #[derive(Drop)]
 pub struct Listener {
     alloc: Global,
@@ -31,7 +31,7 @@ pub struct Listener {
 }
 
 impl Listener {
-    /// A listener that has heard nothing. Does not allocate.
+    /// A listener that has received no frame. Does not allocate.
     pub fn new(alloc: Global) -> Listener
         ensures { HasHeard [] result }
     {
@@ -41,8 +41,8 @@ impl Listener {
         }
     }
 
-    /// Hears a frame, and returns the message that it makes whole, if it does. Appends to `broken` the transfers that it ends
-    /// before they are whole. After `OutOfMemory` the listener is of no more use.
+    /// Receives a frame, and returns the message that it completes, if it completes one. Appends to `broken` the transfers that it
+    /// ends before they are whole. After `OutOfMemory` the listener is of no more use.
     pub fn hear(
         &mut self,
         frame: &Frame,
@@ -82,8 +82,8 @@ impl Listener {
         self.transfers.len()
     }
 
-    /// Appends to `broken` the transfers that are still open, by rising identifiers of their packets. After `OutOfMemory` the first
-    /// of them are appended.
+    /// Appends to `broken` the transfers that are still open, by rising identifiers of their packets. After `OutOfMemory` only the
+    /// first of them are appended.
     pub fn unended(&self, broken: &mut Vec<Broken>) -> Result<(), AllocError>
         ensures { OnOk result (broken.new.items ≡ broken.old.items ++ map (λ entry. unended_of entry.0 entry.1) self.now.transfers.entries) }
     {
@@ -142,7 +142,7 @@ impl Listener {
         }))
     }
 
-    /// Sets the number of packets before those that come next.
+    /// Sets the number of packets before the next ones.
     fn move_to(&mut self, ends: Ends, packets: u32) -> Result<(), AllocError>
         ensures { OnOk result (TakesIn (said_between ends (said.Offset packets)) self.old self.new) }
     {

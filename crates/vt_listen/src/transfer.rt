@@ -13,15 +13,15 @@ use std::collections::BTreeMap;
 /// The transfer of a message in packets, some of which are missing.
 #[derive(Drop)]
 pub(crate) struct Transfer {
-    /// The bytes of the whole message.
+    /// The size of the whole message, in bytes.
     pub(crate) size: u64,
     /// The parameter group of the message.
     pub(crate) pgn: u32,
-    /// The number of packets before those that come next.
+    /// The number of packets before the next ones.
     pub(crate) offset: u32,
     /// The first place whose packet is missing, from 1.
     pub(crate) missing: u64,
-    /// The packets that came, by their places.
+    /// The packets that were received, by their places.
     pub(crate) packets: BTreeMap<u64, [u8; 7]>,
 }
 
@@ -49,7 +49,7 @@ impl Transfer {
         self.size.div_ceil(7)
     }
 
-    /// Whether all packets have come.
+    /// Whether all packets were received.
     pub(crate) fn is_whole(&self) -> bool
         ensures { IsTrue result ↔ (packet_count self.now.size < self.now.missing) }
     {

@@ -1,8 +1,9 @@
-//! What implements and terminals say to each other in words: commands with their fields, replies with the meaning of their error bits,
-//! each object by its kind, its ID and its name.
+//! Messages between implements and terminals in words, with the names of objects.
 //!
-//! A `Sentence` is what a frame says, an `AddressedSentence` stands behind the addresses of its frame, and a `MessageSentence` is what a
-//! message says that may have come in packets. Each is written by its `Display`. docs/PROFILE.md, "Commands" and "Other messages", has the messages.
+//! A `Sentence` is what a frame says: a command with its fields, a reply with the meaning of its error bits, each object by its kind,
+//! its ID and its name. An `AddressedSentence` begins with the addresses of its frame. A `MessageSentence` is what a message says,
+//! whether it was sent in a frame or in packets. Each is written by its `Display`. docs/PROFILE.md, "Commands" and "Other messages", has
+//! the messages.
 #![tactic(auto)]
 
 mod error_bits;

@@ -15,7 +15,7 @@ pub(crate) struct ReplySentence<'a> {
     pub(crate) bytes: &'a [u8],
     /// The objects of the set that the message goes to.
     pub(crate) objects: Objects<'a>,
-    /// The terminal, which has the sets that a status speaks of.
+    /// The terminal, which has the working sets that a status names.
     pub(crate) terminal: &'a Terminal,
 }
 
@@ -59,7 +59,7 @@ impl fmt::Display for ReplySentence<'_> {
 }
 
 impl ReplySentence<'_> {
-    /// Writes the outcome of a command, or what the terminal tells unasked.
+    /// Writes the outcome of a command, or what the terminal reports unasked.
     fn write_outcome<W: fmt::Write>(&self, f: &mut fmt::Formatter<W>) -> fmt::Result {
         let ReplySentence {
             bytes,

@@ -16,10 +16,10 @@ use vt_frames_text::{
 };
 use vt_server::Terminal;
 
-/// What a frame says. `Display` writes it on one line, as ``Hide/Show Object: Container 100 `boom`, hide``, unless a name has a
-/// newline in it: each object by its kind, its ID and its name, texts of the bus with a dot for each byte that is no printable
-/// ASCII. The objects are those of the terminal's working set at the source of a message to a terminal, and at the destination of a
-/// message from one.
+/// What a frame says. `Display` writes it on one line, such as ``Hide/Show Object: Container 100 `boom`, hide``: each object by its
+/// kind, its ID and its name, texts of the bus with a dot for each byte that is no printable ASCII. A name that has a newline in it
+/// is written with the newline. The objects are those of the terminal's working set at the source of a message to a terminal, and
+/// at the destination of a message from one.
 #[derive(Clone, Copy, Drop)]
 pub struct Sentence<'a> {
     /// The frame.
@@ -60,7 +60,7 @@ impl fmt::Display for Sentence<'_> {
     }
 }
 
-/// A sentence behind the addresses of its frame, as `80 to 26: End of Object Pool`.
+/// A sentence behind the addresses of its frame, such as `80 to 26: End of Object Pool`.
 #[derive(Clone, Copy, Drop)]
 pub struct AddressedSentence<'a>(pub Sentence<'a>);
 
@@ -73,14 +73,14 @@ impl fmt::Display for AddressedSentence<'_> {
     }
 }
 
-/// What a message says, which is a frame's or was put together from packets.
+/// What a message says, whether it was sent in a frame or put together from packets.
 #[derive(Clone, Copy, Drop)]
 pub struct MessageSentence<'a> {
     /// The parameter group.
     pub group: u32,
     /// The address that sent it.
     pub source: u8,
-    /// The address that it is sent to; `None` for a group that is sent to all.
+    /// The address that it is sent to. `None` if it is sent to all.
     pub destination: Option<u8>,
     /// The bytes.
     pub bytes: &'a [u8],

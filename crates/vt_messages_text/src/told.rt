@@ -1,4 +1,4 @@
-//! What terminals tell unasked, in words: the operator's actions and the status.
+//! What terminals report unasked, in words: the operator's actions and the status.
 
 use byteorder::{ByteOrder, LittleEndian};
 use std::fmt;
@@ -15,7 +15,7 @@ pub(crate) struct ToldSentence<'a> {
     pub(crate) bytes: &'a [u8],
     /// The objects of the set that the message goes to.
     pub(crate) objects: Objects<'a>,
-    /// The terminal, which has the sets that a status speaks of.
+    /// The terminal, which has the working sets that a status names.
     pub(crate) terminal: &'a Terminal,
 }
 

@@ -1,9 +1,9 @@
-//! What a replay reaches of the pools in a log: the masks that were shown, the objects that were drawn, and the macros that may have run.
+//! The masks, objects and macros of each pool that a replay reaches.
 //!
-//! - `Reach::new` begins with what a terminal has before the first line. Then it is told of each line: by `before`, and by `after` with
-//!   the terminal's outputs.
-//! - `Reach::sets` returns a `SetReach` for each working set that had a pool: what was reached, and what never was, each as a
-//!   `PoolObject`. A `ReachText` writes it with the names of objects.
+//! - `Reach::new` begins with what a terminal has before the first line. Call `before` for each line before the terminal takes it, and
+//!   then `after` with the terminal's outputs.
+//! - `Reach::sets` returns a `SetReach` for each working set that had a pool: the masks that were shown, the objects that were drawn,
+//!   the macros that may have run, and the others of each, as `PoolObject`s. A `ReachText` writes it with the names of objects.
 //!
 //! docs/PROFILE.md, "The drawing", has what a mask draws, and "Event numbers" what raises an event.
 #![tactic(auto)]

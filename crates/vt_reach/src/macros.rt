@@ -11,7 +11,7 @@ use vt_objects::{
 use vt_verify::{macro_bytes, macro_command};
 
 /// The macros of a working set that may have run: those at events that were raised, and those at events that their commands may raise.
-/// What a command of a macro may raise is judged by its row alone, and by no test of a value, so that none is left out that ran.
+/// What a command of a macro may raise is judged by its row alone, and by no test of a value, so that no macro that ran is left out.
 #[derive(Drop)]
 pub(crate) struct ReachedMacros {
     reached: BTreeSet<u8>,
@@ -19,7 +19,7 @@ pub(crate) struct ReachedMacros {
     waiting: BTreeSet<u8>,
     /// Macros of the present pool whose commands were followed.
     followed: BTreeSet<u8>,
-    /// Whether the macros that run where a mask of the present pool is hidden are noted.
+    /// Whether the macros that run when a mask of the present pool is hidden are noted.
     has_hidden: bool,
 }
 
@@ -50,7 +50,7 @@ impl ReachedMacros {
         self.has_hidden = false;
     }
 
-    /// Notes the macros that run where an event is raised on an object, and all that they can trigger.
+    /// Notes the macros that run when an event is raised on an object, and all that they can trigger.
     pub(crate) fn raise(
         &mut self,
         store: &SortedStore,
@@ -95,7 +95,7 @@ impl ReachedMacros {
         Ok(())
     }
 
-    /// Notes the macros that run where any mask is hidden, once for each pool: no command changes which they are.
+    /// Notes the macros that run when any mask is hidden, once for each pool: no command changes which they are.
     fn list_hidden(&mut self, store: &SortedStore) -> Result<(), AllocError> {
         if self.has_hidden {
             return Ok(());

@@ -1,4 +1,4 @@
-//! What was reached of a working set, and what never was.
+//! What was reached of a working set, and what was not.
 
 ghost use Rattle.std.specs.Prelude.{◌≡◌, IfOk};
 ghost use Rattle.vt_reach.specs.Reports.{is_drawn};
@@ -16,11 +16,11 @@ use vt_objects::{Kind, Kinds, ObjectId};
 pub struct PoolObject {
     /// The ID.
     pub id: ObjectId,
-    /// The kind; where several pools have the ID, that in the last one.
+    /// The kind. If several pools have the ID, the kind in the last of them.
     pub kind: Kind,
 }
 
-/// What was reached of the pools of a working set, and what never was. Each list is by rising ID.
+/// What was reached of the pools of a working set, and what was not. Each list is by rising ID.
 #[derive(Drop)]
 pub struct SetReach {
     /// The address of the working set.
@@ -35,7 +35,7 @@ pub struct SetReach {
     pub masks_never: Vec<PoolObject>,
     /// The objects that a shown mask or its soft keys drew.
     pub objects_drawn: Vec<PoolObject>,
-    /// The other objects of the kinds that are drawn, and keys.
+    /// The other objects of the kinds that are drawn below a mask or a soft key mask.
     pub objects_never: Vec<PoolObject>,
     /// The macros that may have run.
     pub macros_reached: Vec<PoolObject>,
@@ -92,13 +92,13 @@ fn is_drawn(kind: Kind) -> bool
         && (Kinds::Keys.contains(kind) || Kinds::DrawnInWorkingSet.contains(kind))
 }
 
-/// What was reached of a working set, which its `Display` writes with the names of objects: a line for the commands, and below it one each for
+/// What was reached of a working set, with the names of objects. Its `Display` writes a line for the commands, and below it one each for
 /// masks, objects and macros.
 #[derive(Clone, Copy, Drop)]
 pub struct ReachText<'a> {
-    /// The working set.
+    /// What was reached of the working set.
     pub set: &'a SetReach,
-    /// The names.
+    /// The names of objects.
     pub names: &'a Names,
 }
 

@@ -74,7 +74,7 @@ impl Sets {
         self.note_change(line, terminal)
     }
 
-    /// What was known before the line, which is then no more known.
+    /// What was known before the line, which is then forgotten.
     fn take_line(&mut self, terminal: &Terminal) -> LineBefore {
         match self.line.take() {
             Some(line) => line,

@@ -10,7 +10,7 @@ use std::alloc::{AllocError, Global};
 #[derive(Drop)]
 pub(crate) struct Split {
     pub(crate) reached: Vec<PoolObject>,
-    /// The others, as far as they could be reached.
+    /// The others that could be reached.
     pub(crate) never: Vec<PoolObject>,
 }
 

@@ -1,4 +1,4 @@
-//! Files that are no log of candump, and what makes a log of them.
+//! Files that are no log of candump, and how to convert them into a log.
 
 /// The byte order mark of a text in UTF-8.
 pub const MARK: &[u8] = b"\xEF\xBB\xBF";
@@ -18,7 +18,7 @@ const UTF_16: &str = "this is a text in UTF-16; save it as ASCII or UTF-8";
 const MARKED: &str =
     "the text begins with a byte order mark, so its first line is not read; save it without the mark";
 
-/// How files begin, and what they are with what makes a log of them.
+/// The first bytes of files, each with what such a file is and how to convert it into a log.
 const FORMS: [(&[u8], &str); 10] = [
     (b"date ", VECTOR_TEXT),
     (b"LOGG", VECTOR_BINARY),
@@ -35,7 +35,7 @@ const FORMS: [(&[u8], &str); 10] = [
 /// The first bytes of a capture in pcapng, which begin with an empty line.
 const PCAPNG: &[u8] = b"\n\r\r\n";
 
-/// What a file is and what makes a log of it, by its first bytes. `None` if they are not known.
+/// What a file is and how to convert it into a log, by its first bytes. `None` if these are not known.
 pub fn form_of(file: &[u8]) -> Option<&'static str> {
     FORMS
         .iter()
@@ -43,7 +43,8 @@ pub fn form_of(file: &[u8]) -> Option<&'static str> {
         .map(|(_, what)| *what)
 }
 
-/// The same by the first line that could not be read, and its number, from 1.
+/// What a file is and how to convert it into a log, by the first line that could not be read and its number, from 1. `None` if this
+/// line does not tell.
 pub fn form_by(number: u64, line: &[u8]) -> Option<&'static str> {
     match number {
         1 => form_of(line),

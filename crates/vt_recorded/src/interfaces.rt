@@ -5,7 +5,7 @@ ghost use Rattle.vt_recorded.specs.Interfaces.{interface_in, is_of_interface};
 
 use crate::words::{next_word, starts_with};
 
-/// The name of the interface in a line, which stands behind a time. `None` if the line begins with no time, or ends with it.
+/// The name of the interface in a line: the word after its time. `None` if the line does not begin with a time, or ends with it.
 pub fn interface_in(line: &[u8]) -> Option<&[u8]>
     ensures { option_map (λ name. name.now) result ≡ interface_in line.now }
 {
@@ -19,7 +19,7 @@ pub fn interface_in(line: &[u8]) -> Option<&[u8]>
     }
 }
 
-/// Whether a line is taken: no interface is wanted, the line names none, or it names the wanted one.
+/// Whether a line is of the interface `wanted`. True of each line if `wanted` is `None`, and of each line that names no interface.
 pub fn is_of_interface(line: &[u8], wanted: Option<&str>) -> bool
     ensures { result ≡ is_of_interface (option_map (λ name. name.now) wanted.entry) line.now }
 {

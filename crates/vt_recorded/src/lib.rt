@@ -3,7 +3,7 @@
 //! - `Reader` reads a line as `vt_can::parse_line` does. If the line does not have that form, it reads the frame in the line's plain form:
 //!   single spaces around the interface, whose name `candump` may pad, and joined bytes in place of `18EEFF80   [8]  01 02`.
 //! - `interface_in` is the name of the interface in a line, and `is_of_interface` chooses the lines of one.
-//! - `form_of` says what a file of another recorder is, and what makes a log of it.
+//! - `form_of` says what a file of another recorder is, and how to convert it into a log.
 //! - `laws` has a theorem about the definitions in specs/: the reading of a line is unique.
 //!
 //! docs/PROFILE.md, "Lines of other recorders", has the forms.

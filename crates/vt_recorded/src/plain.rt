@@ -67,7 +67,7 @@ fn is_data(word: &[u8]) -> bool
     is_pair(word) || word.is_empty() || starts_with(b'\'', word)
 }
 
-/// Appends the bytes at the front of a text, at most so many.
+/// Appends the bytes at the front of a text, at most `most` of them.
 fn put_pairs(text: &[u8], most: u8, plain: &mut Vec<u8>) -> Result<(), AllocError>
     ensures { OnOk result (plain.new.items ≡ plain.old.items ++ pairs most text.now) }
 {

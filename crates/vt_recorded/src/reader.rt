@@ -28,8 +28,8 @@ impl Reader {
         &self.plain
     }
 
-    /// Reads a line, given without its newline. The inner result has the fault of the line as it stands. After `OutOfMemory` the reader
-    /// can be used again.
+    /// Reads a line, given without its newline. If no form fits, the inner result has the fault of the line itself, not that of its
+    /// plain form. After `OutOfMemory` the reader can be used again.
     #[inline]
     pub fn read<'a>(&'a mut self, line: &'a [u8]) -> Result<Result<Line<'a>, LineFault>, AllocError>
         ensures { IfOk result (λ reading. IsReadingOf line.now (reading_of reading)) }
@@ -65,7 +65,7 @@ fn is_of_frame(reading: &Result<Line<'_>, LineFault>) -> bool
     matches!(reading, Ok(Line::Frame { .. } | Line::Skipped(_)))
 }
 
-/// Whether a reading stands as it is: it has no fault, or another one than that of the time or of the shape.
+/// Whether a reading is kept: it has no fault, or another fault than that of the time or of the shape.
 fn is_of_form(reading: &Result<Line<'_>, LineFault>) -> bool
     ensures { result ≡ is_of_form (reading_of reading.now) }
 {

@@ -42,8 +42,8 @@ mask_type (objects.DataMask o) = 1
 mask_type (objects.AlarmMask o) = 2
 mask_type _ = 0
 
--- The same error byte has another cause in three commands: the child is not in its parent, or the type is that of the
--- other kind of mask.
+-- The same error byte has another cause in three commands: the child is not in its parent, or the type is not that of
+-- the mask.
 abbrev pub has_other_cause : Command → Seen → Bool
 has_other_cause (ChangeChildLocation parent child dx dy) o = lacks (children_in o) child
 has_other_cause (ChangeChildPosition parent child x y) o = lacks (children_in o) child

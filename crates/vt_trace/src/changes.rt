@@ -10,8 +10,9 @@ use crate::lines::put_line;
 use std::alloc::{AllocError, Global};
 use std::collections::BTreeMap;
 
-/// Appends the changes from an old screen to a new one. The first line of the new screen that is in the old one stays; the old lines
-/// before it go, behind `  - `, and then the new lines before it come, behind `  + `. The same holds of the lines behind it.
+/// Appends the changes from an old screen to a new one. The first line of the new screen that the old one has too is kept: the old
+/// lines before it are written behind `  - `, and then the new lines before it behind `  + `. The lines behind it are treated in the
+/// same way.
 ///
 /// A screen is read once, so the time grows with its lines and the logarithm of their number.
 pub(crate) fn put_changes(
@@ -74,8 +75,8 @@ fn put_difference<'a>(
     put_marked(b"  + ", &new[come..], text)
 }
 
-/// How many lines from a place on are before the next that is equal to a line, or `None` if none is. Without a look at the lines if
-/// the last one is before that place.
+/// How many lines from a place on are before the next that is equal to a line, or `None` if none is. Does not read the lines if the
+/// last equal one is before that place.
 fn next_place<'a>(
     lines: &[&'a [u8]],
     from: usize,

@@ -32,14 +32,14 @@ pub(crate) fn put_head<T: fmt::Display + Drop>(
     put_line(b" ", words.as_bytes(), text)
 }
 
-/// A frame with its time and its addresses, as `2.400000 80 to 26: End of Object Pool`. Behind the packet that makes a message whole
-/// stands what that message says.
+/// A frame with its time and its addresses, such as `2.400000 80 to 26: End of Object Pool`. The packet that completes a message is
+/// followed by what that message says.
 #[derive(Clone, Copy, Drop)]
 pub(crate) struct FrameHead<'a> {
     /// The time in microseconds.
     pub(crate) time: u64,
     pub(crate) sentence: Sentence<'a>,
-    /// The message that the frame makes whole, if it does.
+    /// The message that the frame completes, if it completes one.
     pub(crate) whole: Option<&'a SentMessage>,
 }
 
@@ -64,7 +64,7 @@ impl fmt::Display for FrameHead<'_> {
     }
 }
 
-/// An action of the operator, as `operator: press 400`, with the names of objects behind their IDs.
+/// An action of the operator, such as `operator: press 400`, with the names of objects behind their IDs.
 #[derive(Clone, Copy, Drop)]
 pub(crate) struct ActionHead<'a> {
     pub(crate) action: Action<'a>,

@@ -12,7 +12,7 @@ pub fn same_lines_have_none()
     ensures { SameLinesHaveNone }
 {}
 
-/// If one line is replaced, the changes are this line and the one in its place.
+/// If one line is replaced, the changes are the old line and the new one in its place.
 pub fn one_replaced_line()
     ensures { OneReplacedLine }
 {}

@@ -1,4 +1,4 @@
-//! Logs as support staff read them: each line in words, what the terminal answers, and what changes on its screen.
+//! Logs in words: each line, the terminal's outputs, and the changes of its screen.
 //!
 //! A `Tracer` gives the lines of a log to a terminal, one after the other, and appends their trace to a text: a line for the line
 //! itself, a line for each output, and the difference of the screen's lines. It puts messages in packets together. `laws` has

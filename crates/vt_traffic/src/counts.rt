@@ -1,4 +1,4 @@
-//! How much a source has sent.
+//! The counts of what a source has sent.
 
 ghost use Rattle.std.specs.Prelude.{◌≡◌};
 ghost use Rattle.vt_traffic.specs.Counted.{with_frame};
@@ -7,14 +7,14 @@ ghost use Rattle.vt_traffic.specs.Counted.{with_frame};
 /// r0 5, length 4, checksum 15 and its delimiter 1, acknowledgement 2, end 7, gap 3.
 const EMPTY_FRAME_BITS: u64 = 67;
 
-/// How much was sent. A count that would not fit stays at `u64::MAX`.
+/// The frames, bytes and bits that were sent. A count that would not fit stays at `u64::MAX`.
 #[derive(Clone, Copy, Default, PartialEq, Eq)]
 pub struct Counts {
-    /// The frames.
+    /// The number of frames.
     pub frames: u64,
-    /// The bytes of data in them.
+    /// The number of bytes of data in the frames.
     pub bytes: u64,
-    /// The bits that they take on the bus at least: stuff bits are not counted.
+    /// The least number of bits that the frames take on the bus: stuff bits are not counted.
     pub bits: u64,
 }
 

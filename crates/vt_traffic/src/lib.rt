@@ -1,4 +1,4 @@
-//! What a log holds in numbers: frames and bits of each source, transfers, and frames that were seen twice.
+//! The frames and transfers of a log in numbers.
 //!
 //! - `Traffic` takes the frames of a log, one after the other. It counts the `Counts` of each source exactly.
 //! - `Traffic::report` returns a `TrafficReport`: the times of the first and the last frame, the least load of the bus, the `Share` of each

@@ -5,7 +5,7 @@ ghost use Rattle.vt_traffic.specs.Loads.{load_of};
 
 use std::fmt;
 
-/// What one bit in one microsecond is of a bus of 250 kbit/s, in tenths of a percent: a microsecond has a quarter of a bit.
+/// The load of a bus of 250 kbit/s by one bit in one microsecond, in tenths of a percent: a microsecond has a quarter of a bit.
 const BIT_IN_MICROSECOND: u64 = 4000;
 
 /// The load of a bus of 250 kbit/s by these bits in a span of microseconds, in tenths of a percent. `None` for a span of 0.
@@ -15,7 +15,7 @@ pub(crate) fn load_of(bits: u64, span: u64) -> Option<u64>
     bits.saturating_mul(BIT_IN_MICROSECOND).checked_div(span)
 }
 
-/// A load in tenths of a percent, as `12.5 %`.
+/// A load in tenths of a percent, such as `12.5 %`.
 #[derive(Clone, Copy)]
 pub(crate) struct Percent(pub(crate) u64);
 

@@ -2,7 +2,7 @@
 
 use std::fmt;
 
-/// A time or a span in microseconds, which its `Display` writes in seconds, as `12.000345`.
+/// A time or a span in microseconds, which its `Display` writes in seconds, such as `12.000345`.
 #[derive(Clone, Copy, PartialEq, Eq)]
 pub(crate) struct Seconds(pub(crate) u64);
 

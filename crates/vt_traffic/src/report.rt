@@ -1,4 +1,4 @@
-//! What a log came to, in words.
+//! The traffic of a log, in words.
 
 use crate::counts::Counts;
 use crate::load::Percent;
@@ -6,20 +6,20 @@ use crate::moment::Seconds;
 use crate::transfers::Transfers;
 use std::fmt;
 
-/// How much a source has sent.
+/// What a source has sent, and its part of the load.
 #[derive(Clone, Copy)]
 pub struct Share {
-    /// The address.
+    /// The address of the source.
     pub source: u8,
-    /// How much.
+    /// The counts of what the source has sent.
     pub counts: Counts,
-    /// The load that this is of a bus of 250 kbit/s without stuffed bits, in tenths of a percent. `None` if the first and the last frame of the
-    /// log have one time.
+    /// The load of a bus of 250 kbit/s by the source, without stuff bits, in tenths of a percent. `None` if the first and the last frame of
+    /// the log have the same time.
     pub load: Option<u64>,
 }
 
-/// What a log came to. Its `Display` writes a line for the log, one for its load, one for each source, and those of transfers and of
-/// frames that were seen twice.
+/// The traffic of a log in numbers. Its `Display` writes a line for the log, one for its load, one for each source, and those of transfers
+/// and of frames that were seen twice.
 #[derive(Drop)]
 pub struct TrafficReport {
     /// The number of the line of the first frame. 0 if there is no frame.
@@ -30,16 +30,17 @@ pub struct TrafficReport {
     pub first_time: u64,
     /// The latest time, in microseconds.
     pub last_time: u64,
-    /// How much all sources have sent.
+    /// The counts of what all sources have sent.
     pub total: Counts,
-    /// The load of a bus of 250 kbit/s without stuffed bits, in tenths of a percent. `None` if the first and the last frame have one time.
+    /// The load of a bus of 250 kbit/s by all sources, without stuff bits, in tenths of a percent. `None` if the first and the last frame
+    /// have the same time.
     pub load: Option<u64>,
     /// The share of each source, by rising addresses.
     pub shares: Vec<Share>,
-    /// How the transfers went.
+    /// The counts of the transfers.
     pub transfers: Transfers,
-    /// How many frames were the same, by identifier and data, as one of the 63 frames before them that was at most a millisecond earlier,
-    /// as where two interfaces record one bus.
+    /// The number of frames that equal one of the 63 frames before them, by identifier and data, and are at most a millisecond later, such
+    /// as when two interfaces record one bus.
     pub seen_twice: u64,
 }
 

@@ -8,7 +8,7 @@ use crate::load::load_of;
 use crate::report::Share;
 use std::alloc::{AllocError, Global};
 
-/// How much each source has sent, and how much all have.
+/// The counts of what each source has sent, and of what all have sent.
 #[derive(Drop)]
 pub(crate) struct Sources {
     alloc: Global,
@@ -44,7 +44,7 @@ impl Sources {
         self.total.add_frame(length);
     }
 
-    /// How much a source has sent.
+    /// The counts of what a source has sent.
     pub(crate) fn counts_from(&self, source: u8) -> Counts
         ensures { result ≡ counts_in self.now.counts source }
     {

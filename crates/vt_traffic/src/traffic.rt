@@ -15,7 +15,7 @@ use crate::transfers::TransferCounter;
 use std::alloc::{AllocError, Global};
 use vt_can::Frame;
 
-/// What the frames of a log come to.
+/// Counts the frames of a log and its transfers.
 ///
 /// The memory grows with the number of channels whose last request has not led to a whole message, and with the packets of the open
 /// transfers.
@@ -60,21 +60,21 @@ impl Traffic {
         Ok(())
     }
 
-    /// How much a source has sent.
+    /// The counts of what a source has sent.
     pub fn counts_from(&self, source: u8) -> Counts
         ensures { result ≡ counts_from self.now source }
     {
         self.sources.counts_from(source)
     }
 
-    /// How much all sources have sent.
+    /// The counts of what all sources have sent.
     pub fn total(&self) -> Counts
         ensures { result ≡ total_of self.now }
     {
         self.sources.total
     }
 
-    /// What was counted so far. `OutOfMemory` if an allocation is refused.
+    /// The report on the frames that were counted so far. `OutOfMemory` if an allocation is refused.
     pub fn report(&self) -> Result<TrafficReport, AllocError>
         ensures { IfOk result (IsReportOn self.now) }
     {

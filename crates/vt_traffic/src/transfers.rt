@@ -11,23 +11,23 @@ use std::alloc::{AllocError, Global};
 use vt_can::Frame;
 use vt_listen::{Broken, Listener, SentMessage};
 
-/// How the transfers of a log went, of both transport protocols. A transfer is from one node to another: what is sent to all is not
+/// The counts of a log's transfers in both transport protocols. A transfer is from one node to another: what is sent to all is not
 /// counted. A count that would not fit stays at `u64::MAX`.
 #[derive(Clone, Copy, Default)]
 pub struct Transfers {
-    /// How many became whole.
+    /// The number of transfers that became whole.
     pub whole: u64,
-    /// How many were broken off: by an abort, or by a new request before all of their packets had come.
+    /// The number of transfers that were broken off: by an abort, or by a new request before all of their packets had come.
     pub broken: u64,
-    /// How many were open at the end of the log.
+    /// The number of transfers that were open at the end of the log.
     pub unended: u64,
-    /// How many packets came beyond those that their message needed, of the messages that became whole.
+    /// The number of packets that were received beyond those that their message needed, in the transfers that became whole.
     pub repeated_packets: u64,
-    /// The one of those that became whole that took the longest time; the first of them if there are several.
+    /// The transfer that took the longest time of those that became whole; the first of them if several took as long.
     pub longest: Option<LongTransfer>,
 }
 
-/// A transfer that took its time.
+/// A transfer that became whole, with the time that it took.
 #[derive(Clone, Copy)]
 pub struct LongTransfer {
     /// The number of the line with its request.
@@ -36,7 +36,7 @@ pub struct LongTransfer {
     pub source: u8,
     /// The address of the other end.
     pub destination: u8,
-    /// The bytes of the message.
+    /// The number of bytes of the message.
     pub bytes: u64,
     /// The microseconds from the request to the packet that made the message whole.
     pub time: u64,
@@ -120,7 +120,7 @@ impl TransferCounter {
         Ok(())
     }
 
-    /// How the transfers went so far.
+    /// The counts of the transfers so far.
     pub(crate) fn report(&self) -> Transfers
         ensures whole { result.whole ≡ self.now.counted.whole }
         ensures broken { result.broken ≡ self.now.counted.broken }
