@@ -1,6 +1,6 @@
-//! Tells what recorded logs of an ISOBUS hold.
+//! Explains recorded logs: lines in words, pools, statistics, comparison and tests.
 //!
-//! docs/LOGS.md has the words and the statuses.
+//! docs/LOGS.md has the command lines and the statuses.
 #![tactic(auto)]
 
 mod console;
@@ -46,7 +46,7 @@ fn run_words(rt: &HostRuntime) -> io::Result<Status> {
     status
 }
 
-/// Why a run ended early: files that cannot be read are named by `run`, so memory or the output is left.
+/// Why a run ended early: `run` itself reports files that cannot be read, so the cause is memory or the output.
 #[derive(Clone, Copy, Drop)]
 struct Cause<'a> {
     error: &'a Error,

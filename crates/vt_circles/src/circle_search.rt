@@ -8,14 +8,13 @@ use crate::reduced_graph::reduced;
 use std::alloc::{AllocError, Global};
 use vt_rank::{Circle, Graph, Item, rank};
 
-/// Returns the circles of a graph: the one through the least node on any circle, then, without the items of its nodes, the
-/// next, until there is none. No two of them share a node.
+/// Returns the circles of a graph: the one through the least node on any circle, then the next in the graph without the items of
+/// those nodes, until there is none. No two of them share a node.
 ///
 /// Reads each item of the graph once, however many circles there are. Each circle costs as much as 256 items of at
 /// most 256 nodes each.
 ///
-/// # Errors
-/// `AllocError` when an allocation is refused.
+/// # Errors `AllocError` if an allocation is refused.
 pub fn circles(alloc: Global, graph: &Graph) -> Result<Vec<Circle>, AllocError>
     ensures { IfOk result (λ found. AreCircles (triggered graph.now) found.items) }
 {

@@ -1,7 +1,7 @@
 //! The circles of a graph of triggers, one after the other.
 //!
-//! - `circles` returns the circle through the least node on any circle, then, without the items of its nodes, the next,
-//!   until there is none.
+//! - `circles` returns the circle through the least node on any circle, then the next in the graph without the items of those
+//!   nodes, until there is none.
 //!
 //! docs/PROFILE.md has the rules: "Triggers and circles" and "All faults". A node is a macro. Each of its macro
 //! commands is a step, and an item for each event that it may raise.

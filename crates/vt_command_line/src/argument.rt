@@ -6,12 +6,12 @@ use std::alloc::Global;
 /// An argument of a subcommand.
 #[derive(Clone, Copy)]
 pub struct Argument<'a> {
-    /// Its name, by which `ArgMatches` has its value. A setting or a flag is `--` and this name. The help calls a positional argument so,
-    /// unless its form says another name.
+    /// The name of the argument, by which `ArgMatches` has its value. A setting or a flag is `--` and this name. The help uses it for a
+    /// positional argument, unless the argument's form gives another name.
     pub name: &'a str,
-    /// What it is for, in a line of the help.
+    /// What the argument is for, in a line of the help.
     pub help: &'a str,
-    /// How it is given.
+    /// How the argument is given.
     pub form: Form<'a>,
 }
 
@@ -75,7 +75,7 @@ impl<'a> Argument<'a> {
     }
 }
 
-/// The argument, which takes the allowed values alone.
+/// The argument, with only the allowed values.
 fn restricted<'a>(arg: Arg<'a>, allowed: Allowed<'a>) -> Arg<'a> {
     match allowed {
         Allowed::Any => arg,

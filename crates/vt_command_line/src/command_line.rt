@@ -4,35 +4,35 @@ use crate::argument::Argument;
 use clap::Command;
 use std::alloc::{AllocError, Global};
 
-/// The command line of a program with subcommands, of which one has to be given.
+/// The command line of a program with subcommands, one of which has to be given.
 pub struct CommandLine<'a> {
     /// The name of the program.
     pub name: &'a str,
-    /// Its version.
+    /// The version of the program.
     pub version: &'a str,
-    /// What it is for, in a line of its help.
+    /// What the program is for, in a line of its help.
     pub about: &'a str,
-    /// The text of its help after the subcommands.
+    /// The text of the help after the subcommands.
     pub after_help: &'a str,
-    /// Its subcommands, in the order of its help.
+    /// The subcommands, in the order of the help.
     pub subcommands: &'a [Subcommand<'a>],
 }
 
 /// A subcommand.
 pub struct Subcommand<'a> {
-    /// Its name.
+    /// The name of the subcommand.
     pub name: &'a str,
-    /// What it does, in a line of the help.
+    /// What the subcommand does, in a line of the help.
     pub about: &'a str,
     /// The text of its help after the arguments.
     pub after_help: Option<&'a str>,
-    /// Its arguments: positional ones in the order in which they are given, settings and flags in the order of the help.
+    /// The arguments: positional ones in the order in which they are given, settings and flags in the order of the help.
     pub arguments: &'a [Argument<'a>],
 }
 
 impl<'a> CommandLine<'a> {
-    /// The command of the program for `clap`. Run with no word it shows its help, and without a subcommand it is refused. An error is
-    /// returned if memory is refused.
+    /// The command of the program for `clap`. Without any word it shows the help, and with words but no subcommand it is refused. An
+    /// error is returned if memory is refused.
     pub fn command(&self, alloc: Global) -> Result<Command<'a>, AllocError> {
         let mut command = Command::new(alloc, self.name)
             .version(self.version)

@@ -5,7 +5,7 @@ use std::alloc::Global;
 use std::io::{self, ErrorKind, Read, Write};
 use vt_findings_text::Names;
 
-/// The bytes of a file, or `None` if it cannot be read, which `errors` says.
+/// The bytes of a file. `None` if it cannot be read: then `errors` receives the reason.
 pub fn read_file<F: Open, E: Write>(
     alloc: Global,
     path: &str,
@@ -27,7 +27,7 @@ pub fn read_file<F: Open, E: Write>(
     }
 }
 
-/// The names in files, or `None` if one of them cannot be read, which `errors` says.
+/// The names in files. `None` if one of them cannot be read: then `errors` receives the reason.
 pub fn read_names<F: Open, E: Write>(
     alloc: Global,
     paths: &[&str],

@@ -3,7 +3,7 @@
 use crate::files::Save;
 use std::io::{self, Error, ErrorKind, Write};
 
-/// Writes a file, and returns whether it is written; if not, `errors` says why.
+/// Writes a file, and returns whether it is written. If it is not, `errors` receives the reason.
 pub fn save_file<F: Save, E: Write>(
     path: &str,
     bytes: &[u8],
@@ -14,7 +14,7 @@ pub fn save_file<F: Save, E: Write>(
     is_done(saved, files.name(), path, errors)
 }
 
-/// Makes a folder unless it is there, and returns whether it is there then; if not, `errors` says why.
+/// Makes a folder unless it exists, and returns whether it exists then. If it does not, `errors` receives the reason.
 pub fn make_folder<F: Save, E: Write>(
     path: &str,
     files: &mut F,
@@ -24,7 +24,7 @@ pub fn make_folder<F: Save, E: Write>(
     is_done(made, files.name(), path, errors)
 }
 
-/// Whether a file or a folder is written; if not, `errors` says why. Want of memory stays an error.
+/// Whether a file or a folder is written. If it is not, `errors` receives the reason. A refused allocation stays an error.
 fn is_done<E: Write>(
     written: io::Result<()>,
     program: &str,
@@ -45,7 +45,7 @@ fn is_done<E: Write>(
     }
 }
 
-/// What may be done about an error.
+/// What can be done about an error.
 fn cure_of(error: &Error) -> &'static str {
     match error.kind() {
         ErrorKind::NotFound => "; make the folder around it first",

@@ -74,7 +74,7 @@ pub enum Finding {
     MacroCircle {
         path: ArrayVec<u8, 256>,
     },
-    /// Rule 12: a macro can cost too many steps, or an event of an object.
+    /// Rule 12: a macro or an event of an object can cost too many steps.
     OverBudget {
         id: ObjectId,
         event: Option<u8>,
@@ -105,7 +105,7 @@ impl ReferenceAt {
 }
 
 impl Finding {
-    /// The place of a finding: of a chain and of a circle that of the first object. `None` if no object is a working set.
+    /// The place of a finding. The place of a chain or a circle is that of its first object. `None` if no object is a working set.
     pub fn place(&self) -> Option<FindingPlace>
         ensures { result ≡ place_of self.now }
     {

@@ -15,11 +15,11 @@ use vt_reading::{ObjectRecord, PoolReading, ReplacedRecord, read_past_faults};
 /// What was not judged, and why.
 #[derive(Clone, Copy, PartialEq, Eq)]
 pub enum Note {
-    /// The bytes from `at` on could not be read, so nothing is called missing: rules 1, 3 and 8 were not judged. The other
+    /// The bytes from `at` on could not be read, so no object is listed as missing: rules 1, 3 and 8 were not judged. The other
     /// rules were judged only for the objects that were read.
     Unread { at: usize },
-    /// The bytes of a macro end inside a command, so no triggers are known: rules 11 and 12 were not judged, and for the
-    /// commands of such a macro neither were rules 7 to 10.
+    /// The bytes of a macro end inside a command, so no triggers are known: rules 11 and 12 were not judged, and rules 7 to 10 were
+    /// not judged for the commands of such a macro.
     UnknownTriggers,
     /// Macros trigger each other in a circle, so no costs are known: rule 12 was not judged.
     UnknownCosts,
@@ -32,9 +32,9 @@ pub struct Inspection {
     pub objects: SortedStore,
     /// The record of each object in force, by rising ID.
     pub records: Vec<ObjectRecord>,
-    /// The other records, in the order of their bytes.
+    /// The replaced records, in the order of their bytes.
     pub replaced: Vec<ReplacedRecord>,
-    /// All findings, in the order of the rules; the faults of records first. Empty exactly if the pool is acceptable.
+    /// All findings: the faults of records first, then the rules in their order. Empty exactly if the pool is acceptable.
     pub findings: Vec<Finding>,
     /// What was not judged.
     pub notes: Vec<Note>,

@@ -4,9 +4,8 @@
 //!   records, each `Finding`, and a `Note` for each cause for which something was not judged. `Inspection::offset` is the
 //!   index of a finding's first byte.
 //!
-//! The laws about the definitions are in the crate vt_inspect_laws.
-//! docs/PROFILE.md, "Verification of a pool", has the rules, "Pools and faults" the faults of records, and "All faults" what is found
-//! beside the first of them.
+//! The laws about the definitions are in the crate vt_inspect_laws. docs/PROFILE.md, "Verification of a pool", has the rules, "Pools
+//! and faults" the faults of records, and "All faults" what is found after the first of them.
 #![tactic(auto)]
 
 mod finding;

@@ -7,8 +7,8 @@ use vt_needs::Warning;
 use vt_objects::{Kind, ObjectId};
 use vt_pool::PoolFault;
 
-/// The findings, then the replaced records, then the warnings. If bytes could not be read, no object is called unused. A number whose
-/// scale or decimals are wrong has no text that could be too wide.
+/// The findings, then the replaced records, then the warnings. If bytes could not be read, no object is listed as unused. A number
+/// whose scale or decimals are wrong is not listed with a text that is too wide.
 pub fn items_of<'a>(
     alloc: Global,
     inspection: &'a Inspection,
@@ -53,7 +53,7 @@ const INPUT_NUMBER_BYTES: usize = 38;
 /// The bytes of the record of an Output Number, without its macros (docs/PROFILE.md, "Kind 12, Output Number").
 const OUTPUT_NUMBER_BYTES: usize = 29;
 
-/// Whether the scale or the decimals of an object were read as others, so that its text is not known.
+/// Whether another scale or other decimals were read for an object than it has, so that its text is not known.
 fn is_mended(inspection: &Inspection, mended: &[usize], id: ObjectId) -> bool {
     let Some(record) = inspection.record(id) else {
         return false;

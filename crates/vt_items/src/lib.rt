@@ -1,7 +1,7 @@
-//! All that a check says of a pool.
+//! The errors and warnings of a pool in the order of their lines, and their counts.
 //!
-//! - `items_of` are the errors and warnings of a pool in the order of their lines, without warnings that cannot be judged.
-//! - `summary_of` are their counts.
+//! - `items_of` returns the errors and warnings, without warnings that cannot be judged.
+//! - `summary_of` returns their counts.
 #![tactic(auto)]
 
 mod items;

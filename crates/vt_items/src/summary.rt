@@ -7,7 +7,7 @@ ghost use Rattle.vt_stores.specs.Stores.{map_of};
 use vt_findings_text::{Item, Source, Summary};
 use vt_objects::Store;
 
-/// The counts of a pool with its errors and warnings, of which at most `most` have lines.
+/// The counts of a pool's objects, errors and warnings. At most `most` of the errors and warnings have lines.
 pub fn summary_of<'a>(source: &Source<'a>, items: &[Item<'_>], most: usize) -> Summary<'a>
     ensures file { result.file.now ≡ source.now.path.now }
     ensures errors { result.errors ≡ length source.now.inspection.now.findings.items }

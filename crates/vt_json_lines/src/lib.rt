@@ -1,4 +1,4 @@
-//! Lines of JSON. A `JsonLine` is an object that is built member by member, and then written as a line.
+//! Lines of JSON, built member by member. A `JsonLine` is an object, which is then written as a line.
 #![tactic(auto)]
 
 mod line;

@@ -29,7 +29,7 @@ impl JsonLine {
         }
     }
 
-    /// Adds a member, in the place of one with this name. After `OutOfMemory` the object is unchanged.
+    /// Adds a member, or replaces the one with this name. After `OutOfMemory` the object is unchanged.
     pub fn put(&mut self, name: &str, value: Value) -> Result<(), AllocError>
         ensures ok { OnOk result (members_view self.new.members.entries ≡ with_member name.now (view value) (members_view self.old.members.entries)) }
         ensures err { OnErr result (self.new.members.entries ≡ self.old.members.entries) }

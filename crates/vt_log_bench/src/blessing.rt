@@ -9,11 +9,11 @@ use std::alloc::{AllocError, Global};
 use vt_logs::{Counts, Progress, ReplayFault};
 use vt_server::Terminal;
 
-/// The highest number of lines before one whose fault is told.
+/// The highest number of lines before a line whose fault is reported.
 const MOST_LINES: u64 = 1 << 62;
 
-/// Returns a log with the expectations that it meets, in place of those that it had. After a fault, for want of memory or at a line of
-/// more than 4,096 bytes, the terminal has taken the lines before it.
+/// Returns a log with the expectations that it meets, in place of those that it had. It fails if memory is refused or a line has more
+/// than 4,096 bytes; then the terminal has processed the lines before it.
 pub fn bless(alloc: Global, log: &[u8], terminal: &mut Terminal) -> Result<Blessed, ReplayFault>
     // No other line is changed.
     ensures { IfOk result (λ blessed. without_expectations (lines_of blessed.text.items) ≡ without_expectations (lines_of log.now)) }
@@ -52,16 +52,16 @@ pub fn bless(alloc: Global, log: &[u8], terminal: &mut Terminal) -> Result<Bless
 pub struct Blessed {
     /// The log.
     pub text: Vec<u8>,
-    /// The number of its lines.
+    /// The number of lines in the log.
     pub lines: u64,
-    /// How many of its lines are frames or actions of the operator.
+    /// The number of lines that are frames or actions of the operator.
     pub inputs: u64,
-    /// How many of its lines are faulty. Each is expected to stay so.
+    /// The number of faulty lines. Each is expected to stay faulty.
     pub faults: u64,
 }
 
 impl Blessed {
-    /// Counts a line by its counts.
+    /// Adds the counts of a line.
     fn count(&mut self, line: &Counts)
         ensures { self.new.text.items ≡ self.old.text.items }
     {

@@ -13,9 +13,9 @@ use std::alloc::{AllocError, Global};
 use vt_logs::{Progress, ReplayFault};
 use vt_server::Terminal;
 
-/// Replays a log, and returns each line that prints another text than its expectations, and first the first screen if it is another
-/// than the expectations before any other line. After a fault, for want of memory or at a line of more than 4,096 bytes, the terminal has
-/// taken the lines before it.
+/// Replays a log, and returns each line that does not print what is expected of it. The first screen is the first of them, if it is not
+/// what the expectations before any other line say. It fails if memory is refused or a line has more than 4,096 bytes; then the terminal
+/// has processed the lines before it.
 pub fn differences(
     alloc: Global,
     log: &[u8],
@@ -51,7 +51,7 @@ pub fn differences(
     Ok(differences)
 }
 
-/// Appends the difference between the text that a line printed and the one that is expected by the text behind it, if there is one.
+/// Appends the difference between the text that a line printed and the text that the expectations behind the line say, if there is one.
 fn compare(
     alloc: Global,
     line: u64,

@@ -1,6 +1,6 @@
-//! Lines that print something else than is expected.
+//! Lines that do not print what is expected.
 
-/// A line that prints something else than is expected.
+/// A line that does not print what is expected.
 #[derive(Drop)]
 pub struct Difference {
     /// The number of the line, from 1; 0 for the first screen.

@@ -1,11 +1,12 @@
-//! The subcommand `test` of `segyolant_log`: whether each line of a log prints what is expected of it; with `--bless` it writes these
+//! The subcommand `test` of `segyolant_log`: whether each line of a log prints what is expected of it. With `--bless` it writes these
 //! expectations anew.
 //!
-//! A line that begins with `#<` is an expectation: a text that the line before it has to print.
+//! A line that begins with `#<` is an expectation: a text that the line before it is expected to print.
 //!
-//! - `run_test` runs the subcommand on its options, and returns the `Status` with which the program ends. docs/LOGS.md has the subcommand.
-//! - `differences` replays a log, and returns each line that prints something else; `bless` writes a log with the expectations that it
-//!   meets. docs/PROFILE.md, "Expectations", has the rules.
+//! - `run_test` runs the subcommand with its options, and returns the `Status` with which the program ends. docs/LOGS.md has the
+//!   subcommand.
+//! - `differences` replays a log, and returns each line that does not print what is expected; `bless` writes a log with the expectations
+//!   that it meets. docs/PROFILE.md, "Expectations", has the rules.
 //! - `laws` has the theorem that a log without differences prints what it expects.
 #![tactic(auto)]
 

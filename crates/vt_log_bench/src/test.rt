@@ -15,7 +15,7 @@ use vt_server::Terminal;
 /// The most bytes of a log.
 const MOST_BYTES: usize = 1 << 40;
 
-/// Tests each log in turn, or writes each anew. A log that cannot be read or replayed is named, and the others are tested all the same.
+/// Tests each log in turn, or writes each anew. A log that cannot be read or replayed is reported, and the other logs are still tested.
 /// The status is the worst of the logs. An error is returned if `out` cannot be written or memory is refused.
 pub fn run_test<F: Open + Save, W: Write, E: Write>(
     alloc: Global,
@@ -73,7 +73,7 @@ impl Bench<'_> {
         }
     }
 
-    /// Writes a log anew, with the expectations that it meets, unless it has them already or no line of it can be read.
+    /// Writes a log anew, with the expectations that it meets, unless it has them already or none of its lines can be read.
     fn bless<F: Save, W: Write, E: Write>(
         &self,
         path: &str,
@@ -98,7 +98,8 @@ impl Bench<'_> {
     }
 }
 
-/// Writes a blessed log in place of the log, unless they are the same or no line can be read. Says on `errors` how many lines are faulty.
+/// Writes a blessed log in place of the log, unless they are the same or no line can be read. Writes to `errors` how many lines are
+/// faulty.
 fn write_blessed<F: Save, W: Write, E: Write>(
     path: &str,
     log: &[u8],
@@ -129,7 +130,7 @@ fn write_blessed<F: Save, W: Write, E: Write>(
     Ok(Status::Clean)
 }
 
-/// Says why a log could not be replayed.
+/// Writes to `errors` why a log could not be replayed.
 fn not_replayed<F: Program, E: Write>(
     path: &str,
     fault: ReplayFault,
@@ -189,7 +190,7 @@ fn lines_in(alloc: Global, text: &[u8]) -> Result<Vec<&[u8]>, AllocError> {
     text.split_inclusive(|byte| *byte == b'\n').collect(alloc)
 }
 
-/// Writes lines, each behind a mark, but for so many at the end.
+/// Writes lines, each behind a mark, without the last `back` lines.
 fn put_marked<W: Write>(mark: &[u8], lines: &[&[u8]], back: usize, out: &mut W) -> io::Result<()> {
     let count = lines.len().saturating_sub(back);
     for line in lines.iter().take(count) {

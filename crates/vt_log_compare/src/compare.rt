@@ -13,7 +13,7 @@ use vt_server::Terminal;
 /// The microseconds of a millisecond.
 const MILLISECOND: u64 = 1000;
 
-/// Prints where the recorded terminal of a log answered otherwise than this one.
+/// Prints where the recorded terminal of a log answered differently than this one.
 pub fn run_compare<F: Open, W: Write, E: Messages>(
     alloc: Global,
     options: &CompareOptions<'_>,
@@ -47,7 +47,7 @@ pub fn run_compare<F: Open, W: Write, E: Messages>(
     Ok(status)
 }
 
-/// Says on `errors` that the log has no message of the recorded terminal.
+/// Writes to `errors` that the log has no message of the recorded terminal.
 fn tell_no_message<F: Program, E: Write>(options: &ReplayOptions<'_>, files: &F, errors: &mut E) {
     let _ = writeln!(
         errors,
@@ -58,7 +58,7 @@ fn tell_no_message<F: Program, E: Write>(options: &ReplayOptions<'_>, files: &F,
     );
 }
 
-/// A comparison under way.
+/// A comparison in progress.
 #[derive(Drop)]
 struct Run {
     terminal: Terminal,
@@ -106,7 +106,7 @@ impl Run {
         Ok(status)
     }
 
-    /// Takes the next line of a log, as it was read.
+    /// Processes the next line of a log, as it was read.
     fn take_line(&mut self, reading: Result<Line<'_>, LineFault>) -> Result<(), AllocError> {
         // A log has fewer lines than there are numbers.
         let Some(number) = self.comparison.line.checked_add(1) else {

@@ -72,7 +72,7 @@ impl Telling<'_> {
         line.write(out)
     }
 
-    /// Writes the line of a node that wants a stored pool, which is not in the log.
+    /// Writes the line of a node that requests to load a stored pool, which is not in the log.
     pub(crate) fn put_load<W: Write>(&self, load: Load, out: &mut W) -> io::Result<()> {
         let Load {
             line,

@@ -16,7 +16,7 @@ use vt_listen::{Broken, Listener};
 use vt_log_replay::{LineCursor, LogReader, Messages, Status, line_ends, tell_no_frame, text_of};
 use vt_log_words::{Format, PoolsOptions};
 
-/// Prints every upload of a log, and what a terminal says of it.
+/// Prints every upload of a log, and the verdict on it.
 pub fn run_pools<F: Open + Save, W: Write, E: Messages>(
     alloc: Global,
     options: &PoolsOptions<'_>,
@@ -46,7 +46,7 @@ pub fn run_pools<F: Open + Save, W: Write, E: Messages>(
     report.tell_log(options.log, text_of(&log), files, out, errors)
 }
 
-/// What is heard of uploads in a log.
+/// What was received of uploads in a log.
 #[derive(Drop)]
 struct Hearing {
     listener: Listener,
@@ -56,7 +56,7 @@ struct Hearing {
 }
 
 impl Hearing {
-    /// Nothing is heard. Does not allocate.
+    /// Nothing was received. Does not allocate.
     fn new(alloc: Global) -> Hearing {
         Hearing {
             listener: Listener::new(alloc),
@@ -67,7 +67,7 @@ impl Hearing {
     }
 }
 
-/// How the pools of a log are told.
+/// How the pools of a log are reported.
 #[derive(Clone, Copy, Drop)]
 struct Report<'a> {
     alloc: Global,
@@ -78,7 +78,7 @@ struct Report<'a> {
 }
 
 impl Report<'_> {
-    /// Tells each upload of a log, each request about pools, and each transfer and upload that did not end.
+    /// Reports each upload of a log, each request about pools, and each transfer and upload that did not end.
     fn tell_log<F: Open + Save, W: Write, E: Messages>(
         &self,
         path: &str,
@@ -99,7 +99,7 @@ impl Report<'_> {
         Ok(status.and(found))
     }
 
-    /// Tells what each line of a log brings about.
+    /// Reports what each line of a log brings about.
     fn tell_lines<F: Save, W: Write, E: Messages>(
         &self,
         log: &[u8],
@@ -123,7 +123,7 @@ impl Report<'_> {
         Ok(status)
     }
 
-    /// Tells what the frame of a line brings about.
+    /// Reports what the frame of a line brings about.
     fn tell_frame<F: Save, W: Write, E: Write>(
         &self,
         line: u64,
@@ -162,7 +162,7 @@ impl Report<'_> {
         }
     }
 
-    /// Tells the transfers that a line ends before they are whole.
+    /// Reports the transfers that a line ends before they are whole.
     fn tell_broken<W: Write>(
         &self,
         line: u64,
@@ -177,7 +177,7 @@ impl Report<'_> {
         Ok(status)
     }
 
-    /// Tells what a message to a terminal brings about.
+    /// Reports what a message to a terminal brings about.
     fn tell_message<F: Save, W: Write, E: Write>(
         &self,
         message: Message<'_>,
@@ -201,7 +201,7 @@ impl Report<'_> {
         }
     }
 
-    /// Tells an upload that has ended, and writes its pool.
+    /// Reports an upload that has ended, and writes its pool.
     fn tell_upload<F: Save, W: Write, E: Write>(
         &self,
         line: u64,
@@ -275,7 +275,7 @@ impl Report<'_> {
         Ok(())
     }
 
-    /// Tells the transfers and uploads that are not ended.
+    /// Reports the transfers and uploads that are not ended.
     fn tell_unended<W: Write>(&self, hearing: &mut Hearing, out: &mut W) -> io::Result<Status> {
         let mut status = Status::Clean;
         hearing.broken.clear();

@@ -27,7 +27,7 @@ impl Sets {
         self.objects.get(&(source, destination))
     }
 
-    /// Puts the objects of an accepted pool in the place of those before. Returns the status of the upload.
+    /// Replaces the objects before by those of an accepted pool. Returns the status of the upload.
     pub(crate) fn judge(
         &mut self,
         upload: &Upload,

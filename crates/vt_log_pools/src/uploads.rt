@@ -33,8 +33,8 @@ impl Uploads {
         }
     }
 
-    /// Takes a message, and returns the upload that it ends, if it is an end of a pool. After `OutOfMemory` the uploads are of no
-    /// more use.
+    /// Receives a message. If it is an End of Object Pool, returns the upload that it ends. After `OutOfMemory` the uploads are of
+    /// no more use.
     pub fn take(&mut self, message: Message<'_>) -> Result<Option<Upload>, AllocError>
         ensures taken { OnOk result ((messages : List Told) → HasTaken messages self.old
             → HasTaken (record { id = id_of message.entry.source message.entry.destination; bytes = message.entry.bytes.now } ∷ messages) self.new) }
@@ -55,7 +55,8 @@ impl Uploads {
         }
     }
 
-    /// The uploads that are not ended, with their bytes so far, by rising addresses of the terminals, then of the implements.
+    /// The uploads that are not ended, with their bytes so far, by rising addresses of the terminals, and for each terminal by
+    /// those of the implements.
     pub fn unended(&self) -> Values<'_, u32, Upload>
         ensures { result ≡ unended self.now }
     {

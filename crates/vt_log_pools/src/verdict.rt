@@ -1,4 +1,4 @@
-//! What a terminal says of an upload.
+//! Verdicts on uploads.
 
 use std::alloc::{AllocError, Global};
 use std::fmt;
@@ -6,14 +6,14 @@ use vt_objects::{SortedStore, Store};
 use vt_pool::{PoolFault, read_pool};
 use vt_verify::{Accepted, Refusal, verify_owned, verify_update};
 
-/// What a terminal says of an upload.
+/// The verdict of a terminal on an upload.
 #[derive(Drop)]
 pub(crate) enum Verdict {
-    /// The objects after it.
+    /// The upload is accepted. These are the objects after it.
     Accepted(SortedStore),
     /// The bytes are no pool.
     Faulty(PoolFault),
-    /// A rule does not hold.
+    /// The pool breaks a rule.
     Refused(Refusal),
 }
 

@@ -1,4 +1,4 @@
-//! What a log tells of the recorded terminal before it is replayed.
+//! What a log says about the recorded terminal, before the log is replayed.
 
 use crate::lines::{LineCursor, line_ends};
 use byteorder::{ByteOrder, LittleEndian};
@@ -13,33 +13,34 @@ use vt_recorded::{Reader, is_of_interface};
 /// The function of a virtual terminal in a NAME (ISO 11783-5).
 const VIRTUAL_TERMINAL: u8 = 29;
 
-/// A node that wants a stored pool to be loaded.
+/// A node that requests to load a stored pool.
 #[derive(Clone, Copy, PartialEq, Eq)]
 pub struct Load {
-    /// The first line at which it wants one.
+    /// The line of its first such request.
     pub line: u64,
     /// The address of the node.
     pub source: u8,
-    /// The label of the first pool that it wants.
+    /// The label of the pool in its first such request.
     pub label: [u8; 7],
 }
 
-/// What a log tells of the recorded terminal.
+/// What a log says about the recorded terminal.
 #[derive(Drop)]
 pub struct Recorded {
-    /// The least NAME of a virtual terminal that claims the address, or else of any node that does.
+    /// The least NAME of a virtual terminal that claims the address. If no virtual terminal claims it, the least NAME of any node that
+    /// does.
     pub name: Option<u64>,
-    /// The nodes that want a stored pool, in the order of their first lines.
+    /// The nodes that request to load a stored pool, in the order of their first such lines.
     pub loads: Vec<Load>,
-    /// Whether there is a frame.
+    /// Whether the log has a frame.
     pub has_frames: bool,
     /// Whether a message of the terminal is in the log, to an implement or to all.
     pub has_messages: bool,
 }
 
 impl Recorded {
-    /// What the lines of a log tell of the terminal at an address. Reads only the lines that can tell something. `OutOfMemory` if an
-    /// allocation is refused.
+    /// What the lines of a log say about the terminal at an address. Reads only the lines that can matter. `OutOfMemory` if an allocation
+    /// is refused.
     pub fn in_log(
         alloc: Global,
         log: &[u8],
@@ -85,7 +86,7 @@ impl Recorded {
         }
     }
 
-    /// Notes what the frame of a line tells.
+    /// Notes what the frame of a line says about the recorded terminal.
     fn note(&mut self, line: u64, frame: &Frame, own: u8) -> Result<(), AllocError> {
         let source = frame.id.source();
         let destination = frame.id.destination();
@@ -120,7 +121,7 @@ impl Recorded {
         }
     }
 
-    /// Notes a message to the terminal that wants a stored pool.
+    /// Notes a message to the terminal that requests to load a stored pool.
     fn note_message(&mut self, line: u64, source: u8, message: &[u8]) -> Result<(), AllocError> {
         let Some(PoolRequest::Load(label)) = PoolRequest::in_message(message) else {
             return Ok(());

@@ -1,10 +1,10 @@
-//! What subcommands of `segyolant_log` need to read a log and to replay it.
+//! A log with all that its replay needs, for the subcommands of `segyolant_log`.
 //!
 //! - A `Replay` is a log with all that its replay needs: `Replay::terminal` is the terminal before the first line, `Replay::text` has
-//!   the lines, a `LogReader` reads them, and `input_of` gives the input of a line. `Recorded` is what the log tells of the recorded
-//!   terminal.
+//!   the lines, a `LogReader` reads them, and `input_of` gives the input of a line. `Recorded` is what the log says about the
+//!   recorded terminal.
 //! - `read_set` and `new_terminal` begin a replay. `text_of`, `line_ends` and a `LineCursor` give the lines of a log.
-//! - `Messages` is where a run says what went wrong and how far it has come, and a `Status` is how it ended.
+//! - `Messages` receives a run's messages and its progress, and a `Status` is how the run ended.
 //!
 //! docs/LOGS.md has the subcommands.
 #![tactic(auto)]

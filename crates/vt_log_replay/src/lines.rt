@@ -4,7 +4,7 @@ use crate::messages::Messages;
 use memchr::{Memchr, memchr_iter};
 use std::iter::{Chain, Once, once};
 
-/// The number of lines between two tellings of progress.
+/// The number of lines between two reports of progress.
 const LINES_BETWEEN: u64 = 4096;
 
 /// The text of a log without the newline at its end, so that a split at newlines gives its lines.
@@ -20,7 +20,7 @@ pub fn line_ends(text: &[u8]) -> Chain<Memchr<'_>, Once<usize>> {
     memchr_iter(b'\n', text).chain(once(text.len()))
 }
 
-/// Goes through the lines of a log, and tells how far a run has come.
+/// Goes through the lines of a log, and reports how far a run has come.
 #[derive(Clone, Copy)]
 pub struct LineCursor<'a> {
     text: &'a [u8],
@@ -46,12 +46,12 @@ impl<'a> LineCursor<'a> {
         line
     }
 
-    /// The number of the line that was taken last, from 1 on.
+    /// The number of the line that `next_line` returned last, from 1. 0 before the first.
     pub fn number(&self) -> u64 {
         self.line
     }
 
-    /// Tells how far the run has come, at some of the lines.
+    /// Reports how far the run has come, at each 4096th line.
     pub fn tell_progress<E: Messages>(&self, errors: &mut E) {
         if self.line % LINES_BETWEEN == 0 {
             errors.show_progress(self.start, self.text.len());

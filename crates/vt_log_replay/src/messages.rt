@@ -1,14 +1,14 @@
-//! Where a run says what went wrong, and how far it has come.
+//! The messages and the progress of a run.
 
 use std::io::Write;
 
-/// Where a run says what went wrong, and how far it has come.
+/// Receives the messages of a run, and how far it has come.
 pub trait Messages: Write {
-    /// Is told how many of the bytes of a log a run has taken.
+    /// Receives how many of the `bytes` of a log a run has processed.
     fn show_progress(&mut self, taken: usize, bytes: usize);
 }
 
-/// Messages that are kept in memory. How far a run has come is not kept.
+/// Keeps the messages in memory, and not how far a run has come.
 impl Messages for Vec<u8> {
     fn show_progress(&mut self, _taken: usize, _bytes: usize) {}
 }

@@ -11,11 +11,11 @@ use vt_can::{Line, LineFault};
 use vt_files::Program;
 use vt_recorded::{MARK, Reader, form_of, interface_in, is_of_interface};
 
-/// Reads the lines of a log, and takes all of its frames or those of one interface.
+/// Reads the lines of a log: all of its frames, or those of one interface.
 #[derive(Drop)]
 pub struct LogReader<'a> {
     reader: Reader,
-    /// The only interface whose frames are taken.
+    /// The only interface whose frames are read.
     interface: Option<&'a str>,
     remarks: Remarks,
 }
@@ -39,8 +39,8 @@ impl<'a> LogReader<'a> {
         }
     }
 
-    /// Reads a line, given without its newline. One of another interface counts as a comment. The inner result has the fault of the line.
-    /// After `OutOfMemory` the reader is of no more use.
+    /// Reads a line, given without its newline. A line of another interface counts as a comment. The inner result has the fault of the
+    /// line. After `OutOfMemory` the reader is of no more use.
     #[inline]
     pub fn read<'b>(&'b mut self, line: &'b [u8]) -> Result<Result<Line<'b>, LineFault>, AllocError>
         ensures { IfOk result (λ reading. IsReadingFrom (wanted self.old) line.now (reading_of reading)) }
@@ -58,7 +58,8 @@ impl<'a> LogReader<'a> {
         !self.remarks.first.is_empty()
     }
 
-    /// Says on `errors` how many of the lines of a log were faulty, if some were, and whether frames of several interfaces were taken.
+    /// Writes to `errors` how many of the lines of a log were faulty, if some were, and that frames of several interfaces were read, if
+    /// they were.
     pub fn tell_lines<F: Program, E: Write>(&self, path: &str, files: &F, errors: &mut E) {
         let program = files.name();
         let faults = self.remarks.faults;
@@ -135,7 +136,7 @@ impl Remarks {
         Ok(())
     }
 
-    /// Says on `errors` that frames of several interfaces were taken, if they were. Names that are no printable text are left out.
+    /// Writes to `errors` that frames of several interfaces were read, if they were. Names that are no printable text are left out.
     fn tell_interfaces<E: Write>(&self, program: &str, path: &str, errors: &mut E) {
         if self.other.is_empty() {
             return;
@@ -175,7 +176,7 @@ impl Remarks {
         }
     }
 
-    /// Whether a line names the first interface where the line before it did. A time with more digits moves that place.
+    /// Whether a line names the first interface at the place where the line before it did. A time with more digits moves that place.
     fn is_of_first(&self, line: &[u8]) -> bool {
         let is_there = |rest: &[u8]| rest.starts_with(&self.first);
         !self.first.is_empty() && line.get(self.index..).is_some_and(is_there)

@@ -24,12 +24,12 @@ pub struct Replay<'a> {
     set: Option<LoadedSet>,
     /// The names of objects.
     pub names: Names,
-    /// What the log tells of the recorded terminal.
+    /// What the log says about the recorded terminal.
     pub recorded: Recorded,
 }
 
 impl<'a> Replay<'a> {
-    /// Reads the files of a replay. `None` if one cannot be read or is refused, which `errors` says.
+    /// Reads the files of a replay. `None` if one cannot be read or is refused: then `errors` receives the reason.
     pub fn read<F: Open, E: Write>(
         alloc: Global,
         options: &ReplayOptions<'a>,
@@ -59,7 +59,7 @@ impl<'a> Replay<'a> {
         }))
     }
 
-    /// The terminal before the first line. Its NAME is that of the recorded terminal, unless another is given.
+    /// The terminal before the first line. Its NAME is that of the recorded terminal, unless the options give another.
     pub fn terminal(&self) -> io::Result<Terminal> {
         let set = self.set.as_ref();
         new_terminal(self.alloc, self.options, self.recorded.name, set)
@@ -70,12 +70,12 @@ impl<'a> Replay<'a> {
         self.set.as_ref().is_some_and(|set| set.owner == source)
     }
 
-    /// Says on `errors` that there is no frame to replay.
+    /// Writes to `errors` that there is no frame to replay.
     pub fn tell_no_frame<F: Program, E: Write>(&self, files: &F, errors: &mut E) {
         tell_no_frame(self.path, self.text(), files, errors);
     }
 
-    /// Says on `errors` how many of the lines were faulty, and whether there are several interfaces.
+    /// Writes to `errors` how many of the lines were faulty, and that there are several interfaces, if there are.
     pub fn tell_lines<F: Program, E: Write>(
         &self,
         reader: &LogReader<'_>,
@@ -85,7 +85,7 @@ impl<'a> Replay<'a> {
         reader.tell_lines(self.path, files, errors);
     }
 
-    /// Says on `errors` that the terminal has lost its address, if it has.
+    /// Writes to `errors` that the terminal has lost its address, if it has.
     pub fn tell_loss<F: Program, E: Write>(&self, terminal: &Terminal, files: &F, errors: &mut E) {
         if terminal.is_lost() {
             let _ = writeln!(
@@ -113,7 +113,7 @@ impl<'a> Replay<'a> {
         LogReader::new(self.alloc, self.interface)
     }
 
-    /// Reads all lines, and does nothing else with them.
+    /// Reads all lines with `reader`, for what it notes about them.
     pub fn read_lines(&self, reader: &mut LogReader<'_>) -> Result<(), AllocError> {
         let mut cursor = self.cursor();
         for end in line_ends(self.text()) {
@@ -123,7 +123,7 @@ impl<'a> Replay<'a> {
     }
 }
 
-/// Says on `errors` that a log has no frame, and what it is if it is no log of candump.
+/// Writes to `errors` that a log has no frame, and what the file is if it is no log of candump.
 pub fn tell_no_frame<F: Program, E: Write>(path: &str, log: &[u8], files: &F, errors: &mut E) {
     let name = files.name();
     let _ = match form_of(log) {
@@ -135,7 +135,7 @@ pub fn tell_no_frame<F: Program, E: Write>(path: &str, log: &[u8], files: &F, er
     };
 }
 
-/// The input of a line: its frame, or the action of its operator.
+/// The input of a line: its frame, or the action of its operator. `None` for any other line.
 pub fn input_of<'a>(reading: Result<Line<'a>, LineFault>) -> Option<Input<'a>> {
     match reading {
         Ok(Line::Frame { time, frame }) => Some(Input::Frame { time, frame }),

@@ -10,7 +10,7 @@ use vt_names::Name;
 use vt_server::Terminal;
 use vt_verify::Accepted;
 
-/// The terminal's NAME, unless another is given or is in the log.
+/// The terminal's NAME if neither the options nor the log give another.
 const OWN_NAME: u64 = 0x2000_1D00_0000_0001;
 
 /// A pool that is there from the start, and the address of its working set.
@@ -22,8 +22,8 @@ pub struct LoadedSet {
     pub owner: u8,
 }
 
-/// Reads the pool of the set that is there from the start, if there is one. A pool that cannot be read or is not accepted gives the error
-/// `NotJudged`, and `errors` says why.
+/// Reads the pool of the set that is there from the start, if there is one. If it cannot be read or is not accepted, the error is
+/// `NotJudged`, and `errors` receives the reason.
 pub fn read_set<F: Open, E: Write>(
     alloc: Global,
     set: Option<StartSet<'_>>,
@@ -50,8 +50,8 @@ pub fn read_set<F: Open, E: Write>(
     }
 }
 
-/// A terminal before its first input, with the set if there is one. Its NAME is the one of the options, or else `name`, or else the
-/// usual one.
+/// A terminal before its first input, with the set if there is one. Its NAME is the one in the options, or else `name`, or else the
+/// default one.
 pub fn new_terminal(
     alloc: Global,
     options: TerminalOptions<'_>,

@@ -10,7 +10,7 @@ pub enum Status {
     Clean,
     /// Something was found.
     Found,
-    /// Something was not judged: the words, a file or memory stopped it.
+    /// Something was not judged: the command line, a file or memory prevented it.
     NotJudged,
 }
 
@@ -26,7 +26,7 @@ impl Status {
         }
     }
 
-    /// The status of two parts of a run: that something was not judged counts more than that something was found.
+    /// The status of two parts of a run. `NotJudged` counts more than `Found`, and `Found` more than `Clean`.
     pub fn and(self, other: Status) -> Status
         ensures { result ≡ worse self other }
     {

@@ -10,7 +10,7 @@ use vt_log_words::DrawOptions;
 use vt_needs::TERMINAL_SIZES;
 use vt_server::{Output, Terminal};
 
-/// Draws the screen of each line of a log at which its text changed.
+/// Draws the screen after each line of a log that changes the screen's text.
 pub fn run_draw<F: Open + Save, W: Write, E: Messages>(
     alloc: Global,
     options: &DrawOptions<'_>,

@@ -1,6 +1,6 @@
 //! The subcommands `trace` and `draw` of `segyolant_log`.
 //!
-//! - `run_trace` and `run_draw` run them on their options, and return the `Status` with which the program ends.
+//! - `run_trace` and `run_draw` run them with their options, and return the `Status` with which the program ends.
 //! - `picture_shown` is the picture of what a terminal shows.
 //!
 //! docs/LOGS.md has the subcommands.

@@ -12,7 +12,7 @@ use vt_reach::{Reach, ReachText};
 use vt_server::{Output, Terminal};
 use vt_traffic::Traffic;
 
-/// Prints what a log holds in numbers, and what it reached of each pool.
+/// Prints the numbers of a log, and what it reached of each pool.
 pub fn run_stats<F: Open, W: Write, E: Messages>(
     alloc: Global,
     options: &StatsOptions<'_>,
@@ -43,7 +43,7 @@ pub fn run_stats<F: Open, W: Write, E: Messages>(
     Ok(Status::Clean)
 }
 
-/// What a log holds so far.
+/// The numbers of a log so far, and what it reached.
 #[derive(Drop)]
 struct Run {
     terminal: Terminal,
@@ -53,7 +53,7 @@ struct Run {
 }
 
 impl Run {
-    /// Takes the lines of a log.
+    /// Processes the lines of a log.
     fn take_lines<E: Messages>(
         &mut self,
         replay: &Replay<'_>,
@@ -69,7 +69,7 @@ impl Run {
         Ok(())
     }
 
-    /// Takes the next line of a log, as it was read.
+    /// Processes the next line of a log, as it was read.
     fn take_line(
         &mut self,
         number: u64,
@@ -87,7 +87,7 @@ impl Run {
         self.reach.after(&self.outputs, &self.terminal)
     }
 
-    /// Writes what the log holds.
+    /// Writes the numbers of the log, and what it reached.
     fn put<W: Write>(
         &self,
         names: &Names,

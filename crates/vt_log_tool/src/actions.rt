@@ -1,4 +1,4 @@
-//! The operator's actions that messages of a terminal tell of.
+//! The operator's actions that messages of a terminal report.
 
 use byteorder::{ByteOrder, LittleEndian};
 use std::io::{self, Write};
@@ -12,8 +12,8 @@ const RELEASED: u8 = 0;
 /// The state of a key or a button that was pressed.
 const PRESSED: u8 = 1;
 
-/// The action that a message of a terminal tells of, if it is one that an operator line can say: no text with a newline or a carriage
-/// return, and no object 65535.
+/// The action that a message of a terminal reports. `None` if it reports none, or one that no operator line can say: a text with a
+/// newline or a carriage return, or the object 65535.
 pub(crate) fn action_in(message: &[u8]) -> Option<Action<'_>> {
     match message {
         [

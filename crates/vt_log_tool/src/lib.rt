@@ -1,6 +1,6 @@
-//! The program `segyolant_log` as a function of words, files and writers.
+//! The program `segyolant_log` as a function of its command line, files and writers.
 //!
-//! `run` runs it on its words, and returns the `Status` with which it ends. docs/LOGS.md has the subcommands.
+//! `run` runs it on the words of its command line, and returns the `Status` with which it ends. docs/LOGS.md has the subcommands.
 #![tactic(auto)]
 
 mod actions;

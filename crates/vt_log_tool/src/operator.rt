@@ -11,7 +11,7 @@ use vt_log_replay::{LineCursor, LogReader, Messages, Status, line_ends, tell_no_
 use vt_log_words::OperatorOptions;
 use vt_recorded::{Reader, is_of_interface};
 
-/// Prints the log with the operator's lines, each before the message that tells of it.
+/// Prints the log with the operator's lines, each before the message that reports it.
 pub(crate) fn run_operator<F: Open, W: Write, E: Messages>(
     alloc: Global,
     options: OperatorOptions<'_>,
@@ -44,14 +44,14 @@ pub(crate) fn run_operator<F: Open, W: Write, E: Messages>(
     Ok(Status::Clean)
 }
 
-/// The operator's line that a message tells of, and the line of the log before which it stands: that of the message's first frame.
+/// The operator's line that a message reports, and the line of the log before which it is written: that of the message's first frame.
 #[derive(Drop)]
 struct Told {
     before: u64,
     line: Vec<u8>,
 }
 
-/// What is heard of a recorded terminal.
+/// What was received of a recorded terminal.
 #[derive(Drop)]
 struct Recording {
     alloc: Global,
@@ -60,12 +60,12 @@ struct Recording {
     broken: Vec<Broken>,
     /// The line of the last request to each address.
     requests: [u64; 256],
-    /// What the messages tell of the operator.
+    /// The operator's lines that the messages report.
     told: Vec<Told>,
 }
 
 impl Recording {
-    /// Nothing is heard of the terminal at an address. Does not allocate.
+    /// A recording of the terminal at an address, before its first frame. Does not allocate.
     fn new(alloc: Global, own: u8) -> Recording {
         Recording {
             alloc,
@@ -77,7 +77,7 @@ impl Recording {
         }
     }
 
-    /// Hears the lines of a log. What they tell of the operator stands by rising lines afterwards.
+    /// Receives the lines of a log. Afterwards the operator's lines are in the order of the log's lines.
     fn hear_lines<E: Messages>(
         &mut self,
         log: &[u8],
@@ -95,7 +95,7 @@ impl Recording {
         self.told.sort_by_key(|told| told.before)
     }
 
-    /// Hears the frame of a line.
+    /// Receives the frame of a line.
     fn hear(&mut self, number: u64, frame: &Frame) -> Result<(), AllocError> {
         if frame.id.source() == self.own {
             if frame.id.pgn() == VT_TO_ECU {
@@ -123,7 +123,7 @@ impl Recording {
         }
     }
 
-    /// Keeps the operator's line that a message tells of, if it tells of one.
+    /// Keeps the operator's line that a message reports, if it reports one.
     fn tell(&mut self, before: u64, message: &[u8]) -> Result<(), AllocError> {
         let Some(action) = action_in(message) else {
             return Ok(());
@@ -136,7 +136,7 @@ impl Recording {
 }
 
 /// Writes the lines of a log without its operator lines and the frames of other interfaces, and before each the operator's lines that it
-/// tells of. Returns how many operator lines were left out.
+/// reports. Returns how many operator lines were left out.
 fn put_lines<W: Write>(
     alloc: Global,
     log: &[u8],

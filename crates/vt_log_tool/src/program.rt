@@ -1,4 +1,4 @@
-//! A run of the program, from its words to its status.
+//! A run of the program, from its command line to its status.
 
 use crate::operator::run_operator;
 use std::alloc::Global;
@@ -13,8 +13,9 @@ use vt_log_runs::{run_draw, run_trace};
 use vt_log_stats::run_stats;
 use vt_log_words::{Options, UsageError};
 
-/// Runs the program on its words, of which the first is its name. `errors` gets a sentence for wrong words and for each file that
-/// cannot be read or written. An error is returned if `out` cannot be written or memory is refused.
+/// Runs the program on the words of its command line, of which the first is its name. `errors` receives a sentence for a wrong
+/// command line and for each file that cannot be read or written. An error is returned if `out` cannot be written or memory is
+/// refused.
 pub fn run<S: AsStr, F: Open + Save, W: Write, E: Messages>(
     alloc: Global,
     words: &[S],

@@ -61,14 +61,14 @@ pub(crate) const OWN: Argument<'static> = Argument {
     form: Form::Setting("AA", Allowed::Any),
 };
 
-/// The NAME of the terminal in a replay: if it is not given, that of its claim in the log.
+/// The NAME of the terminal in a replay. If it is not given, the NAME of the terminal's claim in the log is used.
 pub(crate) const RECORDED_NAME: Argument<'static> = Argument {
     name: "name",
     help: "The terminal's NAME, 16 hex digits [default: that of its claim in the log, or else 20001D0000000001]",
     form: Form::Setting("N", Allowed::Any),
 };
 
-/// The NAME of the terminal in `test`, which takes none from a log.
+/// The NAME of the terminal in `test`, which reads no NAME from a log.
 pub(crate) const NAME: Argument<'static> = Argument {
     name: "name",
     help: "The terminal's NAME, 16 hex digits [default: 20001D0000000001]",

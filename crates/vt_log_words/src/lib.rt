@@ -1,6 +1,7 @@
-//! The words of the program `segyolant_log`, and the options that they give.
+//! The command line of `segyolant_log`, and the options that it gives.
 //!
-//! `Options::parse` reads the words, and returns the `Options` of a subcommand or a `UsageError`. docs/LOGS.md has the subcommands.
+//! `Options::parse` reads the words of a command line, and returns the `Options` of a subcommand or a `UsageError`. docs/LOGS.md
+//! has the subcommands.
 #![tactic(auto)]
 
 mod arguments;

@@ -1,4 +1,4 @@
-//! The options that the words give.
+//! The options that a command line gives.
 
 use crate::refusal::UsageError;
 use crate::subcommands::SEGYOLANT_LOG;
@@ -7,7 +7,7 @@ use hex::FromHex;
 use std::alloc::{AllocError, Global};
 use std::convert::AsStr;
 
-/// The options that the words give, by the subcommand.
+/// The options that a command line gives, by its subcommand.
 #[derive(Drop)]
 pub enum Options<'a> {
     /// `pools`.
@@ -40,7 +40,7 @@ pub enum Format {
 pub struct PoolsOptions<'a> {
     /// The file of the log.
     pub log: &'a str,
-    /// The only interface whose frames are taken, or `None` for all.
+    /// The only interface whose frames are read, or `None` for all.
     pub interface: Option<&'a str>,
     /// The folder for the pools, or `None` to write none.
     pub folder: Option<&'a str>,
@@ -55,7 +55,7 @@ pub struct PoolsOptions<'a> {
 pub struct OperatorOptions<'a> {
     /// The file of the log.
     pub log: &'a str,
-    /// The only interface whose frames are taken, or `None` for all.
+    /// The only interface whose frames are read, or `None` for all.
     pub interface: Option<&'a str>,
     /// The address of the recorded terminal.
     pub own: u8,
@@ -66,7 +66,7 @@ pub struct OperatorOptions<'a> {
 pub struct ReplayOptions<'a> {
     /// The file of the log.
     pub log: &'a str,
-    /// The only interface whose frames are taken, or `None` for all.
+    /// The only interface whose frames are read, or `None` for all.
     pub interface: Option<&'a str>,
     /// The files of names.
     pub names: Vec<&'a str>,
@@ -108,7 +108,7 @@ pub struct StatsOptions<'a> {
 pub struct TestOptions<'a> {
     /// The files of the logs.
     pub logs: Vec<&'a str>,
-    /// Whether each log is written anew, with the expectations that it meets.
+    /// Whether each log is written anew, with what its lines print as expectations.
     pub blesses: bool,
     /// The terminal.
     pub terminal: TerminalOptions<'a>,
@@ -144,7 +144,7 @@ const WAIT: u32 = 1500;
 const OWNER: u8 = 0x80;
 
 impl<'a> Options<'a> {
-    /// Reads the words, of which the first is the program's name.
+    /// Reads the words of a command line, of which the first is the program's name.
     pub fn parse<S: AsStr>(alloc: Global, words: &'a [S]) -> Result<Options<'a>, UsageError<'a>> {
         let matches = SEGYOLANT_LOG.command(alloc)?.try_get_matches_from(words)?;
         // clap demands a subcommand; its contract does not say so.
@@ -322,7 +322,7 @@ fn name_of<'a>(matches: &ArgMatches<'a>) -> Result<Option<u64>, UsageError<'a>> 
     }
 }
 
-/// The milliseconds that the value of `--wait` gives, or else the usual ones.
+/// The milliseconds that the value of `--wait` gives, or else the default.
 fn wait_of<'a>(matches: &ArgMatches<'a>) -> Result<u32, UsageError<'a>> {
     match matches.get_str("wait") {
         None => Ok(WAIT),
@@ -344,7 +344,7 @@ fn set_of<'a>(matches: &ArgMatches<'a>, own: u8) -> Result<Option<StartSet<'a>>,
     }
 }
 
-/// The path of the log, which `clap` demands.
+/// The path of the log, which `clap` requires.
 fn log_of<'a>(matches: &ArgMatches<'a>) -> &'a str {
     matches.get_str("LOG").unwrap_or("-")
 }
@@ -356,7 +356,7 @@ fn format_of(matches: &ArgMatches<'_>) -> Format {
     }
 }
 
-/// The address that the value of `--own` gives, or else the usual one.
+/// The address that the value of `--own` gives, or else the default.
 fn own_of<'a>(matches: &ArgMatches<'a>) -> Result<u8, UsageError<'a>> {
     match matches.get_str("own") {
         None => Ok(OWN_ADDRESS),

@@ -1,4 +1,4 @@
-//! Refusals of the words.
+//! Refusals of command lines.
 
 ghost use Rattle.std.specs.Prelude.{IsTrue, ◌↔◌};
 ghost use Rattle.vt_log_words.specs.Refusals.{AsksForHelp};
@@ -8,10 +8,10 @@ use clap::error::ErrorKind;
 use std::alloc::AllocError;
 use std::fmt;
 
-/// A refusal of the words, or a request for help or the version.
+/// A refusal of a command line, or a request for help or the version.
 #[derive(Drop)]
 pub enum UsageError<'a> {
-    /// An error of `clap`: a fault of the words, or a request for help or the version.
+    /// An error of `clap`: a fault of the command line, or a request for help or the version.
     Words(Error),
     /// The value of `--own` is no address that a terminal may have.
     Own(&'a str),
@@ -23,7 +23,7 @@ pub enum UsageError<'a> {
     Wait(&'a str),
     /// `--owner` is given without a pool.
     OwnerAlone,
-    /// A log from the standard input is to be written anew.
+    /// With `--bless`, a log is the standard input, which cannot be written anew.
     BlessedInput,
     /// There is no subcommand.
     NoSubcommand,
@@ -34,7 +34,7 @@ pub enum UsageError<'a> {
 }
 
 impl UsageError<'_> {
-    /// Whether help or the version is asked for.
+    /// Whether it is a request for help or the version.
     pub fn is_help(&self) -> bool
         ensures { IsTrue result ↔ AsksForHelp self.now }
     {

@@ -1,4 +1,4 @@
-//! The subcommands that take the arguments of a replay: `trace`, `compare`, `draw` and `stats`.
+//! The subcommands that have the arguments of a replay: `trace`, `compare`, `draw` and `stats`.
 
 use crate::arguments::{
     FORMAT, INTERFACE, LOG, NAMES, OWN, OWNER, PICTURES_FOLDER, POOL, RECORDED_NAME, WAIT,

@@ -4,7 +4,7 @@
 //!   replaced records, each fault, and the index of the first unread byte. `read_pool` of vt_pool stops at the first
 //!   fault.
 //!
-//! docs/PROFILE.md, "Pools and faults", has the faults of records, and "All faults" what is read behind them.
+//! docs/PROFILE.md, "Pools and faults", has the faults of records, and "All faults" what is read after them.
 #![tactic(auto)]
 
 mod in_force;

@@ -13,7 +13,7 @@ use vt_pool::PoolFault;
 /// The record of an object in force.
 #[derive(Clone, Copy, PartialEq, Eq)]
 pub struct ObjectRecord {
-    /// The object.
+    /// The ID of the object.
     pub id: ObjectId,
     /// The kind of the object.
     pub kind: Kind,
@@ -24,7 +24,7 @@ pub struct ObjectRecord {
 /// A record that a later one of the same ID replaces.
 #[derive(Clone, Copy, PartialEq, Eq)]
 pub struct ReplacedRecord {
-    /// The ID of both.
+    /// The ID of both records.
     pub id: ObjectId,
     /// The index of the replaced record's first byte.
     pub at: usize,
@@ -39,7 +39,7 @@ pub struct PoolReading {
     pub objects: SortedStore,
     /// The record of each object in force, by rising ID.
     pub records: Vec<ObjectRecord>,
-    /// The other records, in the order of their bytes.
+    /// The replaced records, in the order of their bytes.
     pub replaced: Vec<ReplacedRecord>,
     /// The faults of the records, in the order of their bytes. Empty exactly if the bytes are whole records.
     pub faults: Vec<PoolFault>,
