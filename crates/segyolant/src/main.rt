@@ -1,6 +1,6 @@
 //! Checks object pools: every fault at once, with its place and its cause.
 //!
-//! docs/POOLS.md, "Every fault at once", has the words, the statuses and the codes.
+//! docs/POOLS.md, "Every fault at once", has the command lines, the statuses and the codes.
 #![tactic(auto)]
 
 use std::fmt;
@@ -42,7 +42,7 @@ fn run_words(rt: &HostRuntime) -> io::Result<Status> {
     run(alloc, words, look_of(rt), &mut files, &mut out, &mut errors)
 }
 
-/// Why a run ended early: files that cannot be read are named by `run`, so memory or the output is left.
+/// Why a run ended early: `run` itself reports files that cannot be read, so the cause is memory or the output.
 #[derive(Clone, Copy, Drop)]
 struct Cause<'a> {
     error: &'a Error,

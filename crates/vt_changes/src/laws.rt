@@ -7,12 +7,12 @@ pub fn unchanged_records_are_equal()
     ensures { UnchangedRecordsAreEqual }
 {}
 
-/// An object has no changed field beside itself.
+/// An object has no changed field if it is compared with itself.
 pub fn equal_objects_are_unchanged()
     ensures { EqualObjectsAreUnchanged }
 {}
 
-/// Each value of a record has one name, but for the counts, which have none.
+/// A kind has as many names of fields as its objects have values, without the counts, which have no names.
 pub fn each_value_is_named()
     ensures { EachValueIsNamed }
 {}

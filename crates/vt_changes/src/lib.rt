@@ -1,7 +1,7 @@
 //! The fields in which two objects of one kind differ, by name.
 //!
-//! - `changed_fields` gives their names, in the order of the record.
-//! - `laws` has the theorems that no difference is left out, and none is named where there is none.
+//! - `changed_fields` returns their names, in the order of the record.
+//! - `laws` has the theorems that no difference is left out, and that equal objects have none.
 //!
 //! docs/PROFILE.md, "Objects", has the fields of each kind.
 #![tactic(auto)]

@@ -3,7 +3,7 @@
 ghost use Rattle.vt_costs.specs.Sums.{CostsAddUp, AcceptedCostsAreBudgets};
 
 /// Each number of a breakdown is the sum of those below it, counted up to the most steps: the steps of an event are those of its macros,
-/// the steps of a macro those of its commands, and the steps of a command one and those of the events behind it.
+/// the steps of a macro those of its commands, and the steps of a command are one and those of the events listed after it.
 pub fn costs_add_up()
     ensures { CostsAddUp }
 {}

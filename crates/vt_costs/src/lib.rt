@@ -2,7 +2,7 @@
 //!
 //! - `break_down` returns the `Breakdown` of an event: its `EventCost`, and a `MacroCost` for each macro that the event can run, with the
 //!   `Share` of each command.
-//! - `laws` has the theorems: each number is the sum of those below it.
+//! - `laws` has the theorem that each number is the sum of those below it.
 //!
 //! docs/PROFILE.md, "Costs and budgets", has the rules. The pool need not be acceptable.
 #![tactic(auto)]

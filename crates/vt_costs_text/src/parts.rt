@@ -21,7 +21,7 @@ pub(crate) fn write_steps<W: Write>(steps: u64, out: &mut W) -> io::Result<()> {
     write!(out, "{steps:>13} ")
 }
 
-/// Ends a line, and says if its steps are too many.
+/// Ends a line, with a remark if its steps are too many.
 pub(crate) fn end_line<W: Write>(steps: u64, out: &mut W) -> io::Result<()> {
     if !is_over(steps) {
         return writeln!(out);

@@ -1,5 +1,5 @@
-//! The dearest way: at each event its costliest macro, in that the costliest command, and behind that the costliest event. Of equals
-//! it takes the first.
+//! The dearest way: at each event its costliest macro, in this macro the costliest command, and after this command the costliest
+//! event. Among equals it is the first.
 
 use crate::parts::{end_line, write_event, write_macro, write_steps};
 use std::io::{self, Write};

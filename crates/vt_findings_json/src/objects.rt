@@ -45,7 +45,7 @@ pub(crate) fn summary_value(alloc: Global, summary: Summary<'_>) -> Result<Value
     })
 }
 
-/// An object by its ID, with its kind and its name where they are known.
+/// An object by its ID, with its kind and its name if they are known.
 pub(crate) fn label_value(alloc: Global, label: Label<'_>) -> Result<Value, AllocError>
     ensures { IfOk result (λ v. view v ≡ json_of.label_data (label_seen label.entry)) }
 {

@@ -8,8 +8,8 @@ use vt_inspect::{Finding, Note};
 use vt_needs::Warning;
 use vt_pool::PoolFault;
 
-/// The printed code of a finding, a warning or a note, with its name, as `Missing`. Its letter is P for faults of records, R for
-/// rules of a pool, W for warnings and N for notes, and its number is that of docs/POOLS.md.
+/// The printed code of a finding, a warning or a note, with its name, such as `Missing`. Its letter is P for faults of records, R
+/// for rules of a pool, W for warnings and N for notes, and its number is that of docs/POOLS.md.
 #[derive(Clone, Copy, PartialEq, Eq)]
 pub struct Code {
     /// The letter and the number.

@@ -3,7 +3,7 @@
 use std::fmt;
 use vt_objects::{Kind, ObjectId};
 
-/// An object by its kind, its ID and its name, as ``Output Number 341 `tank_value` ``, or `object 104` where it is missing.
+/// An object by its kind, its ID and its name, such as ``Output Number 341 `tank_value` ``, or `object 104` if it is missing.
 #[derive(Clone, Copy, Drop)]
 pub struct Label<'a> {
     /// The ID.

@@ -2,7 +2,7 @@
 //!
 //! - `Names` are the names of objects, from files of lines `ID,NAME` or `#define NAME ID`.
 //! - A `Source` is an inspected pool with its path and its names. `Source::message` returns the `Message` of an `Item`: the offset in the
-//!   file, the severity, the code and a sentence.
+//!   file, the severity, the code, and a sentence with the cause.
 //! - A `Message` writes its line for people by `Display`, in colours by `ColouredLine`, and for GitHub by `GithubLine`.
 //!
 //! docs/POOLS.md has the codes.

@@ -19,7 +19,7 @@ pub enum Severity {
 }
 
 impl Severity {
-    /// The word for a severity, as messages have it.
+    /// The word for a severity in messages.
     pub fn word(self) -> &'static str
         ensures { result.now ≡ severity_word self }
     {
@@ -53,7 +53,7 @@ pub struct Message<'a> {
     pub severity: Severity,
     /// The code.
     pub code: Code,
-    /// The cause.
+    /// The sentence with the cause.
     pub sentence: String,
 }
 

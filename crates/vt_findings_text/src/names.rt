@@ -15,7 +15,7 @@ pub struct Names {
 }
 
 impl Names {
-    /// No names. Allocates nothing.
+    /// No names. Does not allocate.
     pub fn new(alloc: Global) -> Names
         ensures { (id : ℕ) → name_at result id ≡ None }
     {
@@ -24,8 +24,8 @@ impl Names {
         }
     }
 
-    /// Adds the names of a file: lines `ID,NAME`, as Wireshark's object IDs, or `#define NAME ID`, whose rest is not read. IDs are decimal,
-    /// or hex after `0x`. A line of another form, or one that is not UTF-8, is passed over.
+    /// Adds the names of a file. Its lines are `ID,NAME`, the form of Wireshark's object IDs, or `#define NAME ID`, whose rest is not read.
+    /// IDs are decimal, or hex after `0x`. A line of another form, or one that is not UTF-8, is skipped.
     pub fn add(&mut self, alloc: Global, bytes: &[u8]) -> Result<(), AllocError> {
         for line in bytes.split(|byte| *byte == b'\n') {
             if let Some((id, name)) = read_line(line) {

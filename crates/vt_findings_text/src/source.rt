@@ -31,7 +31,7 @@ pub struct Source<'a> {
 }
 
 impl<'a> Source<'a> {
-    /// The object of an ID, with its kind and its name.
+    /// The object with this ID, with its kind and its name.
     pub fn label(&self, id: ObjectId) -> Label<'a>
         ensures { label_seen result ≡ label_at self.now id }
     {

@@ -7,7 +7,7 @@ use std::fmt;
 use vt_inspect::Spot;
 use vt_objects::Place;
 
-/// The words for the position of a reference, as `child 3` or `macro entry 1 (event 25)`.
+/// The words for the position of a reference, such as `child 3` or `macro entry 1 (event 25)`.
 #[derive(Clone, Copy, Drop)]
 pub struct SpotText {
     /// The position.

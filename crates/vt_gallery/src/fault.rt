@@ -1,4 +1,4 @@
-//! Why a log leaves no pool.
+//! Why a log gives no pool.
 
 ghost use Rattle.std.specs.Prelude.{◌≡◌, ◌≢◌};
 ghost use Rattle.vt_gallery.specs.declared.fault.StateFault.TheVariants.{Memory, NothingShown};
@@ -7,13 +7,13 @@ use std::alloc::AllocError;
 use thiserror::Error;
 use vt_logs::ReplayFault;
 
-/// Why a log leaves no pool.
+/// Why a log gives no pool.
 #[derive(Clone, Copy, Debug, PartialEq, Eq, Error)]
 pub enum StateFault {
     /// The address of the set that is there from the start is the terminal's own, or above 253.
     #[error("no working set can have this address")]
     Owner,
-    /// The pool of that set is not acceptable.
+    /// The pool of the set that is there from the start is not acceptable.
     #[error("the terminal refuses this pool, so no log can be replayed with it")]
     Pool,
     /// The log could not be replayed to its end.

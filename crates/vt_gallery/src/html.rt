@@ -13,7 +13,7 @@ pub(crate) struct Html {
 }
 
 impl Html {
-    /// No text. Allocates nothing.
+    /// No text. Does not allocate.
     pub(crate) fn new(alloc: Global) -> Html
         ensures { result.bytes.items ≡ [] }
     {

@@ -1,10 +1,10 @@
 //! The subcommand `draw` of `segyolant`: masks of a pool, or of what a terminal shows at the end of a log, as pictures, and a page of
 //! them.
 //!
-//! - `run_draw` draws the masks that the options name, on the standard output, into a file or into a folder with a page, `index.html`.
+//! - `run_draw` draws the masks that the options name to the standard output, into a file, or into a folder with a page, `index.html`.
 //!   docs/POOLS.md, "Pictures of masks", has the options and the messages.
-//! - `pool_left` replays a log to a new terminal, and writes the objects of the working set that is shown at its end as the bytes of a
-//!   pool, or returns a `StateFault`. A `GivenSet` is there before the first line.
+//! - `pool_left` replays a log to a new terminal, and returns the objects of the working set that is shown at its end as the bytes of
+//!   a pool, or a `StateFault`. A `GivenSet` is a working set that the terminal has before the first line.
 #![tactic(auto)]
 
 mod bytes;

@@ -52,7 +52,7 @@ pub(crate) fn named_mask(masks: &[ObjectId], id: ObjectId) -> Result<ObjectId, R
     }
 }
 
-/// The active mask of the working set, among the masks of a pool. Of several working sets it is the last.
+/// The active mask of the working set, among the masks of a pool. If the pool has several working sets, the last of them counts.
 pub(crate) fn active_mask(masks: &[ObjectId], objects: &SortedStore) -> Result<ObjectId, Refusal>
     ensures active { IfOk result (λ mask. option_map (λ found. found.1) (spec.last_set None objects.now) ≡ Some mask) }
     ensures among { IfOk result (λ mask. Contains masks.now mask) }

@@ -7,14 +7,14 @@ use vt_files::{Open, read_file};
 use vt_inspector_words::{Origin, StartSet};
 use vt_logs::{ReplayFault, Stream};
 
-/// The file whose objects are drawn: the pool, or the log that leaves one.
+/// The file whose objects are drawn: the pool, or the log.
 pub(crate) fn path_of<'a>(origin: Origin<'a>) -> &'a str {
     match origin {
         Origin::Pool(path) | Origin::State { log: path, .. } => path,
     }
 }
 
-/// The bytes of the pool that is drawn, or `None` if there is none, which `errors` says.
+/// The bytes of the pool that is drawn. `None` if there is none: then `errors` receives the reason.
 pub(crate) fn read_origin<F: Open, E: Write>(
     alloc: Global,
     origin: Origin<'_>,
@@ -47,7 +47,7 @@ struct Start<'a> {
     bytes: &'a [u8],
 }
 
-/// The bytes of the pool that a log leaves, or `None` if it leaves none, which `errors` says.
+/// The bytes of the pool that a log gives. `None` if it gives none: then `errors` receives the reason.
 fn read_state<F: Open, E: Write>(
     alloc: Global,
     path: &str,
@@ -77,7 +77,7 @@ fn read_state<F: Open, E: Write>(
     }
 }
 
-/// The file that a fault is about, and what may be done about it.
+/// The file that a fault is about, and what can be done about it.
 fn cure_of<'a>(
     fault: StateFault,
     log: &'a str,
@@ -100,7 +100,7 @@ fn cure_of<'a>(
     }
 }
 
-/// Says that a file cannot be read. Want of memory stays an error.
+/// Writes to `errors` that a file cannot be read. A refused allocation stays an error.
 fn not_read<E: Write>(path: &str, error: Error, errors: &mut E) -> io::Result<Option<Vec<u8>>> {
     if error.kind() == ErrorKind::OutOfMemory {
         return Err(error);

@@ -42,7 +42,7 @@ const BEFORE_COUNTS: &str = "</ul>\n<p>";
 /// The end of the page.
 const AFTER_COUNTS: &str = "</p>\n</body>\n</html>\n";
 
-/// The page of a pool: its masks, then all that `check` says of it.
+/// The page of a pool: its masks, and then everything that `check` prints about it.
 pub(crate) fn page_of(
     alloc: Global,
     source: &Source<'_>,

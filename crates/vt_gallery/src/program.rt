@@ -14,19 +14,20 @@ use vt_needs::Sizes;
 use vt_objects::ObjectId;
 use vt_picture::draw;
 
-/// What comes of a run.
+/// The outcome of a run.
 #[derive(Clone, Copy, PartialEq, Eq)]
 pub enum Outcome {
-    /// All is drawn, and the pool has no errors.
+    /// All masks are drawn, and the pool has no errors.
     Clean,
-    /// All is drawn, as far as the pool could be read, but it has errors.
+    /// All masks of the part of the pool that could be read are drawn, but the pool has errors.
     Faulty,
-    /// Nothing is drawn, or not all could be written.
+    /// No mask is drawn, or not all could be written.
     NotDrawn,
 }
 
-/// Draws masks of a pool, or of the objects that a log leaves. `errors` gets a sentence for each file that cannot be read or written,
-/// for a log that leaves nothing, for masks that are not there, and for a pool with errors. An error is returned if `out` cannot be written or memory is refused.
+/// Draws masks of a pool, or of the objects that a log gives. `errors` receives a sentence for each file that cannot be read or
+/// written, for a log that gives no pool, for masks that are missing, and for a pool with errors. An error is returned if `out`
+/// cannot be written or memory is refused.
 pub fn run_draw<F: Open + Save, W: Write, E: Write>(
     alloc: Global,
     options: &DrawOptions<'_>,
@@ -85,7 +86,7 @@ struct Sheet<'a> {
 }
 
 impl Sheet<'_> {
-    /// Draws the active mask or another into a file or on `out`, and returns whether it is drawn.
+    /// Draws the active mask or another one into a file or to `out`, and returns whether it is drawn.
     fn put_picture<F: Save, W: Write, E: Write>(
         &self,
         mask: Option<ObjectId>,
@@ -175,7 +176,7 @@ impl Sheet<'_> {
         Ok(picture)
     }
 
-    /// The mask, or `None` if there is none, which `errors` says.
+    /// The mask. `None` if there is none: then `errors` receives the reason.
     fn found<E: Write>(&self, mask: Result<ObjectId, Refusal>, errors: &mut E) -> Option<ObjectId> {
         match mask {
             Ok(mask) => Some(mask),
@@ -192,7 +193,7 @@ impl Sheet<'_> {
     }
 }
 
-/// What comes of masks that are drawn; `errors` says that the pool has errors.
+/// The outcome of masks that are drawn. If the pool has errors, `errors` receives a sentence that says so.
 fn outcome_of<E: Write>(source: &Source<'_>, errors: &mut E) -> Outcome {
     let path = source.path;
     let _ = match source.inspection.findings.len() {

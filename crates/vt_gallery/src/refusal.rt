@@ -11,9 +11,9 @@ pub(crate) enum Refusal {
     NoMasks,
     /// The pool has no working set, so no mask is active.
     NoWorkingSet,
-    /// The active mask of a working set is none of the pool's masks.
+    /// The active mask of a working set is not among the pool's masks.
     NotActive { set: ObjectId, mask: ObjectId },
-    /// The object that the words name is none of the pool's masks.
+    /// The object that the command line names is not among the pool's masks.
     NoMask(ObjectId),
 }
 
@@ -60,7 +60,7 @@ impl RefusalLine<'_> {
         }
     }
 
-    /// Writes what draws masks of the pool.
+    /// Writes how to draw masks of the pool.
     fn write_cure<W: fmt::Write>(&self, f: &mut fmt::Formatter<W>) -> fmt::Result {
         match self.masks.first() {
             Some(id) => write!(

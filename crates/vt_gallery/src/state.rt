@@ -23,14 +23,14 @@ const OWN_NAME: u64 = 0x2000_1D00_0000_0001;
 /// A working set that is there from the start.
 #[derive(Clone, Copy, PartialEq, Eq)]
 pub struct GivenSet<'a> {
-    /// The bytes of its pool.
+    /// The bytes of the set's pool.
     pub pool: &'a [u8],
-    /// Its address.
+    /// The address of the set.
     pub owner: u8,
 }
 
-/// Replays a log to its end, to a new terminal with the set if there is one, and returns the records of the objects of the working
-/// set that is shown then. Faulty lines are skipped.
+/// Replays a log to its end on a new terminal, with the set if there is one. Returns the records of the objects of the working set
+/// that is shown then. Faulty lines are skipped.
 pub fn pool_left<R: Source>(
     alloc: Global,
     set: Option<GivenSet<'_>>,
@@ -44,7 +44,7 @@ pub fn pool_left<R: Source>(
     pool_left_on(alloc, set, log, &mut terminal)
 }
 
-/// Replays a log to a terminal without inputs so far.
+/// Replays a log on a terminal that has received no input.
 fn pool_left_on<R: Source>(
     alloc: Global,
     set: Option<GivenSet<'_>>,

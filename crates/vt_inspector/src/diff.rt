@@ -11,7 +11,7 @@ use vt_inspector_words::DiffOptions;
 use vt_needs::{Difference, compare};
 use vt_objects::{ObjectId, Store};
 
-/// Prints the differences of two pools, as far as their bytes can be read.
+/// Prints the differences of two pools, up to the first bytes that cannot be read.
 pub(crate) fn run_diff<F: Open, W: Write, E: Write>(
     alloc: Global,
     options: &DiffOptions<'_>,
@@ -55,7 +55,7 @@ pub(crate) fn run_diff<F: Open, W: Write, E: Write>(
     })
 }
 
-/// Whether each value of a pool is that of its bytes; if not, `errors` says so.
+/// Whether each value that was read from a pool is that of its bytes. If not, `errors` receives the reason.
 fn is_exact<E: Write>(inspection: &Inspection, path: &str, errors: &mut E) -> bool {
     if !is_read(inspection, path, errors) {
         return false;

@@ -1,8 +1,7 @@
-//! The program `segyolant` over words, files and writers: inspects object pools.
+//! The program `segyolant` as a function of its command line, files and writers.
 //!
-//! `run` takes the words of the command line, opens files by an `Open` and writes them by a `Save`, as the `Files` of the
-//! system are, and returns a `Status`.
-//! docs/POOLS.md, "Every fault at once", has the subcommands and the statuses.
+//! `run` runs it on the words of its command line, opens files by an `Open` and writes them by a `Save`, such as the `Files` of the
+//! system, and returns the `Status` with which it ends. docs/POOLS.md, "Every fault at once", has the subcommands and the statuses.
 #![tactic(auto)]
 
 mod check;

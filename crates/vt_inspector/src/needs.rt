@@ -14,7 +14,7 @@ use vt_objects::{Kind, Store};
 use vt_pool::{PoolFault, read_pool};
 use vt_verify::{Accepted, Refusal, verify};
 
-/// Prints what a pool needs, and whether the terminal has it.
+/// Prints what a pool needs, and whether the terminal provides it.
 pub(crate) fn run_needs<F: Open, W: Write, E: Write>(
     alloc: Global,
     options: &NeedsOptions<'_>,
@@ -100,7 +100,7 @@ fn colours(colour: u8) -> u16 {
     }
 }
 
-/// Prints the longest chain and the dearest event of an accepted pool, and returns why it is not accepted if it is not.
+/// Prints the longest chain and the dearest event of an accepted pool. If the pool is not accepted, returns the reason.
 fn put_load<W: Write>(
     alloc: Global,
     source: &Source<'_>,

@@ -1,4 +1,4 @@
-//! A run of the program, from its words to its status.
+//! A run of the program, from its command line to its status.
 
 ghost use Rattle.std.specs.Prelude.{◌≡◌};
 ghost use Rattle.vt_inspector.specs.Statuses.{status_code};
@@ -23,7 +23,7 @@ pub enum Status {
     Clean,
     /// Something was found.
     Found,
-    /// Something was not judged: the words, a file or memory stopped it, or the subcommand takes no such pool.
+    /// Something was not judged: the command line, a file or memory prevented it, or the subcommand accepts no such pool.
     NotJudged,
 }
 
@@ -39,7 +39,7 @@ impl Status {
         }
     }
 
-    /// The status of two pools: that one was not judged counts more than that something was found.
+    /// The status of two pools. `NotJudged` counts more than `Found`, and `Found` more than `Clean`.
     pub(crate) fn and(self, other: Status) -> Status {
         match (self, other) {
             (Status::NotJudged, _) | (_, Status::NotJudged) => Status::NotJudged,
@@ -52,15 +52,15 @@ impl Status {
 /// How the output looks.
 #[derive(Clone, Copy, PartialEq, Eq)]
 pub enum Look {
-    /// Text alone, for files and other programs.
+    /// Text without colours, for files and other programs.
     Plain,
-    /// Lines for people are in colours, for a terminal.
+    /// Lines for people in colours, for a terminal.
     Coloured,
 }
 
-/// Runs the program on its words, of which the first is its name. `errors` gets a sentence for wrong words, for each
-/// file that cannot be read or written, and for a pool that the subcommand cannot judge or draw. An error is returned if `out` cannot be written or memory
-/// is refused.
+/// Runs the program on the words of its command line, of which the first is its name. `errors` receives a sentence for a wrong command
+/// line, for each file that cannot be read or written, and for a pool that the subcommand cannot judge or draw. An error is returned if
+/// `out` cannot be written or memory is refused.
 pub fn run<S: AsStr, F: Open + Save, W: Write, E: Write>(
     alloc: Global,
     words: &[S],
@@ -119,7 +119,7 @@ pub(crate) fn put_message<W: Write>(
     }
 }
 
-/// Whether all bytes of a pool were read; if not, `errors` says from where on.
+/// Whether all bytes of a pool were read. If not, `errors` receives the index of the first unread byte.
 pub(crate) fn is_read<E: Write>(inspection: &Inspection, path: &str, errors: &mut E) -> bool {
     for note in inspection.notes.iter() {
         if let Note::Unread { at } = note {

@@ -52,7 +52,7 @@ pub(crate) fn run_why<F: Open, W: Write, E: Write>(
     })
 }
 
-/// Whether an object is there; if not, `errors` says so.
+/// Whether an object is in the pool. If not, `errors` receives the reason.
 fn is_there<E: Write>(source: &Source<'_>, id: ObjectId, errors: &mut E) -> bool {
     let is_there = source.inspection.objects.get(id).is_some();
     if !is_there {

@@ -93,7 +93,7 @@ pub(crate) fn draw_options<'a>(
     })
 }
 
-/// What the pool, the log and the value of `--owner` ask for.
+/// The origin that the pool, the log and the value of `--owner` give.
 fn origin_of<'a>(
     pool: Option<&'a str>,
     log: Option<&'a str>,
@@ -112,7 +112,7 @@ fn origin_of<'a>(
     }
 }
 
-/// The address that the value of `--owner` gives, or else the usual one.
+/// The address that the value of `--owner` gives, or else the default.
 fn owner_of<'a>(value: Option<&'a str>) -> Result<u8, UsageError<'a>> {
     match value {
         None => Ok(OWNER),
@@ -130,7 +130,7 @@ fn address(text: &str) -> Option<u8> {
     }
 }
 
-/// The area that an option gives, or else the usual one; an error is the value of the option that is no area.
+/// The area that an option gives, or else the default. The error is the value of the option, if it is no area.
 pub(crate) fn area_of<'a>(
     matches: &ArgMatches<'a>,
     option: &str,
@@ -142,8 +142,8 @@ pub(crate) fn area_of<'a>(
     }
 }
 
-/// What the values of `--mask` and `--out` ask for. A path that ends in `.svg` is a file, `-` is the standard output, and every other path
-/// a folder.
+/// The drawing that the values of `--mask` and `--out` give. A path that ends in `.svg` is a file, `-` is the standard output, and every
+/// other path a folder.
 fn drawing_of<'a>(
     word: Option<&'a str>,
     out: Option<&'a str>,

@@ -1,7 +1,7 @@
-//! The words of the program `segyolant`, and the options that they give.
+//! The command line of `segyolant`, and the options that it gives.
 //!
-//! `Options::parse` reads the words, and returns the `Options` of a subcommand or a `UsageError`. docs/POOLS.md, "Every fault at once",
-//! has the subcommands.
+//! `Options::parse` reads the words of a command line, and returns the `Options` of a subcommand or a `UsageError`. docs/POOLS.md,
+//! "Every fault at once", has the subcommands.
 #![tactic(auto)]
 
 mod arguments;

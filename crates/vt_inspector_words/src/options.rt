@@ -1,4 +1,4 @@
-//! The options that the words give.
+//! The options that a command line gives.
 
 ghost use Rattle.std.specs.Prelude.{IsTrue, ◌↔◌};
 ghost use Rattle.vt_inspector_words.specs.Refusals.{AsksForHelp};
@@ -13,7 +13,7 @@ use std::fmt;
 use vt_needs::{Area, Sizes, TERMINAL_SIZES};
 use vt_objects::{Event, ObjectId};
 
-/// The options that the words give, by the subcommand.
+/// The options that a command line gives, by its subcommand.
 #[derive(Drop)]
 pub enum Options<'a> {
     /// `check`.
@@ -50,7 +50,7 @@ pub struct CheckOptions<'a> {
     pub format: Format,
     /// The most lines with errors and warnings for a pool, or `None` for all.
     pub most: Option<u32>,
-    /// Whether a warning ends with status 1.
+    /// Whether a run with a warning ends with status 1.
     pub denies_warnings: bool,
 }
 
@@ -89,26 +89,26 @@ pub struct DiffOptions<'a> {
     pub names: Vec<&'a str>,
 }
 
-/// A refusal of the words, or a request for help or the version.
+/// A refusal of a command line, or a request for help or the version.
 #[derive(Drop)]
 pub enum UsageError<'a> {
-    /// An error of `clap`: a fault of the words, or a request for help or the version.
+    /// An error of `clap`: a fault of the command line, or a request for help or the version.
     Words(Error),
     /// The value of `--size` is no width and height.
     Size(&'a str),
     /// The value of `--key-size` is no width and height.
     KeySize(&'a str),
-    /// The value of `--mask` is no ID, and not `all`.
+    /// The value of `--mask` is neither an ID nor `all`.
     Mask(&'a str),
-    /// All masks are to be drawn, but not into a folder.
+    /// All masks are requested, but not into a folder.
     AllMasks,
-    /// There is no pool, and no log in its place.
+    /// There is neither a pool nor a log in its place.
     NoPool,
     /// The value of `--owner` is no address that a working set may have.
     Owner(&'a str),
     /// `--owner` is given without a log, or without a pool.
     OwnerAlone,
-    /// The word for the event is no object's ID and event's number.
+    /// The word for the event is not the ID of an object and the number of an event.
     Event(&'a str),
     /// There is no subcommand.
     NoSubcommand,
@@ -119,7 +119,7 @@ pub enum UsageError<'a> {
 }
 
 impl UsageError<'_> {
-    /// Whether help or the version is asked for.
+    /// Whether it is a request for help or the version.
     pub fn is_help(&self) -> bool
         ensures { IsTrue result ↔ AsksForHelp self.now }
     {
@@ -211,7 +211,7 @@ impl From<AllocError> for UsageError<'_> {
 }
 
 impl<'a> Options<'a> {
-    /// Reads the words, of which the first is the program's name.
+    /// Reads the words of a command line, of which the first is the program's name.
     pub fn parse<S: AsStr>(alloc: Global, words: &'a [S]) -> Result<Options<'a>, UsageError<'a>> {
         let matches = SEGYOLANT.command(alloc)?.try_get_matches_from(words)?;
         // clap demands a subcommand; its contract does not say so.

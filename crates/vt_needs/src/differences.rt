@@ -13,13 +13,13 @@ use vt_pool::write_object;
 /// A difference of two pools, by an ID.
 #[derive(Clone, Copy, PartialEq, Eq)]
 pub enum Difference {
-    /// The old pool alone has the object.
+    /// Only the old pool has the object.
     Removed { id: ObjectId },
     /// The objects are of different kinds.
     OtherKind { id: ObjectId },
     /// The objects are of one kind and have different records.
     Changed { id: ObjectId },
-    /// The new pool alone has the object.
+    /// Only the new pool has the object.
     Added { id: ObjectId },
 }
 

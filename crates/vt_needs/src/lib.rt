@@ -1,10 +1,11 @@
 //! What a pool needs of a terminal, and what its maker may have overlooked: warnings, sizes, and the differences of two pools.
 //!
 //! - `warnings` finds each `Warning` about the objects of a pool, which need not be an accepted one.
-//! - `needs_of` finds what a pool `Needs` of a terminal, and `lacks` what a terminal has less of.
-//! - `dearest_event` and `longest_chain` find the greatest load of an accepted pool; `compare` finds each `Difference` of two pools by their IDs.
+//! - `needs_of` finds what a pool `Needs` of a terminal, and `lacks` finds each `Lack`: something of which a terminal has less.
+//! - `dearest_event` and `longest_chain` find the event with the most steps and the longest chain of inclusions of an accepted pool;
+//!   `compare` finds each `Difference` of two pools by their IDs.
 //! - `cell` is the area of a character of a font, and `extent_of` the area that an object takes.
-//! - `Sizes` are those of a terminal; `TERMINAL_SIZES` are those of this one.
+//! - `Sizes` are the sizes of a terminal; `TERMINAL_SIZES` are those of this one.
 //!
 //! docs/PROFILE.md, "Warnings", has the meaning of each warning.
 #![tactic(auto)]

@@ -12,7 +12,7 @@ use vt_verify::Accepted;
 /// An event, and how many steps it can take.
 #[derive(Clone, Copy, PartialEq, Eq)]
 pub struct Dearest {
-    /// The object.
+    /// The ID of the object.
     pub id: ObjectId,
     /// The number of the event.
     pub event: u8,
@@ -20,7 +20,7 @@ pub struct Dearest {
     pub steps: u32,
 }
 
-/// An event of an accepted pool that can take the most steps. Any event if none can take a step.
+/// An event of an accepted pool that can take the most steps. If none can take a step, it is any event.
 pub fn dearest_event(accepted: &Accepted) -> Dearest
     ensures { spec.IsDearest accepted.now result }
 {

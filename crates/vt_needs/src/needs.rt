@@ -11,7 +11,7 @@ use crate::warning::Element;
 use arrayvec::ArrayVec;
 use vt_objects::{Child, Kind, Object, ObjectId, SortedStore};
 
-/// What the objects of a pool need of a terminal.
+/// What the objects of a pool need of a terminal. Areas are in pixels.
 #[derive(Clone, Copy, PartialEq, Eq)]
 pub struct Needs {
     /// How far the children of a mask reach to the right and down.
@@ -101,7 +101,7 @@ fn extent_needed(objects: &SortedStore, children: &[Child]) -> Extent
     extent
 }
 
-/// The right and the lower end of an element; 0 where it ends before the area, and for no element.
+/// The right and the lower end of an element; 0 if it ends before the area, or if there is no element.
 fn end_of(element: Option<Element>) -> Extent
     requires { IfSome element (λ e. elements.IsSized e.width e.height) }
     ensures { result ≡ spec.ends_of element }
@@ -145,7 +145,7 @@ fn key_children(object: &Object<Vec<u8>>) -> &[Child]
     }
 }
 
-/// The number of keys of a soft key mask; 0 for other objects.
+/// The number of keys of a soft key mask. 0 for any other object.
 fn key_count(object: &Object<Vec<u8>>) -> u8
     ensures { result ≡ spec.key_count (seen object.now) }
 {
@@ -226,7 +226,7 @@ pub fn has_kind(objects: &SortedStore, kind: Kind) -> bool
     false
 }
 
-/// What a terminal of some sizes lacks for a pool; empty if the pool fits.
+/// What a terminal with these sizes lacks for a pool. Empty if the pool fits.
 pub fn lacks(needs: &Needs, sizes: Sizes) -> ArrayVec<Lack, 3>
     ensures { result.items ≡ spec.lacks_of needs.now sizes }
 {

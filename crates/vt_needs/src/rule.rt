@@ -28,7 +28,8 @@ pub enum Rule {
     ExtraKeys,
 }
 
-/// All warnings about the objects of a pool: what each rule finds, by rising ID. docs/PROFILE.md, "Warnings".
+/// All warnings about the objects of a pool, in the order of the rules, and for each rule by rising ID (docs/PROFILE.md,
+/// "Warnings").
 pub fn warnings(
     alloc: Global,
     objects: &SortedStore,

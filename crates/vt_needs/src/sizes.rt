@@ -9,7 +9,7 @@ pub struct Area {
     pub height: u16,
 }
 
-/// The areas that a terminal shows, and its keys.
+/// The areas of a terminal's masks and keys, and the number of its keys.
 #[derive(Clone, Copy, PartialEq, Eq)]
 pub struct Sizes {
     /// The area of a data mask or an alarm mask.

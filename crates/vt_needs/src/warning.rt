@@ -3,10 +3,10 @@
 use crate::sizes::Area;
 use vt_objects::ObjectId;
 
-/// A field with a text or a number.
+/// A field that shows a text or a number.
 #[derive(Clone, Copy, PartialEq, Eq)]
 pub struct TextField {
-    /// The object.
+    /// The ID of the object.
     pub id: ObjectId,
     /// The number of characters up to the last one that is no space.
     pub columns: u32,
@@ -27,9 +27,9 @@ pub struct Element {
     pub index: u8,
     /// The child, or the value of the pointer that is the child.
     pub id: ObjectId,
-    /// The position in the object.
+    /// The position in the parent from the left, in pixels.
     pub x: i16,
-    /// The position in the object.
+    /// The position in the parent from the top, in pixels.
     pub y: i16,
     /// The width in pixels.
     pub width: u32,
@@ -37,7 +37,7 @@ pub struct Element {
     pub height: u32,
 }
 
-/// Something that a pool's maker may have overlooked. A terminal does not refuse the pool for this. docs/PROFILE.md, "Warnings".
+/// Something that a pool's maker may have overlooked, for which a terminal does not refuse the pool (docs/PROFILE.md, "Warnings").
 #[derive(Clone, Copy, PartialEq, Eq)]
 pub enum Warning {
     /// No slot, no macro entry and no command of a macro names the object.
@@ -55,7 +55,7 @@ pub enum Warning {
         /// The area of the object that has the child.
         area: Area,
     },
-    /// A soft key mask has more keys than the terminal.
+    /// A soft key mask has more keys than the terminal shows.
     ExtraKeys {
         /// The soft key mask.
         id: ObjectId,

@@ -10,18 +10,18 @@ use crate::palette::push_colour;
 use itoa::Buffer;
 use std::alloc::AllocError;
 
-/// What an area or a line is filled with.
+/// What an area or a line is painted with.
 #[derive(Clone, Copy, PartialEq, Eq)]
 pub enum Paint {
     /// Nothing.
     None,
     /// A colour of the palette.
     Colour(u8),
-    /// The pattern with a number, as `Attribute::PatternId` has it.
+    /// The pattern with a number, which is that of its `Attribute::PatternId`.
     Pattern(u16),
 }
 
-/// An attribute that has one value.
+/// An attribute that has only one value.
 #[derive(Clone, Copy, PartialEq, Eq)]
 pub enum Flag {
     /// The characters of a text are stretched to its length.
@@ -30,7 +30,7 @@ pub enum Flag {
     PatternInPixels,
     /// A picture is stretched to its width and height.
     StretchedPicture,
-    /// What is outside of an area is shown too.
+    /// What is outside of an area is shown as well.
     Overflow,
     /// Edges are sharp.
     Crisp,
@@ -58,13 +58,13 @@ pub struct Style {
 /// An attribute with its value. Lengths are in the coordinates of the area around the element: pixels, unless the area has others.
 #[derive(Clone, Copy)]
 pub enum Attribute {
-    /// The left edge, which may be left of the area around.
+    /// The left edge, which may be left of the area around the element.
     X(i32),
-    /// The upper edge, which may be above the area around.
+    /// The upper edge, which may be above the area around the element.
     Y(i32),
-    /// The left edge of what lies within its area.
+    /// The left edge of an element within the area around it.
     Left(u32),
-    /// The upper edge of what lies within its area, of a text the base line.
+    /// The upper edge of an element within the area around it. For a text, it is the base line.
     Top(u32),
     /// The width.
     Width(u32),
@@ -78,7 +78,7 @@ pub enum Attribute {
     RadiusX(u32),
     /// Half the height of an ellipse.
     RadiusY(u32),
-    /// The width and the height of the own coordinates of an element, which begin at 0.
+    /// The width and the height of the coordinates within an element, which begin at 0.
     Coordinates(u32, u32),
     /// The inside of a shape.
     Fill(Paint),
@@ -86,7 +86,8 @@ pub enum Attribute {
     Stroke(Paint),
     /// The width of lines.
     StrokeWidth(u32),
-    /// The line art of lines, and their width: a bit is as long as the line is wide, drawn if it is set. The highest is first.
+    /// The line art of lines, and their width. Each bit is as long as the line is wide, and is drawn if it is set. The highest bit
+    /// is first.
     LineArt(u16, u16),
     /// The ends of lines, by their line art: square for a solid line, and flat for others.
     LineEnds(u16),
@@ -104,7 +105,7 @@ pub enum Attribute {
     PatternId(u16),
     /// The style of characters.
     Style(Style),
-    /// An attribute that has one value.
+    /// An attribute that has only one value.
     Flag(Flag),
 }
 

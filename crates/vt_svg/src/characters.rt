@@ -7,14 +7,13 @@ ghost use Rattle.vt_svg.specs.Characters.{is_plain, reference_number, escaped};
 use itoa::Buffer;
 use std::alloc::AllocError;
 
-/// The number of the character that stands for a control character: a dot in the middle of the line.
+/// The number of the character for control characters: a dot in the middle of the line.
 const DOT: u8 = 0xB7;
 
-/// Appends characters of Latin 1. Those that could be markup or are no ASCII are references to their numbers, and a dot stands
-/// for each control character.
+/// Appends characters of Latin 1. Those that could be markup or are no ASCII are written as references to their numbers, and each
+/// control character as a dot.
 ///
-/// # Errors
-/// `AllocError` when an allocation is refused; some characters may then be appended.
+/// # Errors `AllocError` if an allocation is refused. Some characters may then be appended.
 pub fn text(out: &mut Vec<u8>, characters: &[u8]) -> Result<(), AllocError>
     ensures { OnOk result (out.new.items ≡ out.old.items ++ flat_map escaped characters.now) }
 {
@@ -36,7 +35,7 @@ fn push_character(out: &mut Vec<u8>, character: u8) -> Result<(), AllocError>
     out.extend_from_slice(b";")
 }
 
-/// Whether a character stands for itself: ASCII, and neither a control character nor one of `"`, `&`, `<` and `>`.
+/// Whether a character is written as itself: ASCII, and neither a control character nor one of `"`, `&`, `<` and `>`.
 fn is_plain(character: u8) -> bool
     ensures { result ≡ is_plain character }
 {

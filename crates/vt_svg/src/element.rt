@@ -9,7 +9,7 @@ use std::alloc::AllocError;
 /// An element of SVG.
 #[derive(Clone, Copy, PartialEq, Eq)]
 pub enum Element {
-    /// A picture, or an area of one with coordinates of its own, outside of which nothing is shown.
+    /// A picture, or an area within one that has its own coordinates. What is outside of it is not shown.
     Svg,
     /// A rectangle.
     Rect,
@@ -31,8 +31,7 @@ pub enum Element {
 
 /// Appends the tag that opens an element.
 ///
-/// # Errors
-/// `AllocError` when an allocation is refused; a part of the tag may then be appended.
+/// # Errors `AllocError` if an allocation is refused. A part of the tag may then be appended.
 pub fn open(out: &mut Vec<u8>, element: Element, attributes: &[Attribute]) -> Result<(), AllocError>
     ensures { OnOk result (out.new.items ≡ out.old.items ++ opened element attributes.now) }
 {
@@ -42,8 +41,7 @@ pub fn open(out: &mut Vec<u8>, element: Element, attributes: &[Attribute]) -> Re
 
 /// Appends the tag that closes an element.
 ///
-/// # Errors
-/// `AllocError` when an allocation is refused; a part of the tag may then be appended.
+/// # Errors `AllocError` if an allocation is refused. A part of the tag may then be appended.
 pub fn close(out: &mut Vec<u8>, element: Element) -> Result<(), AllocError>
     ensures { OnOk result (out.new.items ≡ out.old.items ++ closed element) }
 {
@@ -54,8 +52,7 @@ pub fn close(out: &mut Vec<u8>, element: Element) -> Result<(), AllocError>
 
 /// Appends an element with nothing in it.
 ///
-/// # Errors
-/// `AllocError` when an allocation is refused; a part of the tag may then be appended.
+/// # Errors `AllocError` if an allocation is refused. A part of the tag may then be appended.
 pub fn empty(
     out: &mut Vec<u8>,
     element: Element,

@@ -1,10 +1,10 @@
 //! Elements of SVG as text: tags with attributes, texts, and the colours of the standard palette.
 //!
-//! - `open`, `close` and `empty` append the tags of an `Element` with its `Attribute`s, and `along` lines along points. `text`
-//!   appends characters.
+//! - `open`, `close` and `empty` append the tags of an `Element` with its `Attribute`s, `along` appends lines along points, and
+//!   `text` appends characters.
 //! - `laws` has the theorems about the definitions.
 //!
-//! Numbers, constants and characters are all that is written, so nothing has to be escaped but characters.
+//! Only numbers, constants and characters are written, so only characters have to be escaped.
 #![tactic(auto)]
 
 mod attribute;
