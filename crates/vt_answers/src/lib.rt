@@ -5,8 +5,7 @@
 //!   open question on its `Topic`, if it follows within the wait.
 //! - `Comparison::take_line` and `Comparison::end` list the `Difference`s: answers with other bytes than their questions, questions
 //!   without an answer, and answers without a question.
-//! - `laws` has the theorem that a log has no differences exactly if each question has an equal answer in time, and each answer a
-//!   question.
+//! - `laws` has the theorem that a log has no differences exactly if each question has an equal answer in time, and each answer a question.
 //!
 //! docs/PROFILE.md, "Answers", has the rules.
 #![tactic(auto)]

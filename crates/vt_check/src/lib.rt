@@ -1,6 +1,8 @@
-//! Object pools checked for callers in C: whether a pool is accepted or why not, all findings, its report, and the screen of a mask.
+//! The static library that checks object pools for C. Its functions are for whether a pool is accepted or why not, all findings, its
+//! report, and the screen of a mask.
 //!
-//! Each function takes bytes and keeps nothing. docs/EMBEDDING.md explains the calls, and include/vt_check.h declares them for C.
+//! Each function reads the bytes of a pool, and keeps nothing after it returns. docs/EMBEDDING.md explains the calls, and
+//! include/vt_check.h declares them for C.
 #![tactic(auto)]
 
 ghost use Rattle.vt_verdicts.specs.Findings.{Finds};
@@ -10,7 +12,7 @@ ghost use Rattle.vt_verdicts.specs.Verdicts.{Judges};
 use std::alloc::Global;
 use vt_verdicts::{VtVerdict, judge_pool, write_findings, write_report, write_screen};
 
-/// Judges an object pool.
+/// Judges an object pool: whether it is accepted, or why not.
 #[unsafe(no_mangle)]
 pub extern "C" fn vt_check_pool(alloc: Global, bytes: &[u8], verdict: &mut VtVerdict)
     ensures { Judges bytes.now verdict.new }
@@ -18,8 +20,8 @@ pub extern "C" fn vt_check_pool(alloc: Global, bytes: &[u8], verdict: &mut VtVer
     *verdict = judge_pool(alloc, bytes);
 }
 
-/// Writes all findings of an object pool, as far as there is room: the faults of records first, and then the broken rules in their
-/// order. Returns how many there are, or 2^64 - 1 if memory was refused.
+/// Writes the findings of an object pool, as many as `findings` has room for: the faults of records first, and then the broken rules
+/// in their order. Returns the number of all findings. If memory was refused, writes nothing and returns 2^64 - 1.
 #[unsafe(no_mangle)]
 pub extern "C" fn vt_findings(alloc: Global, bytes: &[u8], findings: &mut [VtVerdict]) -> u64
     ensures { Finds bytes.now findings.old findings.new result }
@@ -27,8 +29,8 @@ pub extern "C" fn vt_findings(alloc: Global, bytes: &[u8], findings: &mut [VtVer
     write_findings(alloc, bytes, findings)
 }
 
-/// Writes the report of an object pool, or the line of its fault or refusal, as far as there is room. Returns the number of bytes of
-/// the whole text, or 2^64 - 1 if memory was refused.
+/// Writes the report of an object pool, or the line of its fault or refusal, up to the end of `text`. Returns the number of bytes of
+/// the whole report or line. If memory was refused, writes nothing and returns 2^64 - 1.
 #[unsafe(no_mangle)]
 pub extern "C" fn vt_report(alloc: Global, bytes: &[u8], text: &mut [u8]) -> u64
     ensures { Reports bytes.now text.old text.new result }
@@ -36,9 +38,9 @@ pub extern "C" fn vt_report(alloc: Global, bytes: &[u8], text: &mut [u8]) -> u64
     write_report(alloc, bytes, text)
 }
 
-/// Writes the screen of an accepted pool at an address, as far as there is room: as it is after a Change Active Mask to a mask, with
-/// its macros, or for 65535 as it is at first. Returns the number of bytes of the whole text, 0 if there is no such screen, or
-/// 2^64 - 1 if memory was refused.
+/// Writes the screen of an accepted pool at an address, up to the end of `text`: the screen after a Change Active Mask to `mask`,
+/// with its macros, or the first screen if `mask` is 65535. Returns the number of bytes of the whole screen, or 0 if there is no
+/// such screen. If memory was refused, writes nothing and returns 2^64 - 1.
 #[unsafe(no_mangle)]
 pub extern "C" fn vt_draw(
     alloc: Global,

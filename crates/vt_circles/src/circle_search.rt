@@ -14,7 +14,8 @@ use vt_rank::{Circle, Graph, Item, rank};
 /// Reads each item of the graph once, however many circles there are. Each circle costs as much as 256 items of at
 /// most 256 nodes each.
 ///
-/// # Errors `AllocError` if an allocation is refused.
+/// # Errors
+/// `AllocError` if an allocation is refused.
 pub fn circles(alloc: Global, graph: &Graph) -> Result<Vec<Circle>, AllocError>
     ensures { IfOk result (λ found. AreCircles (triggered graph.now) found.items) }
 {

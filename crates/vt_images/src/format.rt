@@ -15,7 +15,7 @@ pub enum Format {
 }
 
 impl Format {
-    /// The format with a number: 0, 1 or 2.
+    /// The format with a number: 0, 1 or 2. `None` for any other number.
     pub fn from_number(number: u8) -> Option<Format>
         ensures { result ≡ format_of number }
     {
@@ -38,7 +38,7 @@ impl Format {
         }
     }
 
-    /// The number of bytes in a row of `width` pixels. Each row begins with a byte of its own.
+    /// The number of bytes in a row of `width` pixels. Each row begins with a new byte.
     pub fn bytes_in_row(self, width: u16) -> u16
         ensures { result ≡ bytes_in_row self width }
     {

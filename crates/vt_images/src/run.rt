@@ -15,7 +15,7 @@ use vt_kinds::Picture;
 pub struct Run {
     /// The row, from 0 at the top.
     pub row: u16,
-    /// The index of its first byte in the row.
+    /// The index of the run's first byte in the row.
     pub start: u16,
     /// The number of bytes, at least 1.
     pub count: u16,
@@ -26,8 +26,8 @@ pub struct Run {
 /// The runs of a picture, from the first row to the last and from the left to the right. Rows past the end of the image
 /// data have no runs, and a row that it ends in has runs up to there. Empty if the number of the format is over 2.
 ///
-/// There is at most one run for each byte of the picture, and one for each row that the image data fills. Transparency
-/// and the scale of the picture are the caller's.
+/// There is at most one run for each byte of the picture, and one for each row that the image data fills. Transparency and the
+/// scale of the picture are left to the caller.
 ///
 /// # Errors
 /// A refused allocation.

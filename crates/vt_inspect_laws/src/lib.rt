@@ -1,4 +1,4 @@
-//! Theorems about inspections of a pool's bytes, and about the findings of the rules.
+//! Laws about inspections of a pool's bytes, and about the findings of the rules.
 //!
 //! Each function is a law: its contract is a statement over the definitions of vt_inspect and the crates below, which the
 //! code meets by its contracts, and calling it changes nothing. docs/PROOFS.md explains each law.
@@ -31,7 +31,8 @@ pub fn findings_are_true()
     ensures { FindingsAreTrue }
 {}
 
-/// Each culprit of a rule that was judged is found. Some chain and some circles stand for all.
+/// Each culprit of a rule that was judged is found. Of the chains that are too deep one is found, and of the circles so many that
+/// every circle shares a macro with one of them.
 pub fn no_culprit_is_left_out()
     ensures { NoCulpritIsLeftOut }
 {}

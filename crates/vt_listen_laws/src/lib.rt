@@ -1,16 +1,16 @@
-//! Theorems about listeners: where the receiver of a transport protocol hands a message out, so does a listener.
+//! Laws about listeners: a listener delivers what the receivers of the terminal deliver.
 #![tactic(auto)]
 
 ghost use Rattle.vt_listen_laws.specs.Laws.{TransportMessagesAreHeard, ExtendedMessagesAreHeard};
 
-/// What a receiver of the transport protocol hands out, a listener that heard the same frames hands out too, with the same bytes,
-/// unless the receiver's node has aborted the message itself.
+/// If a receiver of the transport protocol delivers a message, a listener that received the same frames delivers it too, with the
+/// same bytes, unless the receiver's node has aborted the message itself.
 pub fn transport_messages_are_heard()
     ensures { TransportMessagesAreHeard }
 {}
 
-/// What a receiver of the extended transport protocol hands out, a listener that heard the same frames hands out too, with the same
-/// bytes, unless the receiver's node has aborted the message itself.
+/// If a receiver of the extended transport protocol delivers a message, a listener that received the same frames delivers it too,
+/// with the same bytes, unless the receiver's node has aborted the message itself.
 pub fn extended_messages_are_heard()
     ensures { ExtendedMessagesAreHeard }
 {}

@@ -1,4 +1,4 @@
-//! A terminal by lines: requests come on the standard input, and outputs and answers go to the standard output, each a line of JSON.
+//! Serves a terminal by lines of JSON: reads requests from the standard input, and writes outputs and answers to the standard output.
 //!
 //! docs/LIVE.md has the requests and the answers.
 #![tactic(auto)]

@@ -98,8 +98,7 @@ impl Bench<'_> {
     }
 }
 
-/// Writes a blessed log in place of the log, unless they are the same or no line can be read. Writes to `errors` how many lines are
-/// faulty.
+/// Writes a blessed log in place of the log, unless they are the same or no line can be read. Writes to `errors` how many lines are faulty.
 fn write_blessed<F: Save, W: Write, E: Write>(
     path: &str,
     log: &[u8],

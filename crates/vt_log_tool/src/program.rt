@@ -14,8 +14,7 @@ use vt_log_stats::run_stats;
 use vt_log_words::{Options, UsageError};
 
 /// Runs the program on the words of its command line, of which the first is its name. `errors` receives a sentence for a wrong
-/// command line and for each file that cannot be read or written. An error is returned if `out` cannot be written or memory is
-/// refused.
+/// command line and for each file that cannot be read or written. An error is returned if `out` cannot be written or memory is refused.
 pub fn run<S: AsStr, F: Open + Save, W: Write, E: Messages>(
     alloc: Global,
     words: &[S],

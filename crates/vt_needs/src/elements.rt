@@ -19,8 +19,7 @@ pub struct Extent {
     pub height: u32,
 }
 
-/// The area in which an object shows its children, and the children. A mask has the terminal's area for masks, and a key its area
-/// for keys.
+/// The area in which an object shows its children, and the children. A mask has the terminal's area for masks, and a key its area for keys.
 pub(crate) fn frame_of(object: &Object<Vec<u8>>, sizes: Sizes) -> Option<(Area, &[Child])>
     ensures frame { option_map (λ frame. (frame.0, frame.1.now)) result ≡ elements.frame_of sizes (seen object.now) }
     ensures most { IfSome result (λ frame. length frame.1.now ≤ 255) }

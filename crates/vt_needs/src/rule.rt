@@ -28,8 +28,7 @@ pub enum Rule {
     ExtraKeys,
 }
 
-/// All warnings about the objects of a pool, in the order of the rules, and for each rule by rising ID (docs/PROFILE.md,
-/// "Warnings").
+/// All warnings about the objects of a pool, in the order of the rules, and for each rule by rising ID (docs/PROFILE.md, "Warnings").
 pub fn warnings(
     alloc: Global,
     objects: &SortedStore,

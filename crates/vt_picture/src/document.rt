@@ -34,12 +34,13 @@ pub(crate) const GAP: u64 = 8;
 /// The farthest position of an entry.
 const FARTHEST: u64 = 32_767;
 
-/// Draws a mask with its soft keys as SVG: its elements on its background, and the keys in columns to its right, at most 2,000
-/// elements in all, 32 within each other, and some 12.6 MB. Without an object of that ID nothing is on the picture. Of an object that is no
-/// mask the elements within it are drawn, for a Working Set on its background (ISO 11783-6; docs/PROFILE.md, "Pictures").
+/// Draws a mask with its soft keys as SVG: its elements on its background, and the keys in columns to its right. A picture has at most
+/// 2,000 elements in all, at most 32 within each other, and takes at most some 12.6 MB. If no object has that ID, the picture shows
+/// nothing. If the object is no mask, the elements within it are drawn, and those of a Working Set on its background (ISO 11783-6;
+/// docs/PROFILE.md, "Pictures").
 ///
 /// # Errors
-/// `AllocError` when an allocation is refused.
+/// `AllocError` if an allocation is refused.
 pub fn draw<S: Store>(
     alloc: Global,
     store: &S,

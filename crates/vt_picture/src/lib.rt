@@ -1,7 +1,7 @@
 //! The picture of a mask as SVG (ISO 11783-6).
 //!
-//! - `draw` returns the picture of a mask with its soft keys: each element in its area, with its own shapes and the elements
-//!   within it. `picture_size` tells how large it is.
+//! - `draw` returns the picture of a mask with its soft keys: each element in its area, with its own shapes and the elements within
+//!   it. `picture_size` returns its size.
 //! - `draw_part` returns the picture of one object by itself, in the same form.
 //! - `list_elements` lists the same elements with their places, and `touched` finds the one at a place.
 //!

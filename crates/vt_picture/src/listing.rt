@@ -1,5 +1,5 @@
-//! The elements of a picture as a list, in the order in which they are drawn. A list holds 2,000 elements, so that a walk ends soon, however
-//! many paths there are.
+//! The elements of a picture as a list, in the order in which they are drawn. A list has at most 2,000 elements, so that a walk ends soon,
+//! however many paths there are.
 
 ghost use Rattle.std.specs.Prelude.{◌≡◌, ◌≤◌, ◌<◌, ◌+◌, ◌+ℤ◌, ◌^◌, ◌*◌, ◌-◌, nat_abs, ℕ, pos, Some, None, length, IfOk, OnOk};
 ghost use Rattle.std.specs.FinMap as finite;
@@ -32,7 +32,7 @@ pub struct Position {
     pub y: i32,
 }
 
-/// A part of a picture, in pixels: from `left` to before `right`, and from `top` to before `bottom`. It is empty where it ends before it
+/// A part of a picture, in pixels: from `left` to before `right`, and from `top` to before `bottom`. It is empty if it ends before it
 /// begins.
 #[derive(Clone, Copy, PartialEq, Eq)]
 pub struct Bounds {
@@ -40,30 +40,30 @@ pub struct Bounds {
     pub left: i32,
     /// The first row.
     pub top: i32,
-    /// The column behind the last.
+    /// The column after the last one.
     pub right: i32,
-    /// The row behind the last.
+    /// The row after the last one.
     pub bottom: i32,
 }
 
 /// An element of a picture.
 #[derive(Clone, Copy, PartialEq, Eq)]
 pub struct Element {
-    /// The object: for a pointer that to which it leads.
+    /// The ID of the object. For a pointer, it is the ID of the object to which the pointer leads.
     pub id: ObjectId,
-    /// The number of its kind (ISO 11783-6).
+    /// The number of the object's kind (ISO 11783-6).
     pub kind: u8,
-    /// How many elements are around it.
+    /// The number of elements around the element.
     pub depth: u8,
-    /// The index in the list of the element around it. `None` in the mask itself, and for a soft key.
+    /// The index in the list of the element around it. `None` for an element directly in the mask, and for a soft key.
     pub around: Option<u16>,
     /// The upper left corner.
     pub at: Position,
-    /// The width, 0 where its record has no size.
+    /// The width in pixels. 0 if the object's record has no size.
     pub width: u32,
-    /// The height, 0 where its record has no size.
+    /// The height in pixels. 0 if the object's record has no size.
     pub height: u32,
-    /// Nothing of the element is shown outside of these.
+    /// The part of the picture outside of which nothing of the element is shown.
     pub bounds: Bounds,
 }
 
@@ -198,10 +198,11 @@ fn element_at(sizes: Sizes, id: ObjectId, object: &Object<Vec<u8>>, spot: Around
 }
 
 /// Lists the elements of a picture in the order in which they are drawn: those of the mask, and then its soft keys with what is in them, in
-/// columns to the right of the mask; at most 2,000, 32 within each other (ISO 11783-6; docs/PROFILE.md, "The list of elements").
+/// columns to the right of the mask. A list has at most 2,000 elements, at most 32 within each other (ISO 11783-6; docs/PROFILE.md, "The
+/// list of elements").
 ///
 /// # Errors
-/// `AllocError` when an allocation is refused.
+/// `AllocError` if an allocation is refused.
 pub fn list_elements<S: Store>(
     alloc: Global,
     store: &S,

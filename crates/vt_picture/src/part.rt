@@ -17,12 +17,12 @@ use vt_objects::{Child, Object, ObjectId, Store};
 use vt_shown::resolve;
 
 /// Draws one object by itself as SVG, at the upper left corner of a picture that has its size: for the items of a list, for the label of a
-/// key, and for the designator of a Working Set. A pointer is followed. Of a Working Set and a mask the elements within it are drawn on its
-/// background, and of a Soft Key Mask the keys. Where the ID leads to no object the text is empty (ISO 11783-6; docs/PROFILE.md, "The
+/// key, and for the designator of a Working Set. A pointer is followed. For a Working Set or a mask, the elements within it are drawn on
+/// its background, and for a Soft Key Mask its keys. If the ID leads to no object, the text is empty (ISO 11783-6; docs/PROFILE.md, "The
 /// picture of one object").
 ///
 /// # Errors
-/// `AllocError` when an allocation is refused.
+/// `AllocError` if an allocation is refused.
 pub fn draw_part<S: Store>(
     alloc: Global,
     store: &S,

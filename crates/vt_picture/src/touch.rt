@@ -6,7 +6,7 @@ ghost use Rattle.vt_picture.specs.Listings as listings;
 use crate::listing::{Bounds, Element};
 use vt_objects::ObjectId;
 
-/// The key, button or input that is shown at a place of a picture. Of several it is the one drawn last.
+/// The key, button or input that is shown at a place of a picture. If there are several, it is the one that is drawn last.
 pub fn touched(elements: &[Element], x: i32, y: i32) -> Option<ObjectId>
     ensures { result ≡ listings.touched x y elements.now }
 {

@@ -1,4 +1,4 @@
-//! The walk through the elements of a mask, in the order of its drawing. A picture holds 2,000 elements, so that a walk ends
+//! The walk through the elements of a mask, in the order of its drawing. A picture has at most 2,000 elements, so that a walk ends
 //! soon, however many paths there are.
 
 ghost use Rattle.std.specs.Prelude.{◌≡◌, ◌==◌, if◌then◌else◌, [], None, Some, OnOk};

@@ -1,4 +1,4 @@
-//! Theorems about the marks of pictures.
+//! Laws about pictures: they show the elements of the drawing, in its order.
 //!
 //! Each function is a law: its contract is a statement over the definitions of vt_picture and the crates below, which the
 //! code meets by its contracts, and calling it changes nothing.

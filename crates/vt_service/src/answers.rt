@@ -13,12 +13,12 @@ use std::alloc::{AllocError, Global};
 use vt_session::Session;
 use vt_session::status::{DONE, NO_MEMORY, NO_POOL, NO_SUCH, NOT_BEGUN};
 
-/// What a host asks of a terminal after each command.
+/// What the answer to a command says about the terminal after the command.
 #[derive(Clone, Copy)]
 pub struct Told {
-    /// The first time at which a tick is due, if there is one.
+    /// The first time at which a tick is due, in microseconds, if there is one.
     pub deadline: Option<u64>,
-    /// A number that is another one after each command that may have changed the picture of the shown set.
+    /// A number that changes with each command that may have changed the picture of the shown set.
     pub look: u64,
     /// Whether another node took the terminal's address.
     pub lost: bool,
@@ -28,7 +28,7 @@ pub struct Told {
     pub shown: Option<u8>,
 }
 
-/// What a host asks of the terminal of a session.
+/// What the answer to a command says about the terminal of a session.
 pub(crate) fn told_of(session: &Session) -> Told
     ensures { IsTold session.now result }
 {
@@ -42,7 +42,7 @@ pub(crate) fn told_of(session: &Session) -> Told
     }
 }
 
-/// The answer to a command that returned a status, with what a host asks after it.
+/// The answer to a command that returned a status, with what it says about the terminal after the command.
 pub(crate) fn command_answer(
     alloc: Global,
     number: Option<u64>,
@@ -111,7 +111,7 @@ fn plain_refusal(alloc: Global, number: Option<u64>, name: &str) -> Result<Value
     )
 }
 
-/// What became of a command, by its status.
+/// The result of a command in a word, by its status.
 fn result_name(status: u32) -> &'static str
     ensures { result.now ≡ result_name status }
 {

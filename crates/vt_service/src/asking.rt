@@ -121,7 +121,7 @@ fn element_value(alloc: Global, element: &Element) -> Result<Value, AllocError>
     )
 }
 
-/// The record of an object as it is now, and the text that it shows; both are empty without such an object.
+/// The record of an object as it is now, and the text that it shows. Both are empty if there is no such object.
 fn object_value(
     alloc: Global,
     terminal: &Terminal,
@@ -167,7 +167,7 @@ fn set_value(alloc: Global, terminal: &Terminal, set: &Set) -> Result<Value, All
     }
 }
 
-/// The same with its NAME as it is to be written.
+/// A working set with its NAME as it is to be written, and what is active in it if it has a pool.
 fn set_with(
     alloc: Global,
     terminal: &Terminal,
@@ -199,7 +199,7 @@ fn is_shown(terminal: &Terminal, address: u8) -> bool
     terminal.shown() == Some(address)
 }
 
-/// What is active in a set, each `null` where there is none.
+/// What is active in a set. Each is `null` if there is none.
 #[derive(Clone, Copy)]
 struct Active {
     mask: Cell<'static>,

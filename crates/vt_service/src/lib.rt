@@ -1,7 +1,7 @@
-//! A terminal that serves requests (docs/LIVE.md): each is a line of JSON and is answered by lines of JSON.
+//! Serves a terminal by lines: requests and answers in JSON. docs/LIVE.md has the requests and the answers.
 //!
-//! - `serve` takes a line for a `Session` and gives the lines of its answer: the outputs and events, and then the answer.
-//! - `Request` is what a line asks for: a `Command` for the terminal, or a `Question` about it. `Malformed` is why a line is none.
+//! - `serve` serves a line for a `Session` and appends the lines of its answer: the outputs and events, and then the answer itself.
+//! - `Request` is what a line asks for: a `Command` for the terminal, or a `Question` about it. `Malformed` is why a line is no request.
 #![tactic(auto)]
 
 mod answers;

@@ -12,14 +12,14 @@ use std::alloc::Global;
 use vt_can::{CanId, Frame};
 use vt_dialogs::{Typed, typed_of};
 
-/// Why a line is no request that can be done.
+/// Why a line is no valid request.
 #[derive(Clone, Copy, PartialEq, Eq)]
 pub enum Malformed {
-    /// Memory was refused. The line may be given again.
+    /// Memory was refused. The line can be sent again.
     NoMemory,
-    /// It is no JSON in UTF-8, or nests deeper than 127.
+    /// The line is no JSON in UTF-8, or is nested deeper than 127.
     NotJson,
-    /// It is no object with a member `do` that names a request.
+    /// The line is no object with a member `do` that names a request.
     UnknownRequest,
     /// A member that the request needs is missing, or has another form.
     WrongMember(Member),
@@ -91,7 +91,7 @@ impl Member {
         }
     }
 
-    /// The greatest number of a member that is one, and 0 for a text.
+    /// The greatest number of a member that is a number. 0 for a text.
     fn most(self) -> u64
         ensures { result ≡ most_of self }
     {

@@ -19,7 +19,7 @@ use vt_server::{OperatorFault, Output};
 use vt_session::Session;
 use vt_session::outputs::{Item, latest, next};
 
-/// Takes all outputs and events that wait, and appends a line for each.
+/// Removes all outputs and events that wait, and appends a line for each.
 pub(crate) fn take_outputs(session: &mut Session, lines: &mut Vec<String>) -> Result<(), AllocError>
     ensures lines { OnOk result (lines_data lines.new.items ≡ lines_data lines.old.items ++ map (λ item. Some (item_data item)) (waiting session.old)) }
     ensures taken { OnOk result (waiting session.new ≡ []) }

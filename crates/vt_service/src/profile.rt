@@ -9,7 +9,7 @@ use crate::members::{Malformed, Member, number_in};
 use serde_json::Value;
 use vt_server::Profile;
 
-/// The profile of a request. A member that is not there has the number of the standard profile.
+/// The profile of a request. A missing member has the number of the standard profile.
 pub(crate) fn profile_in(request: &Value) -> Result<Profile, Malformed>
     ensures { result ≡ profile_in (view request.now) }
 {
@@ -48,7 +48,7 @@ pub(crate) fn profile_in(request: &Value) -> Result<Profile, Malformed>
     })
 }
 
-/// The number of a member in 8 bits, or another one where the member is not there.
+/// The number of a member in 8 bits, or `standard` if the member is missing.
 fn byte_or(request: &Value, member: Member, standard: u8) -> Result<u8, Malformed>
     requires { most_of member ≡ 255 }
     ensures { result ≡ number_or (view request.now) member standard }
@@ -56,7 +56,7 @@ fn byte_or(request: &Value, member: Member, standard: u8) -> Result<u8, Malforme
     Ok(number_or(request, member, u64::from(standard))? as u8)
 }
 
-/// The number of a member, or another one where the member is not there.
+/// The number of a member, or `standard` if the member is missing.
 fn number_or(request: &Value, member: Member, standard: u64) -> Result<u64, Malformed>
     requires { standard ≤ most_of member }
     ensures value { result ≡ number_or (view request.now) member standard }

@@ -1,4 +1,4 @@
-//! What a line asks for.
+//! The requests of a line.
 
 use vt_can::{Action, Frame};
 use vt_dialogs::Typed;
@@ -9,7 +9,7 @@ use vt_server::Profile;
 pub enum Kind {
     /// A command for the terminal.
     Command(CommandKind),
-    /// A question about it.
+    /// A question about the terminal.
     Question(QuestionKind),
 }
 
@@ -20,11 +20,11 @@ pub enum CommandKind {
     Begin,
     /// Adds a working set with an object pool that is there from the start.
     Preload,
-    /// Hears a frame of the bus.
+    /// Receives a frame of the bus.
     Frame,
-    /// Moves the time on.
+    /// Advances the time.
     Tick,
-    /// Does an action of the operator.
+    /// Performs an action of the operator.
     Act(ActKind),
     /// Enters a text of the operator into an input.
     Text,
@@ -39,7 +39,7 @@ pub enum CommandKind {
 pub enum ActKind {
     /// Presses a key or button.
     Press,
-    /// Releases it.
+    /// Releases a key or button.
     Release,
     /// Selects an input.
     Select,
@@ -68,9 +68,9 @@ pub enum QuestionKind {
     Limits,
     /// The raw value of a typed number.
     Raw,
-    /// What is at a place.
+    /// The key, button or input at a place.
     Touch,
-    /// What a frame says in words.
+    /// The words for a frame.
     Words,
 }
 
@@ -79,7 +79,7 @@ pub enum QuestionKind {
 pub enum Request {
     /// A command for the terminal.
     Command(Command),
-    /// A question about it.
+    /// A question about the terminal.
     Question(Question),
 }
 
@@ -97,12 +97,12 @@ pub enum Command {
         address: u8,
         pool: Vec<u8>,
     },
-    /// Hears a frame of the bus.
+    /// Receives a frame of the bus.
     Frame {
         time: u64,
         frame: Frame,
     },
-    /// Moves the time on.
+    /// Advances the time.
     Tick {
         time: u64,
     },
@@ -158,12 +158,12 @@ pub enum Question {
         object: u16,
         typed: Typed,
     },
-    /// What is at a place, in pixels from the upper left corner of the mask.
+    /// The key, button or input at a place, in pixels from the upper left corner of the mask.
     Touch {
         x: u32,
         y: u32,
     },
-    /// What a frame says in words.
+    /// The words for a frame.
     Words {
         frame: Frame,
     },

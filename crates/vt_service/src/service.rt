@@ -31,9 +31,9 @@ pub fn new_session(alloc: Global) -> Session
     begin_with(alloc, u32::from(NULL_ADDRESS), 0, Profile::standard())
 }
 
-/// Serves a line, and appends the lines of its answer. No output waits before it or after it.
+/// Serves a line, and appends the lines of its answer. Before and after a call, no output waits in the session.
 ///
-/// After `OutOfMemory` some lines may be missing, and what the line asked for may be done.
+/// After `OutOfMemory` some lines may be missing, and the command of the line may have been performed.
 pub fn serve(session: &mut Session, line: &[u8], lines: &mut Vec<String>) -> Result<(), AllocError>
     requires { waiting session.old ≡ [] }
     ensures { OnOk result (Serves session.old line.now session.new (lines_data lines.old.items) (lines_data lines.new.items)) }

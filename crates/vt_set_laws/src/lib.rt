@@ -1,4 +1,4 @@
-//! Theorems about one working set: its commands, the operator's entries and its pool.
+//! Laws about one working set: its commands, the operator's entries and its pool.
 //!
 //! Each function is a law: its contract is a statement over the definitions of vt_machine and the crates below, which the
 //! code meets by its contracts, and calling it changes nothing. docs/PROOFS.md explains each law.
@@ -39,14 +39,14 @@ pub fn new_values_are_new()
     ensures { NewValuesAreNew }
 {}
 
-/// The law that the fault of a pool's bytes is unique, in kind and offset, except for want of memory. docs/PROFILE.md,
-/// "Pools and faults".
+/// The law that the fault of a pool's bytes is unique, in kind and offset, except for a refusal of memory. docs/PROFILE.md, "Pools
+/// and faults".
 pub fn faults_are_one()
     ensures { FaultsAreOne }
 {}
 
-/// The law that each macro triggered by a macro of an acceptable pool is before it, in every order of the pool's macros
-/// in which none triggers itself or a later one. docs/PROFILE.md, "Triggers and circles".
+/// The law that each macro triggered by a macro of an acceptable pool comes before it, in every order of the pool's macros in which
+/// none triggers itself or a later one. docs/PROFILE.md, "Triggers and circles".
 pub fn triggered_stand_before()
     ensures { TriggeredStandBefore }
 {}

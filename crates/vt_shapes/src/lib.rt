@@ -1,7 +1,7 @@
 //! The shapes of each kind of object as SVG (ISO 11783-6): fields with the rows of their texts, lines and areas, meters and bars.
 //!
-//! - `draw_shapes` appends the shapes of an object, in the coordinates of its own area. Those of a Picture, and patterns, are references to
-//!   pictures that are written elsewhere.
+//! - `draw_shapes` appends the shapes of an object, in the coordinates of its own area. A Picture or a pattern is written as a reference to
+//!   a picture that is written elsewhere.
 //! - `text_shown` is the text that a field shows.
 //! - `used_picture` returns the Picture to which the shapes of an object may refer.
 //!

@@ -25,11 +25,11 @@ use vt_needs::Sizes;
 use vt_objects::{Button, Key, Object, ObjectId, Store};
 use vt_svg::{Attribute, Element, Paint, empty};
 
-/// Appends the shapes of an object, by its ID, without those of other elements in it. Those of lines, areas, meters and bars are in tenths
-/// of a pixel, others in pixels.
+/// Appends the shapes of an object, by its ID, without those of other elements in it. Lines, areas, meters and bars are in tenths of a
+/// pixel, and all others in pixels.
 ///
 /// # Errors
-/// `AllocError` when an allocation is refused; some of the shapes may then be appended.
+/// `AllocError` if an allocation is refused. Some of the shapes may then be appended.
 pub fn draw_shapes<S: Store>(
     text: &mut Vec<u8>,
     store: &S,

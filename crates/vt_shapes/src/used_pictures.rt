@@ -8,7 +8,7 @@ use crate::pen::{NO_PEN, fill_of};
 use vt_objects::{Object, ObjectId, Store};
 use vt_svg::Paint;
 
-/// The Picture to which the shapes of an object may refer: itself, or the pattern of its fill attributes, also where nothing is filled.
+/// The Picture to which the shapes of an object may refer: itself, or the pattern of its fill attributes, even if nothing is filled.
 pub fn used_picture<S: Store>(store: &S, id: ObjectId, object: &Object<Vec<u8>>) -> Option<ObjectId>
     ensures { result ≡ used_picture (S.contents store.now) id (seen object.now) }
 {

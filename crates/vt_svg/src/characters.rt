@@ -13,7 +13,8 @@ const DOT: u8 = 0xB7;
 /// Appends characters of Latin 1. Those that could be markup or are no ASCII are written as references to their numbers, and each
 /// control character as a dot.
 ///
-/// # Errors `AllocError` if an allocation is refused. Some characters may then be appended.
+/// # Errors
+/// `AllocError` if an allocation is refused. Some characters may then be appended.
 pub fn text(out: &mut Vec<u8>, characters: &[u8]) -> Result<(), AllocError>
     ensures { OnOk result (out.new.items ≡ out.old.items ++ flat_map escaped characters.now) }
 {

@@ -20,7 +20,8 @@ pub struct Point {
 
 /// Appends lines along points: an `Element::Polyline` or an `Element::Polygon`.
 ///
-/// # Errors `AllocError` if an allocation is refused. A part of the element may then be appended.
+/// # Errors
+/// `AllocError` if an allocation is refused. A part of the element may then be appended.
 pub fn along(
     out: &mut Vec<u8>,
     element: Element,
@@ -36,7 +37,8 @@ pub fn along(
 
 /// Appends the beginning of lines along points: `push_point` appends each, and `close_points` the end.
 ///
-/// # Errors `AllocError` if an allocation is refused. A part of the element may then be appended.
+/// # Errors
+/// `AllocError` if an allocation is refused. A part of the element may then be appended.
 pub fn open_points(
     out: &mut Vec<u8>,
     element: Element,
@@ -50,7 +52,8 @@ pub fn open_points(
 
 /// Appends a point of lines.
 ///
-/// # Errors `AllocError` if an allocation is refused. A part of the point may then be appended.
+/// # Errors
+/// `AllocError` if an allocation is refused. A part of the point may then be appended.
 pub fn push_point(out: &mut Vec<u8>, point: Point) -> Result<(), AllocError>
     ensures { OnOk result (out.new.items ≡ out.old.items ++ point_text point) }
 {
@@ -62,7 +65,8 @@ pub fn push_point(out: &mut Vec<u8>, point: Point) -> Result<(), AllocError>
 
 /// Appends the end of lines along points.
 ///
-/// # Errors `AllocError` if an allocation is refused. A part of the end may then be appended.
+/// # Errors
+/// `AllocError` if an allocation is refused. A part of the end may then be appended.
 pub fn close_points(out: &mut Vec<u8>) -> Result<(), AllocError>
     ensures { OnOk result (out.new.items ≡ out.old.items ++ codes "\"/>") }
 {

@@ -1,4 +1,4 @@
-//! Ticks and deadlines, and what a terminal says of itself.
+//! Tests of ticks and deadlines, and of what a terminal says about itself.
 
 use super::terminal::{OWN, POOL, expect_frame, expect_sent, input_of, preloaded, terminal};
 use std::process::Abort;

@@ -1,4 +1,4 @@
-//! Tests by functions of the crates of the terminal: of what no program can be made to show.
+//! Tests by functions of the crates of the terminal, for what no program shows.
 #![tactic(auto)]
 
 #[cfg(test)]

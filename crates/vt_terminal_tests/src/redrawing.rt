@@ -1,4 +1,4 @@
-//! Whether the terminal reports that the screen may have changed: a program draws it only then, and cannot show where it drew in vain.
+//! Whether the terminal reports that the screen may have changed: a program draws it only then, and cannot show that it drew in vain.
 
 use super::terminal::{input_of, preloaded};
 use std::process::Abort;

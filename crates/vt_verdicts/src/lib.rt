@@ -1,12 +1,12 @@
-//! Object pools judged for callers in other languages: verdicts and findings in numbers, and texts, written into the caller's memory as
-//! far as there is room.
+//! Judges object pools for callers in other languages: verdicts and findings as numbers, and texts. What has no room in the caller's
+//! memory is not written.
 //!
-//! - `judge_pool` says whether a pool is accepted, or why not.
+//! - `judge_pool` returns whether a pool is accepted, or why not.
 //! - `write_findings` writes all findings.
 //! - `write_report` writes the report, or the line of a fault or a refusal.
 //! - `write_screen` writes the screen of a mask.
 //!
-//! Each takes bytes and keeps nothing. docs/EMBEDDING.md has the numbers.
+//! Each function reads the bytes of a pool, and keeps nothing after it returns. docs/EMBEDDING.md has the numbers.
 #![tactic(auto)]
 
 ghost use Rattle.std.specs.Prelude.{◌≡◌, IfOk};
@@ -24,15 +24,15 @@ use std::alloc::{AllocError, Global};
 pub use verdict::VtVerdict;
 use vt_inspect::inspect;
 
-/// Judges an object pool.
+/// Judges an object pool: whether it is accepted, or why not.
 pub fn judge_pool(alloc: Global, bytes: &[u8]) -> VtVerdict
     ensures { Judges bytes.now result }
 {
     verdict::judged(alloc, bytes)
 }
 
-/// Writes all findings of an object pool, as far as there is room: the faults of records first, and then the broken rules in their
-/// order. Returns how many there are, or 2^64 - 1 if memory was refused, and then nothing is written.
+/// Writes the findings of an object pool, as many as `findings` has room for: the faults of records first, and then the broken rules in
+/// their order. Returns the number of all findings. If memory was refused, writes nothing and returns 2^64 - 1.
 pub fn write_findings(alloc: Global, bytes: &[u8], findings: &mut [VtVerdict]) -> u64
     ensures { Finds bytes.now findings.old findings.new result }
 {
@@ -53,17 +53,17 @@ fn found(alloc: Global, bytes: &[u8]) -> Result<Vec<VtVerdict>, AllocError>
     findings::all_told(alloc, &inspection.findings)
 }
 
-/// Writes the report of an object pool, or the line of its fault or refusal, as far as there is room. Returns the number of bytes of
-/// the whole text, or 2^64 - 1 if memory was refused, and then nothing is written.
+/// Writes the report of an object pool, or the line of its fault or refusal, up to the end of `text`. Returns the number of bytes of
+/// the whole report or line. If memory was refused, writes nothing and returns 2^64 - 1.
 pub fn write_report(alloc: Global, bytes: &[u8], text: &mut [u8]) -> u64
     ensures { Reports bytes.now text.old text.new result }
 {
     copying::copied(text::report(alloc, bytes), text)
 }
 
-/// Writes the screen of an accepted pool at an address, as far as there is room: as it is after a Change Active Mask to a mask, with
-/// its macros, or for 65535 as it is at first. Returns the number of bytes of the whole text, 0 if there is no such screen, or
-/// 2^64 - 1 if memory was refused, and then nothing is written.
+/// Writes the screen of an accepted pool at an address, up to the end of `text`: the screen after a Change Active Mask to `mask`, with
+/// its macros, or the first screen if `mask` is 65535. Returns the number of bytes of the whole screen, or 0 if there is no such
+/// screen. If memory was refused, writes nothing and returns 2^64 - 1.
 pub fn write_screen(alloc: Global, bytes: &[u8], address: u32, mask: u32, text: &mut [u8]) -> u64
     ensures { Draws bytes.now address mask text.old text.new result }
 {

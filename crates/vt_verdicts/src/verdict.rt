@@ -17,11 +17,11 @@ pub struct VtVerdict {
     pub kind: u32,
     /// The number of the fault or the refusal, or else 0.
     pub number: u32,
-    /// The offset of a fault in the bytes, or that of a command in its macro, or else 0.
+    /// The offset of a fault in the pool's bytes, or the offset of a command in its macro, or else 0.
     pub at: u64,
-    /// The object that the refusal names, or 65535.
+    /// The ID of the object that the refusal names, or 65535.
     pub object: u32,
-    /// The other object that the refusal names, or 65535.
+    /// The ID of the other object that the refusal names, or 65535.
     pub other: u32,
     /// The number of objects of an accepted pool, or else 0.
     pub objects: u64,

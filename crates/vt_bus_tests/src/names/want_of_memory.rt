@@ -1,5 +1,5 @@
-//! A call on claims or sets that is refused memory changes nothing, and is repeated. `make refuse-memory` refuses each
-//! request in turn.
+//! Tests of calls on claims and sets that are refused memory: they change nothing, and may be repeated. `make refuse-memory`
+//! refuses each request in turn.
 use super::*;
 use std::process::Abort;
 

@@ -1,4 +1,4 @@
-//! Pools with failing allocations: an error changes nothing, and the call may be repeated.
+//! Tests of pools with failing allocations: an error changes nothing, and the call may be repeated.
 
 ghost use Rattle.std.specs.Prelude.{◌<◌, ◌≤◌, length, IfOk};
 ghost use Rattle.vt_kinds.specs.Ids.{null_id};
