@@ -155,7 +155,7 @@ impl CommandSentence<'_, '_> {
         }
     }
 
-    /// Writes the attribute of Change Attribute by its number and its name, and the value that it gets.
+    /// Writes the attribute of Change Attribute by its number and its name, and its new value.
     fn write_attribute<W: fmt::Write>(
         &self,
         f: &mut fmt::Formatter<W>,

@@ -7,7 +7,7 @@ use vt_can::assigned::{
     ADDRESS_CLAIMED, ECU_TO_VT, NULL_ADDRESS, VT_TO_ECU, WORKING_SET_MASTER, WORKING_SET_MEMBER,
 };
 
-/// A claim of an address by a NAME, or that it cannot claim one.
+/// A message that a NAME claims an address, or that it cannot claim one.
 #[derive(Clone, Copy, Drop)]
 pub struct ClaimSentence<'a> {
     /// The address that sends it.

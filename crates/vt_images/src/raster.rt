@@ -50,7 +50,7 @@ impl Raster {
         runs
     }
 
-    /// Fills rows with bytes, as far as there are rows. Bytes of one value side by side become one run in each row.
+    /// Fills rows with bytes. Those after the end of the last row are ignored. Bytes of one value side by side become one run in each row.
     pub(crate) fn put_bytes(&mut self, bytes: &[u8]) -> Result<(), AllocError>
         ensures filled { OnOk result (Fills self.old self.new bytes.now) }
         ensures few { OnOk result (AreFew self.old self.new (length bytes.now)) }
@@ -64,8 +64,7 @@ impl Raster {
         Ok(())
     }
 
-    /// Fills rows with pairs of a count and a byte, as far as there are rows. A count without a byte, at the end, is
-    /// nothing.
+    /// Fills rows with pairs of a count and a byte. Bytes after the end of the last row are ignored, and so is a count without a byte.
     pub(crate) fn put_pairs(&mut self, pairs: &[u8]) -> Result<(), AllocError>
         ensures filled { OnOk result (Fills self.old self.new (unpacked pairs.now)) }
         ensures few { OnOk result (AreFew self.old self.new (length pairs.now)) }
@@ -78,7 +77,7 @@ impl Raster {
         Ok(())
     }
 
-    /// Fills rows with a byte, `count` times, as far as there are rows.
+    /// Fills rows with a byte, `count` times or to the end of the last row.
     fn put(&mut self, count: usize, byte: u8) -> Result<(), AllocError>
         ensures filled { OnOk result (Fills self.old self.new (replicate count byte)) }
         ensures few { OnOk result (AreFew self.old self.new 1) }

@@ -47,7 +47,7 @@ pub(crate) fn draw_pixels(
     }
 }
 
-/// Appends the strokes of runs in a format, as far as there is room.
+/// Appends the strokes of runs in a format, as long as there is room.
 fn draw_runs(
     text: &mut Vec<u8>,
     picture: &Picture<Vec<u8>>,

@@ -34,7 +34,7 @@ pub struct Inspection {
     pub records: Vec<ObjectRecord>,
     /// The replaced records, in the order of their bytes.
     pub replaced: Vec<ReplacedRecord>,
-    /// All findings: the faults of records first, then the rules in their order. Empty exactly if the pool is acceptable.
+    /// All findings: the faults of records first, then the broken rules in their order. Empty exactly if the pool is acceptable.
     pub findings: Vec<Finding>,
     /// What was not judged.
     pub notes: Vec<Note>,

@@ -7,7 +7,7 @@ use byteorder::{ByteOrder, LittleEndian};
 use vt_can::assigned::{ABORT, ETP_CM, ETP_DPO, ETP_DT, ETP_RTS, TP_CM, TP_DT, TP_RTS};
 use vt_can::{Frame, numbered_packet};
 
-/// What a frame says of the transfer of a message. Public for the definitions alone: vt_listen_laws speaks of parts.
+/// What a frame says about the transfer of a message. Public only because the definitions of vt_listen_laws use it.
 #[derive(Clone, Copy)]
 pub enum Part {
     /// A request to send a message.

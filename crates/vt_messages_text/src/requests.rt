@@ -53,7 +53,7 @@ impl fmt::Display for RequestSentence<'_> {
 }
 
 impl RequestSentence<'_> {
-    /// Writes a message about stored pools, an answer to the operator's message, or one without words of its own.
+    /// Writes a message about stored pools, an answer to the operator's message, or one for which there are no other words.
     fn write_rest<W: fmt::Write>(&self, f: &mut fmt::Formatter<W>) -> fmt::Result {
         match self.bytes {
             [GET_VERSIONS, ..] => f.write_str("Get Versions"),

@@ -137,7 +137,7 @@ fn keys_in_column(sizes: Sizes) -> u64
     ((u64::from(sizes.mask.height) + GAP) / (u64::from(sizes.key.height) + GAP)).max(1)
 }
 
-/// A distance, as far as an entry can have it.
+/// A distance, or the farthest position of an entry if that is less.
 fn reach(distance: u64) -> i16
     ensures { result ≡ documents.reach distance }
 {
@@ -174,7 +174,7 @@ pub(crate) fn key_places(
     Ok(places)
 }
 
-/// The width of a picture with some keys, as far as it is a number of 32 bits.
+/// The width of a picture with some keys, at most the greatest number of 32 bits.
 pub(crate) fn width_of(sizes: Sizes, keys: usize) -> u32
     requires { keys ≤ 65535 }
     ensures { result ≡ documents.width_of sizes keys }

@@ -47,7 +47,7 @@ impl Reached {
         self.drawn.renew(store.count())
     }
 
-    /// Notes the objects that a set draws where it is shown.
+    /// Notes the objects that a set draws when it is shown.
     pub(crate) fn note_drawing(&mut self, live: &Live<SortedStore>) -> Result<(), AllocError> {
         self.drawn.begin();
         put_drawing(live.store(), live.active_mask(), &mut self.drawn)

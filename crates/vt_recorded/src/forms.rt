@@ -43,8 +43,8 @@ pub fn form_of(file: &[u8]) -> Option<&'static str> {
         .map(|(_, what)| *what)
 }
 
-/// What a file is and how to convert it into a log, by the first line that could not be read and its number, from 1. `None` if this
-/// line does not tell.
+/// What a file is and how to convert it into a log, by the first line that could not be read and its number, from 1. `None` if the
+/// line does not show it.
 pub fn form_by(number: u64, line: &[u8]) -> Option<&'static str> {
     match number {
         1 => form_of(line),

@@ -28,8 +28,8 @@ impl Reader {
         &self.plain
     }
 
-    /// Reads a line, given without its newline. If no form fits, the inner result has the fault of the line itself, not that of its
-    /// plain form. After `OutOfMemory` the reader can be used again.
+    /// Reads a line, given without its newline. The fault in the inner result is that of the line itself, not that of its plain
+    /// form. After `OutOfMemory` the reader can be used again.
     #[inline]
     pub fn read<'a>(&'a mut self, line: &'a [u8]) -> Result<Result<Line<'a>, LineFault>, AllocError>
         ensures { IfOk result (λ reading. IsReadingOf line.now (reading_of reading)) }

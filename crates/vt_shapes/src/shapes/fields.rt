@@ -119,7 +119,7 @@ fn draw_rows(out: &mut Vec<u8>, look: Look, field: Field, shown: &[u8]) -> Resul
     draw_only_row(out, look, field, trimmed(shown))
 }
 
-/// Draws the only row of a text, as far as a pixel of a character may be in the field.
+/// Draws the only row of a text, without the characters that can have no pixel in the field.
 fn draw_only_row(
     out: &mut Vec<u8>,
     look: Look,
