@@ -4,7 +4,7 @@ use std::io::{self, IsTerminal, Stderr, Write};
 use std::time::Instant;
 use vt_log_tool::Messages;
 
-/// The milliseconds of a run before it first shows how far it has come, and then between two such texts.
+/// The milliseconds of a run before it shows how far it has come, and between two such texts.
 const BETWEEN: u128 = 1000;
 
 /// The error output. If it is a terminal, it shows how far a run has come, once it takes over a second.
@@ -12,7 +12,7 @@ const BETWEEN: u128 = 1000;
 pub(crate) struct Console<'a> {
     rt: &'a HostRuntime,
     errors: Stderr,
-    /// When the run began, or last showed how far it has come. `None` if it shows nothing.
+    /// When the run has begun, or has last shown how far it has come. `None` if it shows nothing.
     last: Option<Instant>,
     /// Whether it has shown how far it has come.
     has_shown: bool,

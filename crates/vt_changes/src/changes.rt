@@ -12,7 +12,8 @@ use crate::{
 use std::alloc::{AllocError, Global};
 use vt_kinds::Object;
 
-/// The names of the fields in which two objects of one kind differ, in the order of their record. Empty for objects of different kinds.
+/// The names of the fields in which two objects of one kind differ, in the order of their record; empty for objects of
+/// different kinds.
 pub fn changed_fields(
     alloc: Global,
     old: &Object<Vec<u8>>,

@@ -15,7 +15,7 @@ use vt_rank::{Circle, Graph, Item, rank};
 /// most 256 nodes each.
 ///
 /// # Errors
-/// `AllocError` if an allocation is refused.
+/// `AllocError` when an allocation is refused.
 pub fn circles(alloc: Global, graph: &Graph) -> Result<Vec<Circle>, AllocError>
     ensures { IfOk result (λ found. AreCircles (triggered graph.now) found.items) }
 {

@@ -75,7 +75,7 @@ impl<'a> Argument<'a> {
     }
 }
 
-/// The argument, with only the allowed values.
+/// The argument, which takes the allowed values alone.
 fn restricted<'a>(arg: Arg<'a>, allowed: Allowed<'a>) -> Arg<'a> {
     match allowed {
         Allowed::Any => arg,

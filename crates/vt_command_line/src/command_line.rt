@@ -4,7 +4,7 @@ use crate::argument::Argument;
 use clap::Command;
 use std::alloc::{AllocError, Global};
 
-/// The command line of a program with subcommands, one of which has to be given.
+/// The command line of a program with subcommands, of which one has to be given.
 pub struct CommandLine<'a> {
     /// The name of the program.
     pub name: &'a str,

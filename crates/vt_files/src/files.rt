@@ -3,7 +3,7 @@
 use std::fs::{self, File};
 use std::io::{self, Error, ErrorKind, Read, Stdin};
 
-/// A program that reads and writes files, with its name.
+/// A program that reads and writes files, by its name.
 pub trait Program {
     /// The name with which its messages about files begin.
     fn name(&self) -> &'static str;
@@ -18,10 +18,10 @@ pub trait Open: Program {
 
 /// Writes files by their paths.
 pub trait Save: Program {
-    /// Writes a file, and replaces what was in it.
+    /// Writes a file. What was in it is replaced.
     fn save(&mut self, path: &str, bytes: &[u8]) -> io::Result<()>;
 
-    /// Makes a folder, unless it exists.
+    /// Makes a folder, unless it is there.
     fn make_folder(&mut self, path: &str) -> io::Result<()>;
 }
 
@@ -42,7 +42,7 @@ pub enum Opened {
 }
 
 impl<'a> Files<'a> {
-    /// Returns the files of the system, by its runtime, for a program with this name.
+    /// Returns the files of the system, by its runtime, for a program of this name.
     pub fn new(rt: &'a HostRuntime, program: &'static str) -> Files<'a> {
         Files { rt, program }
     }

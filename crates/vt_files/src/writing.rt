@@ -45,7 +45,7 @@ fn is_done<E: Write>(
     }
 }
 
-/// What can be done about an error.
+/// What may be done about an error.
 fn cure_of(error: &Error) -> &'static str {
     match error.kind() {
         ErrorKind::NotFound => "; make the folder around it first",

@@ -15,7 +15,7 @@ pub struct Names {
 }
 
 impl Names {
-    /// No names. Does not allocate.
+    /// No names. Allocates nothing.
     pub fn new(alloc: Global) -> Names
         ensures { (id : ℕ) → name_at result id ≡ None }
     {

@@ -13,7 +13,7 @@ pub(crate) struct Html {
 }
 
 impl Html {
-    /// No text. Does not allocate.
+    /// No text. Allocates nothing.
     pub(crate) fn new(alloc: Global) -> Html
         ensures { result.bytes.items ≡ [] }
     {

@@ -77,7 +77,7 @@ fn read_state<F: Open, E: Write>(
     }
 }
 
-/// The file that a fault is about, and what can be done about it.
+/// The file that a fault is about, and what may be done about it.
 fn cure_of<'a>(
     fault: StateFault,
     log: &'a str,

@@ -86,7 +86,7 @@ struct Sheet<'a> {
 }
 
 impl Sheet<'_> {
-    /// Draws the active mask or another one into a file or to `out`, and returns whether it is drawn.
+    /// Draws the active mask or another into a file or on `out`, and returns whether it is drawn.
     fn put_picture<F: Save, W: Write, E: Write>(
         &self,
         mask: Option<ObjectId>,

@@ -23,9 +23,9 @@ const OWN_NAME: u64 = 0x2000_1D00_0000_0001;
 /// A working set that is there from the start.
 #[derive(Clone, Copy, PartialEq, Eq)]
 pub struct GivenSet<'a> {
-    /// The bytes of the set's pool.
+    /// The bytes of its pool.
     pub pool: &'a [u8],
-    /// The address of the set.
+    /// Its address.
     pub owner: u8,
 }
 

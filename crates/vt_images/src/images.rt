@@ -15,7 +15,7 @@ use vt_svg::{Attribute, Element, Flag, Paint, close, empty, open};
 /// Picture, and no pixels are appended after 12,000,000 bytes of text.
 ///
 /// # Errors
-/// `AllocError` if an allocation is refused. Some of the text may then be appended.
+/// `AllocError` when an allocation is refused; some of the text may then be appended.
 pub fn draw_images<S: Store>(
     alloc: Global,
     text: &mut Vec<u8>,

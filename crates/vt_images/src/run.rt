@@ -15,7 +15,7 @@ use vt_kinds::Picture;
 pub struct Run {
     /// The row, from 0 at the top.
     pub row: u16,
-    /// The index of the run's first byte in the row.
+    /// The index of its first byte in the row.
     pub start: u16,
     /// The number of bytes, at least 1.
     pub count: u16,

@@ -19,7 +19,7 @@ enum Lines {
     Github,
 }
 
-/// Checks each pool in turn. A file that cannot be read is reported, and the other pools are still checked.
+/// Checks each pool in turn. A file that cannot be read is named, and the others are checked all the same.
 pub(crate) fn run_check<F: Open, W: Write, E: Write>(
     alloc: Global,
     options: &CheckOptions<'_>,

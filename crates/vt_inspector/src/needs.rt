@@ -14,7 +14,7 @@ use vt_objects::{Kind, Store};
 use vt_pool::{PoolFault, read_pool};
 use vt_verify::{Accepted, Refusal, verify};
 
-/// Prints what a pool needs, and whether the terminal provides it.
+/// Prints what a pool needs, and whether the terminal has it.
 pub(crate) fn run_needs<F: Open, W: Write, E: Write>(
     alloc: Global,
     options: &NeedsOptions<'_>,

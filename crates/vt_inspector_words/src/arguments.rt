@@ -5,7 +5,7 @@ use vt_command_line::{Allowed, Argument, Form};
 /// The formats of output.
 const FORMATS: &[&str] = &["text", "json", "github"];
 
-/// What can be denied.
+/// What may be denied.
 const DENIED: &[&str] = &["warnings"];
 
 pub(crate) const POOLS: Argument<'static> = Argument {

@@ -142,7 +142,7 @@ impl Listener {
         }))
     }
 
-    /// Sets the number of packets before the next ones.
+    /// Sets the number of packets before those that come next.
     fn move_to(&mut self, ends: Ends, packets: u32) -> Result<(), AllocError>
         ensures { OnOk result (TakesIn (said_between ends (said.Offset packets)) self.old self.new) }
     {

@@ -14,7 +14,7 @@ pub enum Part {
     Request { size: u32, pgn: u32 },
     /// A packet, with its number after the last offset.
     Packet { number: u8, bytes: [u8; 7] },
-    /// The number of packets before the next ones.
+    /// The number of packets before those that come next.
     Offset(u32),
     /// The abort of the transfer of a message.
     Abort { pgn: u32 },

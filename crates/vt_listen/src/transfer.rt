@@ -17,7 +17,7 @@ pub(crate) struct Transfer {
     pub(crate) size: u64,
     /// The parameter group of the message.
     pub(crate) pgn: u32,
-    /// The number of packets before the next ones.
+    /// The number of packets before those that come next.
     pub(crate) offset: u32,
     /// The first place whose packet is missing, from 1.
     pub(crate) missing: u64,

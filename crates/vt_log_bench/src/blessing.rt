@@ -61,7 +61,7 @@ pub struct Blessed {
 }
 
 impl Blessed {
-    /// Adds the counts of a line.
+    /// Counts a line by its counts.
     fn count(&mut self, line: &Counts)
         ensures { self.new.text.items ≡ self.old.text.items }
     {

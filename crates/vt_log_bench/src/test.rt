@@ -73,7 +73,7 @@ impl Bench<'_> {
         }
     }
 
-    /// Writes a log anew, with the expectations that it meets, unless it has them already or none of its lines can be read.
+    /// Writes a log anew, with the expectations that it meets, unless it has them already or no line of it can be read.
     fn bless<F: Save, W: Write, E: Write>(
         &self,
         path: &str,

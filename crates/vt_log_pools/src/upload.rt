@@ -9,7 +9,7 @@ pub struct Upload {
     pub source: u8,
     /// The address of the terminal.
     pub destination: u8,
-    /// The number of pieces.
+    /// How many pieces there are.
     pub pieces: u64,
     /// The bytes of the pieces, in their order.
     pub bytes: Vec<u8>,

@@ -344,7 +344,7 @@ fn set_of<'a>(matches: &ArgMatches<'a>, own: u8) -> Result<Option<StartSet<'a>>,
     }
 }
 
-/// The path of the log, which `clap` requires.
+/// The path of the log, which `clap` demands.
 fn log_of<'a>(matches: &ArgMatches<'a>) -> &'a str {
     matches.get_str("LOG").unwrap_or("-")
 }

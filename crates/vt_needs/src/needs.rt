@@ -145,7 +145,7 @@ fn key_children(object: &Object<Vec<u8>>) -> &[Child]
     }
 }
 
-/// The number of keys of a soft key mask. 0 for any other object.
+/// The number of keys of a soft key mask; 0 for other objects.
 fn key_count(object: &Object<Vec<u8>>) -> u8
     ensures { result ≡ spec.key_count (seen object.now) }
 {

@@ -40,7 +40,7 @@ const FARTHEST: u64 = 32_767;
 /// docs/PROFILE.md, "Pictures").
 ///
 /// # Errors
-/// `AllocError` if an allocation is refused.
+/// `AllocError` when an allocation is refused.
 pub fn draw<S: Store>(
     alloc: Global,
     store: &S,

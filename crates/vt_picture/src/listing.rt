@@ -202,7 +202,7 @@ fn element_at(sizes: Sizes, id: ObjectId, object: &Object<Vec<u8>>, spot: Around
 /// list of elements").
 ///
 /// # Errors
-/// `AllocError` if an allocation is refused.
+/// `AllocError` when an allocation is refused.
 pub fn list_elements<S: Store>(
     alloc: Global,
     store: &S,

@@ -22,7 +22,7 @@ use vt_shown::resolve;
 /// picture of one object").
 ///
 /// # Errors
-/// `AllocError` if an allocation is refused.
+/// `AllocError` when an allocation is refused.
 pub fn draw_part<S: Store>(
     alloc: Global,
     store: &S,

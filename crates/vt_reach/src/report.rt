@@ -98,7 +98,7 @@ fn is_drawn(kind: Kind) -> bool
 pub struct ReachText<'a> {
     /// What was reached of the working set.
     pub set: &'a SetReach,
-    /// The names of objects.
+    /// The names.
     pub names: &'a Names,
 }
 

@@ -39,8 +39,8 @@ pub fn new_values_are_new()
     ensures { NewValuesAreNew }
 {}
 
-/// The law that the fault of a pool's bytes is unique, in kind and offset, except for a refusal of memory. docs/PROFILE.md, "Pools
-/// and faults".
+/// The law that the fault of a pool's bytes is unique, in kind and offset, except for refused memory. docs/PROFILE.md, "Pools and
+/// faults".
 pub fn faults_are_one()
     ensures { FaultsAreOne }
 {}

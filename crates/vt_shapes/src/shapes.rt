@@ -29,7 +29,7 @@ use vt_svg::{Attribute, Element, Paint, empty};
 /// pixel, and all others in pixels.
 ///
 /// # Errors
-/// `AllocError` if an allocation is refused. Some of the shapes may then be appended.
+/// `AllocError` when an allocation is refused; some of the shapes may then be appended.
 pub fn draw_shapes<S: Store>(
     text: &mut Vec<u8>,
     store: &S,

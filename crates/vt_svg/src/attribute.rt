@@ -30,7 +30,7 @@ pub enum Flag {
     PatternInPixels,
     /// A picture is stretched to its width and height.
     StretchedPicture,
-    /// What is outside of an area is shown as well.
+    /// What is outside of an area is shown too.
     Overflow,
     /// Edges are sharp.
     Crisp,

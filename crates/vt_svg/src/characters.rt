@@ -7,14 +7,14 @@ ghost use Rattle.vt_svg.specs.Characters.{is_plain, reference_number, escaped};
 use itoa::Buffer;
 use std::alloc::AllocError;
 
-/// The number of the character for control characters: a dot in the middle of the line.
+/// The number of the character that stands for a control character: a dot in the middle of the line.
 const DOT: u8 = 0xB7;
 
 /// Appends characters of Latin 1. Those that could be markup or are no ASCII are written as references to their numbers, and each
 /// control character as a dot.
 ///
 /// # Errors
-/// `AllocError` if an allocation is refused. Some characters may then be appended.
+/// `AllocError` when an allocation is refused; some characters may then be appended.
 pub fn text(out: &mut Vec<u8>, characters: &[u8]) -> Result<(), AllocError>
     ensures { OnOk result (out.new.items ≡ out.old.items ++ flat_map escaped characters.now) }
 {

@@ -32,7 +32,7 @@ pub enum Element {
 /// Appends the tag that opens an element.
 ///
 /// # Errors
-/// `AllocError` if an allocation is refused. A part of the tag may then be appended.
+/// `AllocError` when an allocation is refused; a part of the tag may then be appended.
 pub fn open(out: &mut Vec<u8>, element: Element, attributes: &[Attribute]) -> Result<(), AllocError>
     ensures { OnOk result (out.new.items ≡ out.old.items ++ opened element attributes.now) }
 {
@@ -43,7 +43,7 @@ pub fn open(out: &mut Vec<u8>, element: Element, attributes: &[Attribute]) -> Re
 /// Appends the tag that closes an element.
 ///
 /// # Errors
-/// `AllocError` if an allocation is refused. A part of the tag may then be appended.
+/// `AllocError` when an allocation is refused; a part of the tag may then be appended.
 pub fn close(out: &mut Vec<u8>, element: Element) -> Result<(), AllocError>
     ensures { OnOk result (out.new.items ≡ out.old.items ++ closed element) }
 {
@@ -55,7 +55,7 @@ pub fn close(out: &mut Vec<u8>, element: Element) -> Result<(), AllocError>
 /// Appends an element with nothing in it.
 ///
 /// # Errors
-/// `AllocError` if an allocation is refused. A part of the tag may then be appended.
+/// `AllocError` when an allocation is refused; a part of the tag may then be appended.
 pub fn empty(
     out: &mut Vec<u8>,
     element: Element,

@@ -18,10 +18,10 @@ pub struct Point {
     pub y: u32,
 }
 
-/// Appends lines along points: an `Element::Polyline` or an `Element::Polygon`.
+/// Appends lines along points, `Element::Polyline` or `Element::Polygon`.
 ///
 /// # Errors
-/// `AllocError` if an allocation is refused. A part of the element may then be appended.
+/// `AllocError` when an allocation is refused; a part of the element may then be appended.
 pub fn along(
     out: &mut Vec<u8>,
     element: Element,
@@ -38,7 +38,7 @@ pub fn along(
 /// Appends the beginning of lines along points: `push_point` appends each, and `close_points` the end.
 ///
 /// # Errors
-/// `AllocError` if an allocation is refused. A part of the element may then be appended.
+/// `AllocError` when an allocation is refused; a part of the element may then be appended.
 pub fn open_points(
     out: &mut Vec<u8>,
     element: Element,
@@ -53,7 +53,7 @@ pub fn open_points(
 /// Appends a point of lines.
 ///
 /// # Errors
-/// `AllocError` if an allocation is refused. A part of the point may then be appended.
+/// `AllocError` when an allocation is refused; a part of the point may then be appended.
 pub fn push_point(out: &mut Vec<u8>, point: Point) -> Result<(), AllocError>
     ensures { OnOk result (out.new.items ≡ out.old.items ++ point_text point) }
 {
@@ -66,7 +66,7 @@ pub fn push_point(out: &mut Vec<u8>, point: Point) -> Result<(), AllocError>
 /// Appends the end of lines along points.
 ///
 /// # Errors
-/// `AllocError` if an allocation is refused. A part of the end may then be appended.
+/// `AllocError` when an allocation is refused; a part of the end may then be appended.
 pub fn close_points(out: &mut Vec<u8>) -> Result<(), AllocError>
     ensures { OnOk result (out.new.items ≡ out.old.items ++ codes "\"/>") }
 {

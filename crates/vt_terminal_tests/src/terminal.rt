@@ -21,7 +21,7 @@ pub(super) const POOL: &[u8] = &[
     100, 0, 3, 50, 0, 20, 0, 0, 0, 0, // the Container
 ];
 
-/// Reads and verifies a pool. An error is a refusal of memory or of the pool.
+/// Reads and verifies a pool. An error is refused memory or a refused pool.
 pub(super) fn accepted_pool(alloc: Global, bytes: &[u8]) -> Result<Accepted, AllocError> {
     match read_pool(alloc, bytes) {
         Ok(pool) => verified(alloc, &pool),

@@ -9,7 +9,7 @@ use std::fmt;
 /// What a source has sent, and its part of the load.
 #[derive(Clone, Copy)]
 pub struct Share {
-    /// The address of the source.
+    /// The address.
     pub source: u8,
     /// The counts of what the source has sent.
     pub counts: Counts,

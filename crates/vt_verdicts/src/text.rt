@@ -23,7 +23,7 @@ pub(crate) fn report(alloc: Global, bytes: &[u8]) -> Result<Vec<u8>, AllocError>
     }
 }
 
-/// The line of a fault or a refusal. A refusal of memory has no line.
+/// The line of a fault or a refusal. Refused memory has no line.
 fn line_of(alloc: Global, why: &NotAccepted) -> Result<Vec<u8>, AllocError>
     ensures line { IfOk result (λ text. text.items ≡ line_of why.now) }
     ensures memory { IfOk result (λ _. wants_memory why.now ≡ false) }
