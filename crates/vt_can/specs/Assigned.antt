@@ -1,5 +1,5 @@
 -- The numbers that the standard assigns: parameter groups, addresses, the control bytes of both transport
--- protocols, and the functions of messages (ISO 11783-3, -5, -6 and -7).
+-- protocols, and the functions of messages (ISO 11783-3, -5, -6 and -7). Also the timeouts of the profile.
 use Rattle.std.specs.Prelude.{ℕ}
 
 -- Parameter groups
@@ -127,3 +127,17 @@ FILL = 0xFF
 -- in a request to send: a CTS may ask for any number of packets
 abbrev pub NO_LIMIT : ℕ
 NO_LIMIT = 0xFF
+
+-- Timeouts, in microseconds
+
+-- the longest time that a session of the TP receiver stays open without one of its frames (docs/PROFILE.md, "Timeouts")
+abbrev pub TP_TIMEOUT : ℕ
+TP_TIMEOUT = 1250000
+
+-- the longest time that a session of the ETP receiver stays open without one of its frames (docs/PROFILE.md, "Timeouts")
+abbrev pub ETP_TIMEOUT : ℕ
+ETP_TIMEOUT = 1250000
+
+-- the longest time that a session of the TP sender stays open without one of its frames (docs/PROFILE.md, "Timeouts")
+abbrev pub SENDER_TIMEOUT : ℕ
+SENDER_TIMEOUT = 1250000

@@ -1,5 +1,5 @@
 //! The numbers that the standard assigns: parameter groups, addresses, the control bytes of both transport
-//! protocols, and the functions of messages (ISO 11783-3, -5, -6 and -7).
+//! protocols, and the functions of messages (ISO 11783-3, -5, -6 and -7). Also the timeouts of the profile.
 
 // Parameter groups
 
@@ -97,3 +97,14 @@ pub const FILL: u8 = 0xFF;
 
 /// In a request to send: a CTS may request any number of packets.
 pub const NO_LIMIT: u8 = 0xFF;
+
+// Timeouts, in microseconds
+
+/// The longest time that a session of the TP receiver stays open without one of its frames (docs/PROFILE.md, "Timeouts").
+pub const TP_TIMEOUT: u64 = 1_250_000;
+
+/// The longest time that a session of the ETP receiver stays open without one of its frames (docs/PROFILE.md, "Timeouts").
+pub const ETP_TIMEOUT: u64 = 1_250_000;
+
+/// The longest time that a session of the TP sender stays open without one of its frames (docs/PROFILE.md, "Timeouts").
+pub const SENDER_TIMEOUT: u64 = 1_250_000;

@@ -7,7 +7,8 @@
 //! - Transport: `Sessions` has at most one session for each address, `Timed` by its last frame. `Received` is the
 //!   result of a frame for its session. `Heard` is the answer of a receiver to a frame: nothing, a reply, or a whole
 //!   message with its `Bytes`. `Reason` is the reason of an abort.
-//! - `assigned` has the numbers assigned by the standard, and `laws` theorems about the definitions in specs/.
+//! - `assigned` has the numbers assigned by the standard and the timeouts, and `laws` theorems about the definitions in
+//!   specs/.
 //!
 //! docs/PROFILE.md, "Identifiers" and "Log lines", has the rules.
 #![tactic(auto)]

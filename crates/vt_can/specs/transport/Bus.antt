@@ -59,13 +59,13 @@ module _ {S F R : Type 0} (protocol : Protocol S F R) where
   abbrev pub session_of : ℕ → List (BusFrame F) → Option (Timed S)
   session_of source [] = None
   session_of source (i ∷ inputs) =
-      let current = alive i.time (session_of source inputs) in
+      let current = alive protocol.timeout i.time (session_of source inputs) in
       if is_from source i then session_after_frame i.time current i.frame else current
 
   -- the message of a source completed by an input
   abbrev pub message_at : ℕ → BusFrame F → List (BusFrame F) → Option Message
   message_at source i inputs =
-      if is_from source i then message_of_frame i.time (alive i.time (session_of source inputs)) i.frame else None
+      if is_from source i then message_of_frame i.time (alive protocol.timeout i.time (session_of source inputs)) i.frame else None
 
   -- the messages assembled for a source, the latest first
   abbrev pub messages_of : ℕ → List (BusFrame F) → List Message
@@ -79,10 +79,10 @@ module _ {S F R : Type 0} (protocol : Protocol S F R) where
 
   -- The receiver serves an input: the overdue sessions end, then the source's session makes a step and hands out its message.
   pub record Serves (old new : ByAddress S) (i : BusFrame F) (result : Heard) : Type 0 where
-    pub session : finite.get new i.source ≡ session_after_frame i.time (alive i.time (finite.get old i.source)) i.frame
-    pub others : (other : ℕ) → (other ≡ i.source → ⊥) → finite.get new other ≡ alive i.time (finite.get old other)
+    pub session : finite.get new i.source ≡ session_after_frame i.time (alive protocol.timeout i.time (finite.get old i.source)) i.frame
+    pub others : (other : ℕ) → (other ≡ i.source → ⊥) → finite.get new other ≡ alive protocol.timeout i.time (finite.get old other)
     pub message : (source : ℕ) → handed_out source result
-        ≡ (if is_from source i then message_of_frame i.time (alive i.time (finite.get old i.source)) i.frame else None)
+        ≡ (if is_from source i then message_of_frame i.time (alive protocol.timeout i.time (finite.get old i.source)) i.frame else None)
 
   -- A run: from no session, the receiver serves inputs one after the other, each with its answer.
   abbrev pub IsRun : ByAddress S → List (BusFrame F × Heard) → Type 0

@@ -16,7 +16,7 @@ module _ {F : Type 0} where
 module _ {S F R : Type 0} (protocol : Protocol S F R) where
   -- a history with one more mark if its session is overdue
   abbrev pub marked : ℕ → List (ℕ × SessionEvent F) → List (ℕ × SessionEvent F)
-  marked now xs = if is_overdue now (session_after protocol xs) then (now, TimedOut) ∷ xs else xs
+  marked now xs = if is_overdue protocol.timeout now (session_after protocol xs) then (now, TimedOut) ∷ xs else xs
 
   -- The history of a source: at each input of the bus, a mark if its session is overdue, then the frame if
   -- it is the source's.

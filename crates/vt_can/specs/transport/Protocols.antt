@@ -40,8 +40,9 @@ pub record Protocol (S F R : Type 0) : Type 0 where
   pub size : F → ℕ
   -- the step of a frame, at a time, on the session of its source
   pub step : ℕ → Option (Timed S) → F → SessionOutcome S R
-  -- the reply that ends a session at its timeout
-  pub timeout : S → R
+  -- the longest time that a session stays open without one of its frames, and the reply that then ends it
+  pub timeout : ℕ
+  pub timeout_reply : S → R
   -- the frame of a reply, from one address to another
   pub reply_frame : ℕ → ℕ → R → Frame
 

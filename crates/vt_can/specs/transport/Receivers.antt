@@ -35,7 +35,7 @@ module _ {S F R : Type 0} (protocol : Protocol S F R) where
   -- the step of a frame after the overdue sessions have ended
   abbrev pub timely_outcome : ReceiverState S → ℕ → Frame → SessionOutcome S R
   timely_outcome receiver now frame =
-      stepped protocol now (alive now (finite.get receiver.sessions (source_of frame))) (protocol.frame_in receiver.own_address frame)
+      stepped protocol now (alive protocol.timeout now (finite.get receiver.sessions (source_of frame))) (protocol.frame_in receiver.own_address frame)
 
   -- The answer of a receiver for a reply and a message. A message always has a reply.
   abbrev pub AnswersWith : ℕ → ℕ → Option R → Option Message → Heard → Type 0
@@ -65,5 +65,5 @@ module _ {S F R : Type 0} (protocol : Protocol S F R) where
   pub record TimesOut (old new : ReceiverState S) (now : ℕ) (frame : Frame) : Type 0 where
     pub source : ℕ
     pub session : S
-    pub expired : Expires old.sessions new.sessions now source session
-    pub abort : frame ≡ protocol.reply_frame old.own_address source (protocol.timeout session)
+    pub expired : Expires protocol.timeout old.sessions new.sessions now source session
+    pub abort : frame ≡ protocol.reply_frame old.own_address source (protocol.timeout_reply session)

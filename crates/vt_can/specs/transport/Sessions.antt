@@ -18,18 +18,19 @@ map_of_places address [] = finite.empty
 map_of_places address (None ∷ places) = map_of_places (suc address) places
 map_of_places address (Some x ∷ places) = finite.insert (map_of_places (suc address) places) address x
 
--- the sessions, and whether the table of the 256 addresses is allocated
+-- the sessions, whether the table of the 256 addresses is allocated, and the protocol's timeout
 pub record SessionTable (T : Type 0) : Type 0 where
   pub sessions : ByAddress T
   pub allocated : Bool
+  pub timeout : ℕ
 
 abbrev pub table_code : {T : Type 0} → Coded T → Coded (SessionTable T)
 table_code {T} code =
-    code_by (ByAddress T × Bool) (coded× (finite.code coded_ℕ (timed_code code)) coded_bool)
-    (λ t. (t.sessions, t.allocated)) (λ p. record { sessions = p.0; allocated = p.1 }) (λ _. refl)
+    code_by (ByAddress T × (Bool × ℕ)) (coded× (finite.code coded_ℕ (timed_code code)) (coded× coded_bool coded_ℕ))
+    (λ t. (t.sessions, (t.allocated, t.timeout))) (λ p. record { sessions = p.0; allocated = p.1.0; timeout = p.1.1 }) (λ _. refl)
 
-abbrev pub table_of_places : {T : Type 0} → List (Option (Timed T)) → SessionTable T
-table_of_places places = record { sessions = map_of_places 0 places; allocated = length places == 256 }
+abbrev pub table_of_places : {T : Type 0} → ℕ → List (Option (Timed T)) → SessionTable T
+table_of_places timeout places = record { sessions = map_of_places 0 places; allocated = length places == 256; timeout = timeout }
 
 -- an entry for each address or none at all, and no session's last frame is before `earliest`
 pub record ArePlaces {T : Type 0} (places : List (Option (Timed T))) (earliest : ℕ) : Type 0 where
@@ -53,10 +54,12 @@ module _ {T : Type 0} where
     pub none_above : (q : ℕ) → 256 ≤ q → finite.get sessions q ≡ None
     pub at_most : finite.len sessions ≤ 256
 
-  -- there is a session, and more than 1,250,000 microseconds have passed since its last frame
+-- Over a protocol's timeout, the longest time that a session stays open without one of its frames:
+module _ {T : Type 0} (timeout : ℕ) where
+  -- there is a session, and more than the timeout has passed since its last frame
   abbrev pub is_overdue : ℕ → Option (Timed T) → Bool
   is_overdue now None = false
-  is_overdue now (Some timed) = nat_lt 1250000 (now - timed.last)
+  is_overdue now (Some timed) = nat_lt timeout (now - timed.last)
 
   -- the session unless it is overdue
   abbrev pub alive : ℕ → Option (Timed T) → Option (Timed T)
@@ -90,9 +93,9 @@ module _ {T : Type 0} where
 
 -- The first overdue session expires, and the others are still overdue afterwards.
 pub record TheFirstExpires (T X : Type 0) : Type 0 where
-  pub some : (old new : ByAddress T) (now address : ℕ) (session : T) (what : X) → Expires old new now address session
-      → each_overdue now old what ≡ (address, what) ∷ each_overdue now new what
-  pub none : (old new : ByAddress T) (now : ℕ) (what : X) → NoneExpires old new now → each_overdue now old what ≡ []
+  pub some : (timeout : ℕ) (old new : ByAddress T) (now address : ℕ) (session : T) (what : X) → Expires timeout old new now address session
+      → each_overdue timeout now old what ≡ (address, what) ∷ each_overdue timeout now new what
+  pub none : (timeout : ℕ) (old new : ByAddress T) (now : ℕ) (what : X) → NoneExpires timeout old new now → each_overdue timeout now old what ≡ []
 
 -- After the removal of an address's session the address has none, the others are unchanged, and there is one fewer.
 pub record IsRemoved {T : Type 0} (sessions : ByAddress T) (address : ℕ) : Type 0 where

@@ -10,9 +10,6 @@ use crate::transport::first_time::earlier;
 use std::alloc::{AllocError, Global};
 use std::marker::Model;
 
-/// The longest time that a session stays open without one of its frames, in microseconds.
-const TIMEOUT: u64 = 1_250_000;
-
 /// A session, and the time of its last frame in microseconds.
 #[derive(Drop)]
 pub struct Timed<T> {
@@ -24,12 +21,14 @@ pub struct Timed<T> {
 const ADDRESSES: usize = 256;
 
 /// The sessions of a transport protocol, at most one for each of the 256 addresses. Contracts see them as a finite map from
-/// addresses, and whether the table is allocated.
+/// addresses, whether the table is allocated, and the protocol's timeout.
 ///
 /// Only `allocate` allocates. A session is found by its index, without a search.
 pub struct Sessions<T> {
     // A place for each address, or none before `allocate`.
     places: Vec<Option<Timed<T>>>,
+    // The longest time that a session stays open without one of its frames, in microseconds.
+    timeout: u64,
     // A lower bound of the times of last frames. Most calls of `expire` read nothing else.
     earliest: u64,
 }
@@ -40,6 +39,7 @@ impl<T: Drop> Drop for Sessions<T> {
     fn drop(self) {
         let Sessions {
             places: _places,
+            timeout: _timeout,
             earliest: _earliest,
         } = self;
     }
@@ -52,35 +52,35 @@ impl<T> Model for Sessions<T> {
 
     ghost coded = { table_code T.code };
 
-    ghost view = { λ a. table_of_places a.places.items };
+    ghost view = { λ a. table_of_places a.timeout a.places.items };
 
     ghost invariant = { λ a. ArePlaces a.places.items a.earliest };
 }
 
 impl<T> Timed<T> {
-    /// Whether more than 1,250,000 microseconds have passed since the last frame. A `now` before the
-    /// last frame counts as no time passed.
-    pub fn is_overdue(&self, now: u64) -> bool
-        ensures { result ≡ is_overdue now (Some self.now) }
+    // Whether more than the timeout has passed since the last frame.
+    fn is_overdue(&self, timeout: u64, now: u64) -> bool
+        ensures { result ≡ is_overdue timeout now (Some self.now) }
     {
-        now.saturating_sub(self.last) > TIMEOUT
+        now.saturating_sub(self.last) > timeout
     }
 
-    /// The first time at which the session is overdue, or `None` if no time of 64 bits is late enough.
-    pub fn overdue_from(&self) -> Option<u64>
-        ensures { IsFirstTime (λ now. is_overdue now (Some self.now) ≡ true) result }
+    // The first time at which the session is overdue, or `None` if no time of 64 bits is late enough.
+    fn overdue_from(&self, timeout: u64) -> Option<u64>
+        ensures { IsFirstTime (λ now. is_overdue timeout now (Some self.now) ≡ true) result }
     {
-        self.last.checked_add(TIMEOUT + 1)
+        self.last.checked_add(timeout)?.checked_add(1)
     }
 }
 
 impl<T> Sessions<T> {
-    /// Creates a map without sessions. Does not allocate.
-    pub fn new(alloc: Global) -> Sessions<T>
-        ensures { result ≡ record { sessions = finite.empty; allocated = false } }
+    /// Creates a map without sessions, for a protocol with this timeout in microseconds. Does not allocate.
+    pub fn new(alloc: Global, timeout: u64) -> Sessions<T>
+        ensures { result ≡ record { sessions = finite.empty; allocated = false; timeout = timeout } }
     {
         Sessions {
             places: Vec::new(alloc),
+            timeout,
             earliest: u64::MAX,
         }
     }
@@ -108,6 +108,17 @@ impl<T> Sessions<T> {
             return None;
         }
         self.places[usize::from(address)].as_ref()
+    }
+
+    /// Whether the session of an address is overdue: the last of its frames is longer ago than the timeout. A `now` before
+    /// that frame counts as no time passed. False if there is no session. docs/PROFILE.md, "Timeouts".
+    pub fn is_overdue(&self, address: u8, now: u64) -> bool
+        ensures { result ≡ is_overdue self.now.timeout now (finite.get self.now.sessions address) }
+    {
+        match self.get(address) {
+            Some(timed) => timed.is_overdue(self.timeout, now),
+            None => false,
+        }
     }
 
     /// Returns the session of an address and removes it.
@@ -147,16 +158,15 @@ impl<T> Sessions<T> {
         self.places[usize::from(address)] = None;
     }
 
-    /// Removes and returns the overdue session of the least address. A session is overdue more than
-    /// 1,250,000 microseconds after its last frame; a `now` before that frame counts as no time passed.
-    /// docs/PROFILE.md, "Timeouts".
+    /// Removes and returns the overdue session of the least address (`is_overdue`).
     pub fn expire(&mut self, now: u64) -> Option<(u8, T)>
-        ensures some { IfSome result (λ expired. Expires self.old.sessions self.new.sessions now expired.0 expired.1) }
-        ensures none { IfNone result (NoneExpires self.old.sessions self.new.sessions now) }
+        ensures some { IfSome result (λ expired. Expires self.old.timeout self.old.sessions self.new.sessions now expired.0 expired.1) }
+        ensures none { IfNone result (NoneExpires self.old.timeout self.old.sessions self.new.sessions now) }
         ensures addresses { AreOfAddresses self.old.sessions }
         ensures allocated { self.new.allocated ≡ self.old.allocated }
+        ensures timeout { self.new.timeout ≡ self.old.timeout }
     {
-        if now.saturating_sub(self.earliest) <= TIMEOUT {
+        if now.saturating_sub(self.earliest) <= self.timeout {
             return None;
         }
         let address = self.first_overdue(now)?;
@@ -167,11 +177,12 @@ impl<T> Sessions<T> {
     /// The first time at which a session is overdue, or `None` if none ever is. Reads each place of the table.
     /// docs/PROFILE.md, "Timeouts".
     pub fn overdue_from(&self) -> Option<u64>
-        ensures { IsFirstTime (SomeOverdue self.now.sessions) result }
+        ensures { IsFirstTime (SomeOverdue self.now.timeout self.now.sessions) result }
     {
+        let timeout = self.timeout;
         let mut first = None;
         for place in &self.places {
-            first = earlier(first, overdue_from(place));
+            first = earlier(first, overdue_from(place, timeout));
         }
         first
     }
@@ -179,12 +190,13 @@ impl<T> Sessions<T> {
     // Returns the least address with an overdue session. If there is none, `earliest` is exact afterwards.
     fn first_overdue(&mut self, now: u64) -> Option<u8>
         ensures same { self.new ≡ self.old }
-        ensures some { IfSome result (λ address. IsFirstOverdue self.old.sessions now address) }
-        ensures none { IfNone result ((q : ℕ) → is_overdue now (finite.get self.old.sessions q) ≡ false) }
+        ensures some { IfSome result (λ address. IsFirstOverdue self.old.timeout self.old.sessions now address) }
+        ensures none { IfNone result ((q : ℕ) → is_overdue self.old.timeout now (finite.get self.old.sessions q) ≡ false) }
     {
+        let timeout = self.timeout;
         let mut earliest = u64::MAX;
         for (address, place) in self.places.iter().enumerate() {
-            if overdue(place, now) {
+            if overdue(place, timeout, now) {
                 return Some(address as u8);
             }
             if let Some(timed) = place {
@@ -209,20 +221,20 @@ fn empty_places<T: Drop>(alloc: Global) -> Result<Vec<Option<Timed<T>>>, AllocEr
 }
 
 // The first time at which the session at a place is overdue.
-fn overdue_from<T>(place: &Option<Timed<T>>) -> Option<u64>
-    ensures { IsFirstTime (λ now. is_overdue now place.now ≡ true) result }
+fn overdue_from<T>(place: &Option<Timed<T>>, timeout: u64) -> Option<u64>
+    ensures { IsFirstTime (λ now. is_overdue timeout now place.now ≡ true) result }
 {
     match place {
-        Some(timed) => timed.overdue_from(),
+        Some(timed) => timed.overdue_from(timeout),
         None => None,
     }
 }
 
-fn overdue<T>(place: &Option<Timed<T>>, now: u64) -> bool
-    ensures { result ≡ is_overdue now place.now }
+fn overdue<T>(place: &Option<Timed<T>>, timeout: u64, now: u64) -> bool
+    ensures { result ≡ is_overdue timeout now place.now }
 {
     match place {
-        Some(timed) => timed.is_overdue(now),
+        Some(timed) => timed.is_overdue(timeout, now),
         None => false,
     }
 }

@@ -2,11 +2,10 @@
 use Rattle.std.proofs.Common.{◌≡◌, ℕ, ◌+◌, ◌<◌, ◌≤◌, ◌⊎◌, inl, inr, min, Option, Some, None, List, length, get_or, true, subst, sym, ap, ◌∙◌, arith}
 use Rattle.std.proofs.lemmas.Bool.{cases_lt, false≢true}
 use Rattle.std.proofs.Math.ListN.{get_or-eq_default}
-use Rattle.std.specs.FinMap as finite
 use Rattle.vt_can.specs.declared.transport.sessions.Timed.{Timed}
 use Rattle.vt_can.specs.transport.FirstTimes.{IsFirstTime, earlier}
 use Rattle.vt_can.specs.transport.Sessions.{SessionTable, table_of_places, is_overdue, SomeOverdue}
-use Rattle.vt_can.proofs.lemmas.transport.Places.{get-map_of_places}
+use Rattle.vt_can.proofs.lemmas.transport.Places.{overdue_in}
 
 -- two properties that hold at the same times have the same first time
 pub first_same : (P Q : ℕ → Type 0) (time : Option ℕ) → ((now : ℕ) → P now → Q now) → ((now : ℕ) → Q now → P now) → IsFirstTime P time → IsFirstTime Q time
@@ -40,53 +39,48 @@ first_either P Q (Some a) (Some b) p q = (
   ),
 )
 
-module _ {T : Type 0} where
+module _ {T : Type 0} (timeout : ℕ) where
   -- some session in the first n entries is overdue
   abbrev pub SomeOverdueBelow : List (Option (Timed T)) → ℕ → ℕ → Type 0
-  SomeOverdueBelow places n now = (q : ℕ) × ((q < n) × (is_overdue now (get_or places q None) ≡ true))
+  SomeOverdueBelow places n now = (q : ℕ) × ((q < n) × (is_overdue timeout now (get_or places q None) ≡ true))
 
   pub first_none : (places : List (Option (Timed T))) → IsFirstTime (SomeOverdueBelow places 0) None
   first_none places = first_never (SomeOverdueBelow places 0) (λ now some. let less = some.1.0 in omega (arith, less))
 
   last_or_before : (places : List (Option (Timed T))) (n now : ℕ) → SomeOverdueBelow places (n + 1) now
-      → SomeOverdueBelow places n now ⊎ (is_overdue now (get_or places n None) ≡ true)
+      → SomeOverdueBelow places n now ⊎ (is_overdue timeout now (get_or places n None) ≡ true)
   last_or_before places n now some =
-      elim (cases_lt some.0 n) as (λ _. SomeOverdueBelow places n now ⊎ (is_overdue now (get_or places n None) ≡ true)) [
+      elim (cases_lt some.0 n) as (λ _. SomeOverdueBelow places n now ⊎ (is_overdue timeout now (get_or places n None) ≡ true)) [
         | inl less ↦ inl (some.0, (less, some.1.1))
         | inr more ↦
             let within = some.1.0 in
             let same : some.0 ≡ n = omega (arith, within, more) in
-            inr (subst (λ (k : ℕ). is_overdue now (get_or places k None) ≡ true) same some.1.1)
+            inr (subst (λ (k : ℕ). is_overdue timeout now (get_or places k None) ≡ true) same some.1.1)
       ]
 
-  one_of : (places : List (Option (Timed T))) (n now : ℕ) → SomeOverdueBelow places n now ⊎ (is_overdue now (get_or places n None) ≡ true)
+  one_of : (places : List (Option (Timed T))) (n now : ℕ) → SomeOverdueBelow places n now ⊎ (is_overdue timeout now (get_or places n None) ≡ true)
       → SomeOverdueBelow places (n + 1) now
   one_of places n now (inl some) = (some.0, ((let less = some.1.0 in omega (arith, less)), some.1.1))
   one_of places n now (inr is) = (n, (omega arith, is))
 
   pub first_more : (places : List (Option (Timed T))) (n : ℕ) (x : Option (Timed T)) (a b : Option ℕ) → x ≡ get_or places n None
-      → IsFirstTime (SomeOverdueBelow places n) a → IsFirstTime (λ now. is_overdue now x ≡ true) b → IsFirstTime (SomeOverdueBelow places (n + 1)) (earlier a b)
+      → IsFirstTime (SomeOverdueBelow places n) a → IsFirstTime (λ now. is_overdue timeout now x ≡ true) b → IsFirstTime (SomeOverdueBelow places (n + 1)) (earlier a b)
   first_more places n x a b read before here =
-      let at = subst (λ (y : Option (Timed T)). IsFirstTime (λ now. is_overdue now y ≡ true) b) read here in
-      first_same (λ now. SomeOverdueBelow places n now ⊎ (is_overdue now (get_or places n None) ≡ true)) (SomeOverdueBelow places (n + 1)) (earlier a b)
+      let at = subst (λ (y : Option (Timed T)). IsFirstTime (λ now. is_overdue timeout now y ≡ true) b) read here in
+      first_same (λ now. SomeOverdueBelow places n now ⊎ (is_overdue timeout now (get_or places n None) ≡ true)) (SomeOverdueBelow places (n + 1)) (earlier a b)
       (one_of places n) (last_or_before places n)
-      (first_either (SomeOverdueBelow places n) (λ now. is_overdue now (get_or places n None) ≡ true) a b before at)
+      (first_either (SomeOverdueBelow places n) (λ now. is_overdue timeout now (get_or places n None) ≡ true) a b before at)
 
-  in_map : (places : List (Option (Timed T))) (q now : ℕ) (table : SessionTable T) → table_of_places places ≡ table
-      → is_overdue now (finite.get table.sessions q) ≡ is_overdue now (get_or places q None)
-  in_map places q now table is =
-      ap (λ (t : SessionTable T). is_overdue now (finite.get t.sessions q)) (sym is) ∙ ap (is_overdue now) (get-map_of_places places q)
-
-  below_all : (places : List (Option (Timed T))) (n q now : ℕ) → length places ≤ n → is_overdue now (get_or places q None) ≡ true → q < n
+  below_all : (places : List (Option (Timed T))) (n q now : ℕ) → length places ≤ n → is_overdue timeout now (get_or places q None) ≡ true → q < n
   below_all places n q now all is =
       elim (cases_lt q n) as (λ _. q < n) [
         | inl less ↦ less
-        | inr more ↦ absurd (false≢true (sym (ap (is_overdue now) (get_or-eq_default places None {n = q} (omega (arith, all, more)))) ∙ is))
+        | inr more ↦ absurd (false≢true (sym (ap (is_overdue timeout now) (get_or-eq_default places None {n = q} (omega (arith, all, more)))) ∙ is))
       ]
 
-  pub first_of_all : (places : List (Option (Timed T))) (n : ℕ) (time : Option ℕ) (table : SessionTable T) → length places ≤ n → table_of_places places ≡ table
-      → IsFirstTime (SomeOverdueBelow places n) time → IsFirstTime (SomeOverdue table.sessions) time
+  pub first_of_all : (places : List (Option (Timed T))) (n : ℕ) (time : Option ℕ) (table : SessionTable T) → length places ≤ n → table_of_places timeout places ≡ table
+      → IsFirstTime (SomeOverdueBelow places n) time → IsFirstTime (SomeOverdue table.timeout table.sessions) time
   first_of_all places n time table all is =
-      first_same (SomeOverdueBelow places n) (SomeOverdue table.sessions) time
-      (λ now some. (some.0, in_map places some.0 now table is ∙ some.1.1))
-      (λ now some. let late = sym (in_map places some.0 now table is) ∙ some.1 in (some.0, (below_all places n some.0 now all late, late)))
+      first_same (SomeOverdueBelow places n) (SomeOverdue table.timeout table.sessions) time
+      (λ now some. (some.0, overdue_in timeout places now some.0 table is ∙ some.1.1))
+      (λ now some. let late = sym (overdue_in timeout places now some.0 table is) ∙ some.1 in (some.0, (below_all places n some.0 now all late, late)))

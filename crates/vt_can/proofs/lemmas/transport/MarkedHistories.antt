@@ -18,8 +18,8 @@ module _ {S F R : Type 0} (protocol : Protocol S F R) where
   aged_by now xs true = refl
   aged_by now xs false = refl
 
-  aged : (now : ℕ) (xs : List (ℕ × SessionEvent F)) → alive now (session_after protocol xs) ≡ session_after protocol (marked protocol now xs)
-  aged now xs = aged_by now xs (is_overdue now (session_after protocol xs))
+  aged : (now : ℕ) (xs : List (ℕ × SessionEvent F)) → alive protocol.timeout now (session_after protocol xs) ≡ session_after protocol (marked protocol now xs)
+  aged now xs = aged_by now xs (is_overdue protocol.timeout now (session_after protocol xs))
 
   session_with_frame : (now : ℕ) (frame : Option F) (xs : List (ℕ × SessionEvent F))
       → session_after_frame protocol now (session_after protocol xs) frame ≡ session_after protocol (with_frame now frame xs)
@@ -27,13 +27,13 @@ module _ {S F R : Type 0} (protocol : Protocol S F R) where
   session_with_frame now (Some frame) xs = refl
 
   before : (source now : ℕ) (inputs : List (BusFrame F)) → session_of protocol source inputs ≡ session_after protocol (history_of protocol source inputs)
-      → alive now (session_of protocol source inputs) ≡ session_after protocol (marked protocol now (history_of protocol source inputs))
-  before source now inputs same = ap (alive now) same ∙ aged now (history_of protocol source inputs)
+      → alive protocol.timeout now (session_of protocol source inputs) ≡ session_after protocol (marked protocol now (history_of protocol source inputs))
+  before source now inputs same = ap (alive protocol.timeout now) same ∙ aged now (history_of protocol source inputs)
 
   session_with : (source : ℕ) (i : BusFrame F) (inputs : List (BusFrame F)) (from : Bool)
-      → alive i.time (session_of protocol source inputs) ≡ session_after protocol (marked protocol i.time (history_of protocol source inputs))
+      → alive protocol.timeout i.time (session_of protocol source inputs) ≡ session_after protocol (marked protocol i.time (history_of protocol source inputs))
       → ◌≡◌ {A = Option (Timed S)}
-      (cond from (session_after_frame protocol i.time (alive i.time (session_of protocol source inputs)) i.frame) (alive i.time (session_of protocol source inputs)))
+      (cond from (session_after_frame protocol i.time (alive protocol.timeout i.time (session_of protocol source inputs)) i.frame) (alive protocol.timeout i.time (session_of protocol source inputs)))
       (session_after protocol (cond from (with_frame i.time i.frame (marked protocol i.time (history_of protocol source inputs))) (marked protocol i.time (history_of protocol source inputs))))
   session_with source i inputs true same =
       ap (λ (current : Option (Timed S)). session_after_frame protocol i.time current i.frame) same
@@ -56,7 +56,7 @@ module _ {S F R : Type 0} (protocol : Protocol S F R) where
       (gives : (xs : List (ℕ × SessionEvent F)) (x : ℕ × SessionEvent F) (message : Message)
       → ((event_step protocol x.0 (session_after protocol xs) x.1).message ≡ Some message) ↔ IsWhole (untimed xs) x.1 message) where
     whole_frame : (source : ℕ) (i : BusFrame F) (inputs : List (BusFrame F)) (message : Message) (frame : Option F) → i.frame ≡ frame → i.source ≡ source
-        → message_of_frame protocol i.time (alive i.time (session_of protocol source inputs)) frame ≡ Some message
+        → message_of_frame protocol i.time (alive protocol.timeout i.time (session_of protocol source inputs)) frame ≡ Some message
         → Completes protocol IsWhole source i inputs message
     whole_frame source i inputs message None frame_is from is = absurd cc
     whole_frame source i inputs message (Some frame) frame_is from is = record {
@@ -68,7 +68,7 @@ module _ {S F R : Type 0} (protocol : Protocol S F R) where
     }
 
     whole_input : (source : ℕ) (i : BusFrame F) (inputs : List (BusFrame F)) (message : Message) (from : Bool) → is_from source i ≡ from
-        → ◌≡◌ {A = Option Message} (cond from (message_of_frame protocol i.time (alive i.time (session_of protocol source inputs)) i.frame) None) (Some message)
+        → ◌≡◌ {A = Option Message} (cond from (message_of_frame protocol i.time (alive protocol.timeout i.time (session_of protocol source inputs)) i.frame) None) (Some message)
         → Completes protocol IsWhole source i inputs message
     whole_input source i inputs message true from is = whole_frame source i inputs message i.frame refl (eqb-true _ _ from) is
     whole_input source i inputs message false from is = absurd cc
@@ -78,8 +78,8 @@ module _ {S F R : Type 0} (protocol : Protocol S F R) where
     completed source i inputs message c =
         let whole : (protocol.step i.time (session_after protocol (marked protocol i.time (history_of protocol source inputs))) c.frame).message ≡ Some message =
         (gives (marked protocol i.time (history_of protocol source inputs)) (i.time, Came c.frame) message).1 c.whole in
-        ap (λ (b : Bool). cond b (message_of_frame protocol i.time (alive i.time (session_of protocol source inputs)) i.frame) None) (eq-eqb _ _ c.from)
-        ∙ ap (message_of_frame protocol i.time (alive i.time (session_of protocol source inputs))) c.frame_is
+        ap (λ (b : Bool). cond b (message_of_frame protocol i.time (alive protocol.timeout i.time (session_of protocol source inputs)) i.frame) None) (eq-eqb _ _ c.from)
+        ∙ ap (message_of_frame protocol i.time (alive protocol.timeout i.time (session_of protocol source inputs))) c.frame_is
         ∙ ap (λ (current : Option (Timed S)). (protocol.step i.time current c.frame).message) (before source i.time inputs (sessions_same source inputs))
         ∙ whole
 

@@ -9,18 +9,18 @@ use Rattle.vt_can.specs.transport.Protocols.{Protocol}
 use Rattle.vt_can.specs.transport.Bus.{session_after_frame, message_of_frame, BusFrame, IsInOrder, is_from, session_of, message_at, messages_of, MessagesDependOnTheirSource}
 
 -- an overdue session stays overdue
-module _ {T : Type 0} where
-  alive_at : (earlier now : ℕ) (timed : Timed T) (overdue : Bool) → is_overdue earlier (Some timed) ≡ overdue → earlier ≤ now
-      → alive now (alive earlier (Some timed)) ≡ alive now (Some timed)
+module _ {T : Type 0} (timeout : ℕ) where
+  alive_at : (earlier now : ℕ) (timed : Timed T) (overdue : Bool) → is_overdue timeout earlier (Some timed) ≡ overdue → earlier ≤ now
+      → alive timeout now (alive timeout earlier (Some timed)) ≡ alive timeout now (Some timed)
   alive_at earlier now timed false not_overdue after =
-      ap (λ (b : Bool). alive now (cond b None (Some timed))) not_overdue
+      ap (λ (b : Bool). alive timeout now (cond b None (Some timed))) not_overdue
   alive_at earlier now timed true overdue after =
       let late = ltb-true _ _ overdue in
-      let still : is_overdue now (Some timed) ≡ true = lt-ltb _ _ (omega arith) in
-      ap (λ (b : Bool). alive now (cond b None (Some timed))) overdue
+      let still : is_overdue timeout now (Some timed) ≡ true = lt-ltb _ _ (omega arith) in
+      ap (λ (b : Bool). alive timeout now (cond b None (Some timed))) overdue
       ∙ sym (ap (λ (b : Bool). cond b None (Some timed)) still)
 
-  alive_again : (earlier now : ℕ) (current : Option (Timed T)) → earlier ≤ now → alive now (alive earlier current) ≡ alive now current
+  alive_again : (earlier now : ℕ) (current : Option (Timed T)) → earlier ≤ now → alive timeout now (alive timeout earlier current) ≡ alive timeout now current
   alive_again earlier now None after = refl
   alive_again earlier now (Some timed) after = alive_at earlier now timed _ refl after
 
@@ -42,15 +42,15 @@ module _ {S F R : Type 0} (protocol : Protocol S F R) where
   from_source-other source i inputs from = rw from
 
   session_of-same : (source : ℕ) (i : BusFrame F) (inputs : List (BusFrame F)) → is_from source i ≡ true
-      → session_of protocol source (i ∷ inputs) ≡ session_after_frame protocol i.time (alive i.time (session_of protocol source inputs)) i.frame
+      → session_of protocol source (i ∷ inputs) ≡ session_after_frame protocol i.time (alive protocol.timeout i.time (session_of protocol source inputs)) i.frame
   session_of-same source i inputs from = rw from
 
   session_of-other : (source : ℕ) (i : BusFrame F) (inputs : List (BusFrame F)) → is_from source i ≡ false
-      → session_of protocol source (i ∷ inputs) ≡ alive i.time (session_of protocol source inputs)
+      → session_of protocol source (i ∷ inputs) ≡ alive protocol.timeout i.time (session_of protocol source inputs)
   session_of-other source i inputs from = rw from
 
   message_at-same : (source : ℕ) (i : BusFrame F) (inputs : List (BusFrame F)) → is_from source i ≡ true
-      → message_at protocol source i inputs ≡ message_of_frame protocol i.time (alive i.time (session_of protocol source inputs)) i.frame
+      → message_at protocol source i inputs ≡ message_of_frame protocol i.time (alive protocol.timeout i.time (session_of protocol source inputs)) i.frame
   message_at-same source i inputs from = rw from
 
   message_at-other : (source : ℕ) (i : BusFrame F) (inputs : List (BusFrame F)) → is_from source i ≡ false → ◌≡◌ {A = Option Message} (message_at protocol source i inputs) None
@@ -59,29 +59,29 @@ module _ {S F R : Type 0} (protocol : Protocol S F R) where
   -- all inputs
 
   same_with : (source now : ℕ) (i : BusFrame F) (inputs : List (BusFrame F)) (from : Bool) → is_from source i ≡ from → i.time ≤ now
-      → alive i.time (session_of protocol source inputs) ≡ alive i.time (session_of protocol source (from_source source inputs))
-      → alive now (session_of protocol source inputs) ≡ alive now (session_of protocol source (from_source source inputs))
-      → alive now (session_of protocol source (i ∷ inputs)) ≡ alive now (session_of protocol source (from_source source (i ∷ inputs)))
+      → alive protocol.timeout i.time (session_of protocol source inputs) ≡ alive protocol.timeout i.time (session_of protocol source (from_source source inputs))
+      → alive protocol.timeout now (session_of protocol source inputs) ≡ alive protocol.timeout now (session_of protocol source (from_source source inputs))
+      → alive protocol.timeout now (session_of protocol source (i ∷ inputs)) ≡ alive protocol.timeout now (session_of protocol source (from_source source (i ∷ inputs)))
   same_with source now i inputs true from after here later =
-      ap (alive now) (session_of-same source i inputs from
+      ap (alive protocol.timeout now) (session_of-same source i inputs from
       ∙ ap (λ (current : Option (Timed S)). session_after_frame protocol i.time current i.frame) here
       ∙ sym (session_of-same source i (from_source source inputs) from)
       ∙ sym (ap (session_of protocol source) (from_source-same source i inputs from)))
   same_with source now i inputs false from after here later =
-      ap (alive now) (session_of-other source i inputs from)
-      ∙ alive_again i.time now (session_of protocol source inputs) after
+      ap (alive protocol.timeout now) (session_of-other source i inputs from)
+      ∙ alive_again protocol.timeout i.time now (session_of protocol source inputs) after
       ∙ later
-      ∙ sym (ap (λ (is : List (BusFrame F)). alive now (session_of protocol source is)) (from_source-other source i inputs from))
+      ∙ sym (ap (λ (is : List (BusFrame F)). alive protocol.timeout now (session_of protocol source is)) (from_source-other source i inputs from))
 
   same_session : (source now : ℕ) (inputs : List (BusFrame F)) → IsInOrder now inputs
-      → alive now (session_of protocol source inputs) ≡ alive now (session_of protocol source (from_source source inputs))
+      → alive protocol.timeout now (session_of protocol source inputs) ≡ alive protocol.timeout now (session_of protocol source (from_source source inputs))
   same_session source now [] order = refl
   same_session source now (i ∷ inputs) order =
       same_with source now i inputs _ refl order.0 (same_session source i.time inputs order.1)
       (same_session source now inputs (in_order_later i.time now inputs order.1 order.0))
 
   messages_with : (source : ℕ) (i : BusFrame F) (inputs : List (BusFrame F)) (from : Bool) → is_from source i ≡ from
-      → alive i.time (session_of protocol source inputs) ≡ alive i.time (session_of protocol source (from_source source inputs))
+      → alive protocol.timeout i.time (session_of protocol source inputs) ≡ alive protocol.timeout i.time (session_of protocol source (from_source source inputs))
       → messages_of protocol source inputs ≡ messages_of protocol source (from_source source inputs)
       → messages_of protocol source (i ∷ inputs) ≡ messages_of protocol source (from_source source (i ∷ inputs))
   messages_with source i inputs true from here rest =

@@ -49,21 +49,22 @@ module _ {T : Type 0} where
         omega (arith, some);
   }
 
-  expired_others : (old new : ByAddress T) (now address : ℕ) (session : T) → Expires old new now address session
-      → (q : ℕ) → q ≢ address → is_overdue now (finite.get new q) ≡ is_overdue now (finite.get old q)
+module _ {T : Type 0} (timeout : ℕ) where
+  expired_others : (old new : ByAddress T) (now address : ℕ) (session : T) → Expires timeout old new now address session
+      → (q : ℕ) → q ≢ address → is_overdue timeout now (finite.get new q) ≡ is_overdue timeout now (finite.get old q)
   expired_others old new now address session expired q apart =
-      ap (λ (m : ByAddress T). is_overdue now (finite.get m q)) expired.removed ∙ ap (is_overdue now) (get-removed_other old address q apart)
+      ap (λ (m : ByAddress T). is_overdue timeout now (finite.get m q)) expired.removed ∙ ap (is_overdue timeout now) (get-removed_other old address q apart)
 
-  expired_gone : (old new : ByAddress T) (now address : ℕ) (session : T) → Expires old new now address session
-      → is_overdue now (finite.get new address) ≡ false
+  expired_gone : (old new : ByAddress T) (now address : ℕ) (session : T) → Expires timeout old new now address session
+      → is_overdue timeout now (finite.get new address) ≡ false
   expired_gone old new now address session expired =
-      ap (λ (m : ByAddress T). is_overdue now (finite.get m address)) expired.removed ∙ ap (is_overdue now) (get-removed old address)
+      ap (λ (m : ByAddress T). is_overdue timeout now (finite.get m address)) expired.removed ∙ ap (is_overdue timeout now) (get-removed old address)
 
 pub first_expires : (T X : Type 0) → TheFirstExpires T X
 first_expires T X = record {
-  some = λ old new now address session what expired.
-      each-tail what (λ q. is_overdue now (finite.get old q)) (λ q. is_overdue now (finite.get new q)) address 256
-      expired.first.overdue expired.first.least (expired_gone old new now address session expired)
-      (expired_others old new now address session expired) expired.small;
-  none = λ old new now what none. each-none what (λ q. is_overdue now (finite.get old q)) 256 (λ q h. none.none q);
+  some = λ timeout old new now address session what expired.
+      each-tail what (λ q. is_overdue timeout now (finite.get old q)) (λ q. is_overdue timeout now (finite.get new q)) address 256
+      expired.first.overdue expired.first.least (expired_gone timeout old new now address session expired)
+      (expired_others timeout old new now address session expired) expired.small;
+  none = λ timeout old new now what none. each-none what (λ q. is_overdue timeout now (finite.get old q)) 256 (λ q h. none.none q);
 }

@@ -192,52 +192,6 @@ module _ {T : Type 0} where
         | inr k ↦ (let past = get_or-eq_default places None {n = q} (omega arith) in absurd cc)
       ]
 
-  overdue_here : (places : List (Option (Timed T))) (now i : ℕ) (x : Option (Timed T)) (b : Bool) → i < length places
-      → b ≡ is_overdue now (get_or places i x) → is_overdue now (get_or places i None) ≡ b
-  overdue_here places now i x b h is =
-      ap (is_overdue now) (sym (get_or_default places i x None h)) ∙ sym is
-
-  pub none_overdue_more : (places : List (Option (Timed T))) (now i : ℕ) (x : Option (Timed T)) (b : Bool)
-      → ((q : ℕ) → q < i → is_overdue now (get_or places q None) ≡ false) → i < length places
-      → b ≡ is_overdue now (get_or places i x) → b ≡ false → (q : ℕ) → q < i + 1 → is_overdue now (get_or places q None) ≡ false
-  none_overdue_more places now i x b before h is fresh =
-      below_more _ _ before (overdue_here places now i x b h is ∙ fresh)
-
-  overdue_in : (places : List (Option (Timed T))) (now q : ℕ) (map : ByAddress T) → map_of_places 0 places ≡ map
-      → is_overdue now (finite.get map q) ≡ is_overdue now (get_or places q None)
-  overdue_in places now q map is =
-      ap (λ (m : ByAddress T). is_overdue now (finite.get m q)) (sym is) ∙ ap (is_overdue now) (get-map_of_places places q)
-
-  pub none_overdue : (places : List (Option (Timed T))) (now i : ℕ) (map : ByAddress T)
-      → ((q : ℕ) → q < i → is_overdue now (get_or places q None) ≡ false) → length places ≤ i → map_of_places 0 places ≡ map
-      → (q : ℕ) → is_overdue now (finite.get map q) ≡ false
-  none_overdue places now i map before h is q =
-      overdue_in places now q map is
-      ∙ elim (cases_lt q i) [
-        | inl k ↦ before q k
-        | inr k ↦ ap (is_overdue now) (get_or-eq_default places None {n = q} (omega arith))
-      ]
-
-  pub first_overdue_at : (places : List (Option (Timed T))) (now i a : ℕ) (x : Option (Timed T)) (b : Bool) (map : ByAddress T)
-      → ((q : ℕ) → q < i → is_overdue now (get_or places q None) ≡ false) → i < length places
-      → b ≡ is_overdue now (get_or places i x) → b ≡ true → map_of_places 0 places ≡ map → i ≡ a → IsFirstOverdue map now a
-  first_overdue_at places now i a x b map before h is late map_is same = record {
-    overdue = overdue_in places now a map map_is
-        ∙ ap (λ (k : ℕ). is_overdue now (get_or places k None)) (sym same) ∙ overdue_here places now i x b h is ∙ late;
-    least = λ q k. overdue_in places now q map map_is ∙ before q (omega arith);
-  }
-
-  bounded_not_overdue : (timed : Option (Timed T)) (now earliest : ℕ) → ((t : Timed T) → timed ≡ Some t → earliest ≤ t.last)
-      → now - earliest ≤ 1250000 → is_overdue now timed ≡ false
-  bounded_not_overdue None now earliest bound h = refl
-  bounded_not_overdue (Some t) now earliest bound h =
-      let early : earliest ≤ t.last = bound t refl in le-ltb _ _ (omega arith)
-
-  pub not_overdue : (places : List (Option (Timed T))) (now earliest : ℕ) (map : ByAddress T) → ArePlaces places earliest
-      → now - earliest ≤ 1250000 → map_of_places 0 places ≡ map → (q : ℕ) → is_overdue now (finite.get map q) ≡ false
-  not_overdue places now earliest map placed h is q =
-      overdue_in places now q map is ∙ bounded_not_overdue (get_or places q None) now earliest (placed.bound q) h
-
   pub ArePlaces-bound : (places : List (Option (Timed T))) (earliest lower : ℕ) (map : ByAddress T) → ArePlaces places earliest
       → map_of_places 0 places ≡ map → ((q : ℕ) (timed : Timed T) → finite.get map q ≡ Some timed → lower ≤ timed.last) → ArePlaces places lower
   ArePlaces-bound places earliest lower map placed is bound = record {
@@ -247,44 +201,8 @@ module _ {T : Type 0} where
         bound q timed (ap (λ (m : ByAddress T). finite.get m q) (sym is) ∙ get-map_of_places places q ∙ there);
   }
 
-  -- ---- results of the calls of `Sessions`, as tables
-
-  pub map_in : (places : List (Option (Timed T))) (table : SessionTable T) → table_of_places places ≡ table → map_of_places 0 places ≡ table.sessions
-  map_in places table is = ap (λ (t : SessionTable T). t.sessions) is
-
-  with_map : (places later : List (Option (Timed T))) (table : SessionTable T) (map : ByAddress T) → table_of_places places ≡ table
-      → length later ≡ length places → map_of_places 0 later ≡ map → table_of_places later ≡ record table { sessions = map }
-  with_map places later table map is same made =
-      ap₂ (λ (m : ByAddress T) (b : Bool). record { sessions = m; allocated = b }) made
-      (ap (λ (n : ℕ). n == 256) same ∙ ap (λ (t : SessionTable T). t.allocated) is)
-
   pub inside_table : (places : List (Option (Timed T))) (earliest i : ℕ) → ArePlaces places earliest → length places ≢ 0 → i < 256 → i < length places
   inside_table places earliest i placed some small = let all = placed.all some in omega (arith, all)
-
-  pub table_read : (places : List (Option (Timed T))) (i a : ℕ) (x d : Option (Timed T)) (table : SessionTable T)
-      → x ≡ get_or places i d → i ≡ a → i < length places → table_of_places places ≡ table → x ≡ finite.get table.sessions a
-  table_read places i a x d table read same h is = place_read places i a x d table.sessions read same h (map_in places table is)
-
-  pub table_removed : (places : List (Option (Timed T))) (i a : ℕ) (x : Option (Timed T)) (table : SessionTable T)
-      → x ≡ None → i ≡ a → i < length places → table_of_places places ≡ table
-      → table_of_places (set places i x) ≡ record table { sessions = finite.remove table.sessions a }
-  table_removed places i a x table none same h is =
-      with_map places (set places i x) table _ is (length-set places i x) (place_removed places i a x table.sessions none same h (map_in places table is))
-
-  pub table_put : (places : List (Option (Timed T))) (i a : ℕ) (x : Timed T) (table : SessionTable T)
-      → i ≡ a → i < length places → table_of_places places ≡ table
-      → table_of_places (set places i (Some x)) ≡ record table { sessions = finite.insert table.sessions a x }
-  table_put places i a x table same h is =
-      with_map places (set places i (Some x)) table _ is (length-set places i (Some x)) (place_put places i a x table.sessions same h (map_in places table is))
-
-  -- a table without places has no sessions, and a removal changes nothing
-  no_places : (places : List (Option (Timed T))) (table : SessionTable T) → length places ≡ 0 → table_of_places places ≡ table → table.sessions ≡ finite.empty
-  no_places places table none is = sym (map_in places table is) ∙ ap (map_of_places 0) (nil_from_length places none)
-
-  pub read_none : (places : List (Option (Timed T))) (a : ℕ) (table : SessionTable T) → length places ≡ 0 → table_of_places places ≡ table
-      → None ≡ finite.get table.sessions a
-  read_none places a table none is =
-      sym (ap (λ (m : ByAddress T). finite.get m a) (no_places places table none is) ∙ finite.get-empty nat_cmp a)
 
   removed_absent : (m : ByAddress T) (a : ℕ) → m ≡ finite.empty → m ≡ finite.remove m a
   removed_absent m a is = finite.same_map nat_cmp_total finite.nat_cmp-IsAntisymmetric _ _ (λ q.
@@ -292,21 +210,108 @@ module _ {T : Type 0} where
       absent q ∙ sym (finite.get-remove nat_cmp_total m a q ∙ ap (λ (b : Bool). cond b None (finite.get m q)) (unsigned_tied q a)
       ∙ ap (cond (eqb q a) None) (absent q) ∙ both_none (eqb q a)))
 
-  pub removed_none : (places : List (Option (Timed T))) (a : ℕ) (table : SessionTable T) → length places ≡ 0 → table_of_places places ≡ table
-      → table_of_places places ≡ record table { sessions = finite.remove table.sessions a }
+module _ {T : Type 0} (timeout : ℕ) where
+  overdue_here : (places : List (Option (Timed T))) (now i : ℕ) (x : Option (Timed T)) (b : Bool) → i < length places
+      → b ≡ is_overdue timeout now (get_or places i x) → is_overdue timeout now (get_or places i None) ≡ b
+  overdue_here places now i x b h is =
+      ap (is_overdue timeout now) (sym (get_or_default places i x None h)) ∙ sym is
+
+  pub none_overdue_more : (places : List (Option (Timed T))) (now i : ℕ) (x : Option (Timed T)) (b : Bool)
+      → ((q : ℕ) → q < i → is_overdue timeout now (get_or places q None) ≡ false) → i < length places
+      → b ≡ is_overdue timeout now (get_or places i x) → b ≡ false → (q : ℕ) → q < i + 1 → is_overdue timeout now (get_or places q None) ≡ false
+  none_overdue_more places now i x b before h is fresh =
+      below_more _ _ before (overdue_here places now i x b h is ∙ fresh)
+
+  pub overdue_in : (places : List (Option (Timed T))) (now q : ℕ) (table : SessionTable T) → table_of_places timeout places ≡ table
+      → is_overdue table.timeout now (finite.get table.sessions q) ≡ is_overdue timeout now (get_or places q None)
+  overdue_in places now q table is =
+      ap (λ (t : SessionTable T). is_overdue t.timeout now (finite.get t.sessions q)) (sym is) ∙ ap (is_overdue timeout now) (get-map_of_places places q)
+
+  pub none_overdue : (places : List (Option (Timed T))) (now i : ℕ) (table : SessionTable T)
+      → ((q : ℕ) → q < i → is_overdue timeout now (get_or places q None) ≡ false) → length places ≤ i → table_of_places timeout places ≡ table
+      → (q : ℕ) → is_overdue table.timeout now (finite.get table.sessions q) ≡ false
+  none_overdue places now i table before h is q =
+      overdue_in places now q table is
+      ∙ elim (cases_lt q i) [
+        | inl k ↦ before q k
+        | inr k ↦ ap (is_overdue timeout now) (get_or-eq_default places None {n = q} (omega arith))
+      ]
+
+  pub first_overdue_at : (places : List (Option (Timed T))) (now i a : ℕ) (x : Option (Timed T)) (b : Bool) (table : SessionTable T)
+      → ((q : ℕ) → q < i → is_overdue timeout now (get_or places q None) ≡ false) → i < length places
+      → b ≡ is_overdue timeout now (get_or places i x) → b ≡ true → table_of_places timeout places ≡ table → i ≡ a → IsFirstOverdue table.timeout table.sessions now a
+  first_overdue_at places now i a x b table before h is late table_is same = record {
+    overdue = overdue_in places now a table table_is
+        ∙ ap (λ (k : ℕ). is_overdue timeout now (get_or places k None)) (sym same) ∙ overdue_here places now i x b h is ∙ late;
+    least = λ q k. overdue_in places now q table table_is ∙ before q (omega arith);
+  }
+
+  bounded_not_overdue : (timed : Option (Timed T)) (now earliest : ℕ) → ((t : Timed T) → timed ≡ Some t → earliest ≤ t.last)
+      → now - earliest ≤ timeout → is_overdue timeout now timed ≡ false
+  bounded_not_overdue None now earliest bound h = refl
+  bounded_not_overdue (Some t) now earliest bound h =
+      let early : earliest ≤ t.last = bound t refl in le-ltb _ _ (omega arith)
+
+  pub not_overdue : (places : List (Option (Timed T))) (now earliest : ℕ) (table : SessionTable T) → ArePlaces places earliest
+      → now - earliest ≤ timeout → table_of_places timeout places ≡ table → (q : ℕ) → is_overdue table.timeout now (finite.get table.sessions q) ≡ false
+  not_overdue places now earliest table placed h is q =
+      overdue_in places now q table is ∙ bounded_not_overdue (get_or places q None) now earliest (placed.bound q) h
+
+module _ {T : Type 0} {timeout : ℕ} where
+  -- ---- results of the calls of `Sessions`, as tables
+
+  pub map_in : (places : List (Option (Timed T))) (table : SessionTable T) → table_of_places timeout places ≡ table → map_of_places 0 places ≡ table.sessions
+  map_in places table is = ap (λ (t : SessionTable T). t.sessions) is
+
+  with_map : (places later : List (Option (Timed T))) (table : SessionTable T) (map : ByAddress T) → table_of_places timeout places ≡ table
+      → length later ≡ length places → map_of_places 0 later ≡ map → table_of_places timeout later ≡ record table { sessions = map }
+  with_map places later table map is same made =
+      let changed : table_of_places timeout later ≡ record (table_of_places timeout places) { sessions = map } =
+      ap₂ (λ (m : ByAddress T) (n : ℕ). record { sessions = m; allocated = n == 256; timeout = timeout }) made same in
+      changed ∙ ap (λ (t : SessionTable T). record t { sessions = map }) is
+
+  pub table_read : (places : List (Option (Timed T))) (i a : ℕ) (x d : Option (Timed T)) (table : SessionTable T)
+      → x ≡ get_or places i d → i ≡ a → i < length places → table_of_places timeout places ≡ table → x ≡ finite.get table.sessions a
+  table_read places i a x d table read same h is = place_read places i a x d table.sessions read same h (map_in places table is)
+
+  pub table_removed : (places : List (Option (Timed T))) (i a : ℕ) (x : Option (Timed T)) (table : SessionTable T)
+      → x ≡ None → i ≡ a → i < length places → table_of_places timeout places ≡ table
+      → table_of_places timeout (set places i x) ≡ record table { sessions = finite.remove table.sessions a }
+  table_removed places i a x table none same h is =
+      with_map places (set places i x) table _ is (length-set places i x) (place_removed places i a x table.sessions none same h (map_in places table is))
+
+  pub table_put : (places : List (Option (Timed T))) (i a : ℕ) (x : Timed T) (table : SessionTable T)
+      → i ≡ a → i < length places → table_of_places timeout places ≡ table
+      → table_of_places timeout (set places i (Some x)) ≡ record table { sessions = finite.insert table.sessions a x }
+  table_put places i a x table same h is =
+      with_map places (set places i (Some x)) table _ is (length-set places i (Some x)) (place_put places i a x table.sessions same h (map_in places table is))
+
+  -- a table without places has no sessions, and a removal changes nothing
+  no_places : (places : List (Option (Timed T))) (table : SessionTable T) → length places ≡ 0 → table_of_places timeout places ≡ table → table.sessions ≡ finite.empty
+  no_places places table none is = sym (map_in places table is) ∙ ap (map_of_places 0) (nil_from_length places none)
+
+  pub read_none : (places : List (Option (Timed T))) (a : ℕ) (table : SessionTable T) → length places ≡ 0 → table_of_places timeout places ≡ table
+      → None ≡ finite.get table.sessions a
+  read_none places a table none is =
+      sym (ap (λ (m : ByAddress T). finite.get m a) (no_places places table none is) ∙ finite.get-empty nat_cmp a)
+
+  pub removed_none : (places : List (Option (Timed T))) (a : ℕ) (table : SessionTable T) → length places ≡ 0 → table_of_places timeout places ≡ table
+      → table_of_places timeout places ≡ record table { sessions = finite.remove table.sessions a }
   removed_none places a table none is =
       is ∙ ap (λ (m : ByAddress T). record table { sessions = m }) (removed_absent table.sessions a (no_places places table none is))
 
   pub is_allocated : (places : List (Option (Timed T))) (earliest : ℕ) (table : SessionTable T) → ArePlaces places earliest → length places ≢ 0
-      → table_of_places places ≡ table → table.allocated ≡ true
+      → table_of_places timeout places ≡ table → table.allocated ≡ true
   is_allocated places earliest table placed some is = sym (ap (λ (t : SessionTable T). t.allocated) is) ∙ eq-eqb (length places) 256 (placed.all some)
 
-  pub has_places : (places : List (Option (Timed T))) (table : SessionTable T) → table.allocated ≡ true → table_of_places places ≡ table → length places ≡ 256
+  pub has_places : (places : List (Option (Timed T))) (table : SessionTable T) → table.allocated ≡ true → table_of_places timeout places ≡ table → length places ≡ 256
   has_places places table allocated is = eqb-true (length places) 256 (ap (λ (t : SessionTable T). t.allocated) is ∙ allocated)
 
   -- the table after its allocation
-  pub table_allocated : (before after : List (Option (Timed T))) (table : SessionTable T) → length before ≡ 0 → table_of_places before ≡ table
-      → length after ≡ 256 → ((q : ℕ) → get_or after q None ≡ None) → table_of_places after ≡ record table { allocated = true }
+  pub table_allocated : (before after : List (Option (Timed T))) (table : SessionTable T) → length before ≡ 0 → table_of_places timeout before ≡ table
+      → length after ≡ 256 → ((q : ℕ) → get_or after q None ≡ None) → table_of_places timeout after ≡ record table { allocated = true }
   table_allocated before after table none is all empty =
-      ap₂ (λ (m : ByAddress T) (b : Bool). record { sessions = m; allocated = b })
-      (map_of_places-empty after empty ∙ sym (no_places before table none is)) (eq-eqb (length after) 256 all)
+      let changed : table_of_places timeout after ≡ record (table_of_places timeout before) { allocated = true } =
+      ap₂ (λ (m : ByAddress T) (b : Bool). record { sessions = m; allocated = b; timeout = timeout })
+      (map_of_places-empty after empty ∙ sym (ap (map_of_places 0) (nil_from_length before none))) (eq-eqb (length after) 256 all) in
+      changed ∙ ap (λ (t : SessionTable T). record t { allocated = true }) is

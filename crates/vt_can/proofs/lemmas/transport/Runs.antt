@@ -16,20 +16,20 @@ module _ {S F R : Type 0} (protocol : Protocol S F R) where
       → Serves protocol old new i result → finite.get old source ≡ session_of protocol source inputs
       → finite.get new source ≡ session_of protocol source (i ∷ inputs)
   served_at old new i result source inputs true from serves before =
-      subst (λ (k : ℕ). finite.get new k ≡ session_after_frame protocol i.time (alive i.time (finite.get old k)) i.frame) (eqb-true _ _ from) serves.session
-      ∙ ap (λ (current : Option (Timed S)). session_after_frame protocol i.time (alive i.time current) i.frame) before
-      ∙ ap (λ (b : Bool). cond b (session_after_frame protocol i.time (alive i.time (session_of protocol source inputs)) i.frame) (alive i.time (session_of protocol source inputs))) (sym from)
+      subst (λ (k : ℕ). finite.get new k ≡ session_after_frame protocol i.time (alive protocol.timeout i.time (finite.get old k)) i.frame) (eqb-true _ _ from) serves.session
+      ∙ ap (λ (current : Option (Timed S)). session_after_frame protocol i.time (alive protocol.timeout i.time current) i.frame) before
+      ∙ ap (λ (b : Bool). cond b (session_after_frame protocol i.time (alive protocol.timeout i.time (session_of protocol source inputs)) i.frame) (alive protocol.timeout i.time (session_of protocol source inputs))) (sym from)
   served_at old new i result source inputs false from serves before =
       serves.others source (λ same. false≢true (sym from ∙ eq-eqb _ _ (sym same)))
-      ∙ ap (alive i.time) before
-      ∙ ap (λ (b : Bool). cond b (session_after_frame protocol i.time (alive i.time (session_of protocol source inputs)) i.frame) (alive i.time (session_of protocol source inputs))) (sym from)
+      ∙ ap (alive protocol.timeout i.time) before
+      ∙ ap (λ (b : Bool). cond b (session_after_frame protocol i.time (alive protocol.timeout i.time (session_of protocol source inputs)) i.frame) (alive protocol.timeout i.time (session_of protocol source inputs))) (sym from)
 
   pub message_of : (old new : ByAddress S) (i : BusFrame F) (result : Heard) (source : ℕ) (inputs : List (BusFrame F)) (from : Bool) → is_from source i ≡ from
       → finite.get old source ≡ session_of protocol source inputs
-      → ◌≡◌ {A = Option Message} (cond from (message_of_frame protocol i.time (alive i.time (finite.get old i.source)) i.frame) None)
-      (cond from (message_of_frame protocol i.time (alive i.time (session_of protocol source inputs)) i.frame) None)
+      → ◌≡◌ {A = Option Message} (cond from (message_of_frame protocol i.time (alive protocol.timeout i.time (finite.get old i.source)) i.frame) None)
+      (cond from (message_of_frame protocol i.time (alive protocol.timeout i.time (session_of protocol source inputs)) i.frame) None)
   message_of old new i result source inputs true from before =
-      ap (λ (current : Option (Timed S)). message_of_frame protocol i.time (alive i.time current) i.frame) (ap (finite.get old) (eqb-true _ _ from) ∙ before)
+      ap (λ (current : Option (Timed S)). message_of_frame protocol i.time (alive protocol.timeout i.time current) i.frame) (ap (finite.get old) (eqb-true _ _ from) ∙ before)
   message_of old new i result source inputs false from before = refl
 
   pub run_session : (sessions : ByAddress S) (run : List (BusFrame F × Heard)) (source : ℕ) → IsRun protocol sessions run

@@ -17,30 +17,31 @@ use Rattle.vt_can.specs.transport.Bus.{handed_out, input_of, Serves}
 use Rattle.vt_can.proofs.lemmas.transport.ByAddress.{get-removed, get-removed_other}
 
 module _ {T : Type 0} where
-  overdue_none : (now : ℕ) (session : Option (Timed T)) → is_overdue now session ≡ true → alive now session ≡ None
-  overdue_none now session is = ap (λ (b : Bool). cond b None session) is
-
-  expired_at : (old new : ByAddress T) (now address q : ℕ) (session : T) (b : Bool) → eqb q address ≡ b → Expires old new now address session
-      → alive now (finite.get new q) ≡ alive now (finite.get old q)
-  expired_at old new now address q session true is expired =
-      subst (λ (k : ℕ). alive now (finite.get new k) ≡ alive now (finite.get old k)) (sym (eqb-true _ _ is))
-      (ap (λ (m : ByAddress T). alive now (finite.get m address)) expired.removed ∙ ap (alive now) (get-removed old address)
-      ∙ sym (overdue_none now _ expired.first.overdue))
-  expired_at old new now address q session false is expired =
-      ap (λ (m : ByAddress T). alive now (finite.get m q)) expired.removed
-      ∙ ap (alive now) (get-removed_other old address q (λ same. false≢true (sym is ∙ eq-eqb _ _ same)))
-
-  -- an expiry changes no session but overdue ones, which count as ended already
-  pub expired_same : (old new : ByAddress T) (now address : ℕ) (session : T) → Expires old new now address session
-      → (q : ℕ) → alive now (finite.get new q) ≡ alive now (finite.get old q)
-  expired_same old new now address session expired q = expired_at old new now address q session _ refl expired
-
   pub not_empty : (m : ByAddress T) (address : ℕ) (timed : Timed T) → finite.get m address ≡ Some timed → finite.len m ≡ 0 → ⊥
   not_empty m address timed found none =
       let empty = ap (λ (n : ByAddress T). finite.get n address) (finite.empty_of_len m none) ∙ finite.get-empty nat_cmp address in cc
 
+module _ {T : Type 0} (timeout : ℕ) where
+  overdue_none : (now : ℕ) (session : Option (Timed T)) → is_overdue timeout now session ≡ true → alive timeout now session ≡ None
+  overdue_none now session is = ap (λ (b : Bool). cond b None session) is
+
+  expired_at : (old new : ByAddress T) (now address q : ℕ) (session : T) (b : Bool) → eqb q address ≡ b → Expires timeout old new now address session
+      → alive timeout now (finite.get new q) ≡ alive timeout now (finite.get old q)
+  expired_at old new now address q session true is expired =
+      subst (λ (k : ℕ). alive timeout now (finite.get new k) ≡ alive timeout now (finite.get old k)) (sym (eqb-true _ _ is))
+      (ap (λ (m : ByAddress T). alive timeout now (finite.get m address)) expired.removed ∙ ap (alive timeout now) (get-removed old address)
+      ∙ sym (overdue_none now _ expired.first.overdue))
+  expired_at old new now address q session false is expired =
+      ap (λ (m : ByAddress T). alive timeout now (finite.get m q)) expired.removed
+      ∙ ap (alive timeout now) (get-removed_other old address q (λ same. false≢true (sym is ∙ eq-eqb _ _ same)))
+
+  -- an expiry changes no session but overdue ones, which count as ended already
+  pub expired_same : (old new : ByAddress T) (now address : ℕ) (session : T) → Expires timeout old new now address session
+      → (q : ℕ) → alive timeout now (finite.get new q) ≡ alive timeout now (finite.get old q)
+  expired_same old new now address session expired q = expired_at old new now address q session _ refl expired
+
   -- each expiry removes one session
-  pub expired_fewer : (old new : ByAddress T) (now address : ℕ) (session : T) → Expires old new now address session
+  pub expired_fewer : (old new : ByAddress T) (now address : ℕ) (session : T) → Expires timeout old new now address session
       → finite.len new < finite.len old
   expired_fewer old new now address session expired =
       let there : is_some (finite.get old address) ≡ true = ap is_some expired.found in
@@ -64,13 +65,13 @@ module _ {S F R : Type 0} (protocol : Protocol S F R) where
   handed_out_is own_address from source (Some reply) (Some message) result answers = ap (handed_out source) answers
 
   -- the sessions after all aborts, when none is overdue
-  session_now : (old loop : ReceiverState S) (now q : ℕ) → alive now (finite.get loop.sessions q) ≡ alive now (finite.get old.sessions q)
-      → is_overdue now (finite.get loop.sessions q) ≡ false → finite.get loop.sessions q ≡ alive now (finite.get old.sessions q)
+  session_now : (old loop : ReceiverState S) (now q : ℕ) → alive protocol.timeout now (finite.get loop.sessions q) ≡ alive protocol.timeout now (finite.get old.sessions q)
+      → is_overdue protocol.timeout now (finite.get loop.sessions q) ≡ false → finite.get loop.sessions q ≡ alive protocol.timeout now (finite.get old.sessions q)
   session_now old loop now q same none =
       sym (ap (λ (b : Bool). cond b None (finite.get loop.sessions q)) none) ∙ same
 
   served_by : (old loop new : ReceiverState S) (now : ℕ) (frame : Frame) (result : Heard) → loop.own_address ≡ old.own_address
-      → ((q : ℕ) → finite.get loop.sessions q ≡ alive now (finite.get old.sessions q))
+      → ((q : ℕ) → finite.get loop.sessions q ≡ alive protocol.timeout now (finite.get old.sessions q))
       → MakesStep protocol loop new (source_of frame) (outcome protocol loop now frame) result → OthersStay loop new (source_of frame)
       → Serves protocol old.sessions new.sessions (input_of protocol old.own_address now frame) result
   served_by old loop new now frame result address_is alive_is makes_step others = record {
@@ -84,13 +85,13 @@ module _ {S F R : Type 0} (protocol : Protocol S F R) where
   -- the receiver before the input, prepared, after the aborts, and after the frame
   pub serves_as : (old prepared loop mid new : ReceiverState S) (now : ℕ) (frame : Frame) (result : Heard)
       → prepared.own_address ≡ old.own_address → prepared.sessions ≡ old.sessions → loop.own_address ≡ prepared.own_address
-      → ((q : ℕ) → alive now (finite.get loop.sessions q) ≡ alive now (finite.get prepared.sessions q)) → mid ≡ loop
-      → ((q : ℕ) → is_overdue now (finite.get loop.sessions q) ≡ false)
+      → ((q : ℕ) → alive protocol.timeout now (finite.get loop.sessions q) ≡ alive protocol.timeout now (finite.get prepared.sessions q)) → mid ≡ loop
+      → ((q : ℕ) → is_overdue protocol.timeout now (finite.get loop.sessions q) ≡ false)
       → MakesStep protocol mid new (source_of frame) (outcome protocol mid now frame) result → OthersStay mid new (source_of frame)
       → Serves protocol old.sessions new.sessions (input_of protocol old.own_address now frame) result
   serves_as old prepared loop mid new now frame result address_at_first sessions address_is same is none makes_step others =
       served_by old mid new now frame result
       (ap (λ (r : ReceiverState S). r.own_address) is ∙ address_is ∙ address_at_first)
       (λ q. ap (λ (r : ReceiverState S). finite.get r.sessions q) is
-      ∙ session_now old loop now q (same q ∙ ap (λ (m : ByAddress S). alive now (finite.get m q)) sessions) (none q))
+      ∙ session_now old loop now q (same q ∙ ap (λ (m : ByAddress S). alive protocol.timeout now (finite.get m q)) sessions) (none q))
       makes_step others

@@ -5,6 +5,6 @@ use Rattle.vt_can.proofs.transport.sessions.Sessions.first_overdue.Given as goal
 
 abbrev pub invariant-loop-address : goal.invariant-loop-address
 invariant-loop-address g l = record {
-  fresh : (q : ℕ) → q < l.address → is_overdue l.now (get_or l.place-items q None) ≡ false;
+  fresh : (q : ℕ) → q < l.address → is_overdue l.timeout l.now (get_or l.place-items q None) ≡ false;
   bound : IsBound l.place-items l.address l.earliest;
 }

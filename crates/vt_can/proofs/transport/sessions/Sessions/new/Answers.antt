@@ -8,4 +8,4 @@ pub invariant_of-result : goal.invariant_of-result
 invariant_of-result g c = subst (λ (places : List (Option (Timed _))). ArePlaces places _) (sym c.new.ensures.items) (ArePlaces-none _)
 
 pub returns : goal.returns
-returns g c = ap table_of_places c.new.ensures.items
+returns g c = ap (table_of_places _) c.new.ensures.items
