@@ -6,7 +6,7 @@ use Rattle.vt_can.specs.declared.frames.frame.Frame.{Frame}
 use Rattle.vt_can.specs.declared.transport.sessions.Timed.{Timed}
 use Rattle.vt_can.specs.transport.Sessions.{ByAddress, timed_code, untimed_session, Expires}
 use Rattle.vt_can.specs.transport.Messages.{Message}
-use Rattle.vt_can.specs.Assigned.{TP_CM, TP_DT, VT_TO_ECU}
+use Rattle.vt_can.specs.Assigned.{TP_CM, TP_DT, VT_TO_ECU, SENDER_TIMEOUT}
 use Rattle.vt_can.specs.frames.Frame.{source_of}
 use Rattle.vt_can.specs.transport.Wire.{IsOfAnotherGroup}
 use Rattle.vt_transport.specs.declared.messages.TpFrame.{TpFrame}
@@ -117,7 +117,7 @@ pub record TimesOut (old new : SenderState) (now : ℕ) (frame : Frame) : Type 0
   pub own_address : new.own_address ≡ old.own_address
   pub to : ℕ
   pub session : Message
-  pub expired : Expires old.sessions new.sessions now to session
+  pub expired : Expires SENDER_TIMEOUT old.sessions new.sessions now to session
   pub abort : frame ≡ timeout_frame old.own_address to session
 
 -- An answer depends on no time, except for the time of the session afterwards.

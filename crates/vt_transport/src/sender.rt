@@ -2,6 +2,7 @@
 
 ghost use Rattle.std.specs.Prelude.{◌≡◌, ◌↔◌, ℕ, ◌%◌, ◌^◌, false, Some, None, Err, [], ◌∷◌, is_some, IsSome, IfOk, OnErr, IfSome, IfNone};
 ghost use Rattle.std.specs.FinMap as finite;
+ghost use Rattle.vt_can.specs.Assigned.{SENDER_TIMEOUT};
 ghost use Rattle.vt_can.specs.transport.FirstTimes.{IsFirstTime};
 ghost use Rattle.vt_can.specs.transport.Sessions.{is_overdue, SomeOverdue, AreOfAddresses};
 ghost use Rattle.vt_can.specs.frames.Frame.{source_of};
@@ -16,7 +17,7 @@ use arrayvec::ArrayVec;
 use std::alloc::Global;
 use std::marker::Model;
 use thiserror::Error;
-use vt_can::assigned::VT_TO_ECU;
+use vt_can::assigned::{SENDER_TIMEOUT, VT_TO_ECU};
 use vt_can::{Frame, Reason, Sessions, Timed};
 
 /// Why a message cannot be sent.
@@ -55,6 +56,8 @@ impl Drop for Sender {
 }
 
 impl Model for Sender {
+    ghost use Rattle.std.specs.Prelude.{◌≡◌};
+    ghost use Rattle.vt_can.specs.Assigned.{SENDER_TIMEOUT};
     ghost use Rattle.vt_transport.specs.declared.messages.TpFrame.TheVariants as declared;
     ghost use Rattle.vt_transport.specs.Senders.{SenderState, sender_state_code};
 
@@ -63,6 +66,8 @@ impl Model for Sender {
     ghost coded = { sender_state_code };
 
     ghost view = { λ s. record { own_address = s.own_address; sessions = s.sessions.sessions } };
+
+    ghost invariant = { λ s. s.sessions.timeout ≡ SENDER_TIMEOUT };
 }
 
 impl Sender {
@@ -72,7 +77,7 @@ impl Sender {
     {
         Sender {
             own_address,
-            sessions: Sessions::new(alloc),
+            sessions: Sessions::new(alloc, SENDER_TIMEOUT),
             alloc,
         }
     }
@@ -111,7 +116,7 @@ impl Sender {
 
     /// The first time at which a session is overdue, or `None` if none ever is. docs/PROFILE.md, "Timeouts".
     pub fn overdue_from(&self) -> Option<u64>
-        ensures { IsFirstTime (SomeOverdue self.now.sessions) result }
+        ensures { IsFirstTime (SomeOverdue SENDER_TIMEOUT self.now.sessions) result }
     {
         self.sessions.overdue_from()
     }
@@ -119,12 +124,9 @@ impl Sender {
     /// Whether the session to a destination would be overdue at the time `now`. False if no message is being sent there.
     /// docs/PROFILE.md, "Timeouts".
     pub fn is_overdue(&self, to: u8, now: u64) -> bool
-        ensures { result ≡ is_overdue now (finite.get self.now.sessions to) }
+        ensures { result ≡ is_overdue SENDER_TIMEOUT now (finite.get self.now.sessions to) }
     {
-        match self.sessions.get(to) {
-            Some(timed) => timed.is_overdue(now),
-            None => false,
-        }
+        self.sessions.is_overdue(to, now)
     }
 
     /// Whether a message is being sent to a destination.
@@ -151,12 +153,12 @@ impl Sender {
     }
 
     /// Ends the overdue session with the lowest destination address, and returns its abort. A session is overdue more than
-    /// 1,250,000 microseconds after its last frame. Call it until it returns `None`. docs/PROFILE.md, "Timeouts".
+    /// `SENDER_TIMEOUT` after its last frame. Call it until it returns `None`. docs/PROFILE.md, "Timeouts".
     pub fn expire(&mut self, now: u64) -> Option<Frame>
         ensures some { IfSome result (λ frame. TimesOut self.old self.new now frame) }
         ensures none { IfNone result (self.new ≡ self.old) }
         ensures all { IfNone result
-            ((to : ℕ) → is_overdue now (finite.get self.old.sessions to) ≡ false) }
+            ((to : ℕ) → is_overdue SENDER_TIMEOUT now (finite.get self.old.sessions to) ≡ false) }
         ensures addresses { AreOfAddresses self.old.sessions }
     {
         let (to, session) = self.sessions.expire(now)?;
