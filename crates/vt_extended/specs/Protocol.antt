@@ -3,7 +3,7 @@ use Rattle.std.specs.Prelude.{◌≡◌, ℕ, Bool, false}
 use Rattle.std.specs.FinMap as finite
 use Rattle.vt_can.specs.declared.transport.wire.Reason.TheVariants.{Timeout}
 use Rattle.vt_can.specs.declared.frames.frame.Frame.{Frame}
-use Rattle.vt_can.specs.Assigned.{ETP_CM, ETP_DT}
+use Rattle.vt_can.specs.Assigned.{ETP_CM, ETP_DT, ETP_TIMEOUT}
 use Rattle.vt_can.specs.frames.Frame.{source_of}
 use Rattle.vt_can.specs.transport.Wire.{IsOfAnotherGroup}
 use Rattle.vt_can.specs.transport.Protocols as protocols
@@ -36,7 +36,8 @@ protocol = record {
   opens = opens_session;
   size = size_in;
   step = step;
-  timeout = λ current. Abort Timeout current.opening.pgn;
+  timeout = ETP_TIMEOUT;
+  timeout_reply = λ current. Abort Timeout current.opening.pgn;
   reply_frame = reply_frame;
 }
 

@@ -2,6 +2,7 @@
 
 ghost use Rattle.std.specs.Prelude.{◌≡◌, ℕ, false, Some, None, List, length, IfOk, OnOk, OnErr, IsOk, IfSome, IfNone};
 ghost use Rattle.std.specs.FinMap as finite;
+ghost use Rattle.vt_can.specs.Assigned as assigned;
 ghost use Rattle.vt_can.specs.transport.FirstTimes.{IsFirstTime};
 ghost use Rattle.vt_can.specs.transport.Sessions.{is_overdue, alive, SomeOverdue, AreOfAddresses};
 ghost use Rattle.vt_can.specs.frames.Frame.{source_of};
@@ -21,6 +22,7 @@ use crate::{OutOfMemory, wire};
 use std::alloc::Global;
 use std::marker::Model;
 use std::mem;
+use vt_can::assigned::ETP_TIMEOUT;
 use vt_can::{Frame, Heard, Reason, Received, Sessions, Timed};
 
 /// The ETP receiver of a node, with at most one session for each source. Contracts see it as the map of the sessions by source, the
@@ -49,6 +51,7 @@ impl Drop for Receiver {
 
 impl Model for Receiver {
     ghost use Rattle.std.specs.Prelude.{◌≡◌, vec_len, vec_capacity, if◌then◌else◌};
+    ghost use Rattle.vt_can.specs.Assigned.{ETP_TIMEOUT};
     ghost use Rattle.vt_can.specs.transport.Receivers.{ReceiverState, receiver_state_code};
     ghost use Rattle.vt_extended.specs.SessionState.{SessionState, session_state_code};
 
@@ -58,7 +61,7 @@ impl Model for Receiver {
 
     ghost view = { λ r. record { own_address = r.own_address; sessions = r.sessions.sessions; spare = if r.sessions.allocated then vec_capacity r.spare else 0 } };
 
-    ghost invariant = { λ r. vec_len r.spare ≡ 0 };
+    ghost invariant = { λ r. (vec_len r.spare ≡ 0) × (r.sessions.timeout ≡ ETP_TIMEOUT) };
 }
 
 impl Receiver {
@@ -70,7 +73,7 @@ impl Receiver {
     {
         Receiver {
             own_address,
-            sessions: Sessions::new(alloc),
+            sessions: Sessions::new(alloc, ETP_TIMEOUT),
             spare: Vec::new(alloc),
             alloc,
         }
@@ -94,14 +97,14 @@ impl Receiver {
         }
     }
 
-    /// Ends the overdue session with the lowest source address, and returns its abort. A session is overdue more than 1,250,000
-    /// microseconds after its last frame. Call it until it returns `None`. docs/PROFILE.md, "Timeouts".
+    /// Ends the overdue session with the lowest source address, and returns its abort. A session is overdue more than `ETP_TIMEOUT`
+    /// after its last frame. Call it until it returns `None`. docs/PROFILE.md, "Timeouts".
     pub fn expire(&mut self, now: u64) -> Option<Frame>
         ensures own_address { self.new.own_address ≡ self.old.own_address }
         ensures spare { self.new.spare ≡ self.old.spare }
         ensures some { IfSome result (λ frame. TimesOut protocol self.old self.new now frame) }
         ensures none { IfNone result (self.new ≡ self.old) }
-        ensures all { IfNone result ((source : ℕ) → is_overdue now (finite.get self.old.sessions source) ≡ false) }
+        ensures all { IfNone result ((source : ℕ) → is_overdue assigned.ETP_TIMEOUT now (finite.get self.old.sessions source) ≡ false) }
         ensures addresses { AreOfAddresses self.old.sessions }
     {
         let (source, session) = self.sessions.expire(now)?;
@@ -114,7 +117,7 @@ impl Receiver {
 
     /// The first time at which a session is overdue, or `None` if none ever is. docs/PROFILE.md, "Timeouts".
     pub fn overdue_from(&self) -> Option<u64>
-        ensures { IsFirstTime (SomeOverdue self.now.sessions) result }
+        ensures { IsFirstTime (SomeOverdue assigned.ETP_TIMEOUT self.now.sessions) result }
     {
         self.sessions.overdue_from()
     }
@@ -219,14 +222,12 @@ impl Receiver {
 
     fn completed_by(&self, now: u64, source: u8, number: u8) -> Option<(usize, u8)>
         ensures { (packet : List ℕ) → length packet ≡ 7
-            → result ≡ size_and_first_byte (after_part now (alive now (finite.get self.now.sessions source)) (parts.Packet number packet)).message }
+            → result ≡ size_and_first_byte (after_part now (alive assigned.ETP_TIMEOUT now (finite.get self.now.sessions source)) (parts.Packet number packet)).message }
     {
-        let timed = self.sessions.get(source)?;
-        if timed.is_overdue(now) {
-            None
-        } else {
-            timed.session.completed_by(number)
+        if self.sessions.is_overdue(source, now) {
+            return None;
         }
+        self.sessions.get(source)?.session.completed_by(number)
     }
 }
 

@@ -2,7 +2,7 @@
 
 ghost use Rattle.std.specs.Prelude.{◌≡◌, ℕ, false, Some, None, List, length, IfOk, OnOk, OnErr, IsOk, IfSome, IfNone};
 ghost use Rattle.std.specs.FinMap as finite;
-ghost use Rattle.vt_can.specs.Assigned.{TP_TIMEOUT};
+ghost use Rattle.vt_can.specs.Assigned as assigned;
 ghost use Rattle.vt_can.specs.transport.FirstTimes.{IsFirstTime};
 ghost use Rattle.vt_can.specs.transport.Sessions.{is_overdue, alive, SomeOverdue, AreOfAddresses};
 ghost use Rattle.vt_can.specs.frames.Frame.{source_of};
@@ -105,7 +105,7 @@ impl Receiver {
         ensures some { IfSome result (λ frame. TimesOut protocol self.old self.new now frame) }
         ensures none { IfNone result (self.new ≡ self.old) }
         ensures all { IfNone result
-            ((source : ℕ) → is_overdue TP_TIMEOUT now (finite.get self.old.sessions source) ≡ false) }
+            ((source : ℕ) → is_overdue assigned.TP_TIMEOUT now (finite.get self.old.sessions source) ≡ false) }
         ensures addresses { AreOfAddresses self.old.sessions }
     {
         let (source, session) = self.sessions.expire(now)?;
@@ -118,7 +118,7 @@ impl Receiver {
 
     /// The first time at which a session is overdue, or `None` if none ever is. docs/PROFILE.md, "Timeouts".
     pub fn overdue_from(&self) -> Option<u64>
-        ensures { IsFirstTime (SomeOverdue TP_TIMEOUT self.now.sessions) result }
+        ensures { IsFirstTime (SomeOverdue assigned.TP_TIMEOUT self.now.sessions) result }
     {
         self.sessions.overdue_from()
     }
@@ -229,7 +229,7 @@ impl Receiver {
 
     fn completed_by(&self, now: u64, source: u8, number: u8) -> Option<(usize, u8)>
         ensures { (packet : List ℕ) → length packet ≡ 7
-            → result ≡ size_and_first_byte (after_packet now (alive TP_TIMEOUT now (finite.get self.now.sessions source)) number packet).message }
+            → result ≡ size_and_first_byte (after_packet now (alive assigned.TP_TIMEOUT now (finite.get self.now.sessions source)) number packet).message }
     {
         if self.sessions.is_overdue(source, now) {
             return None;

@@ -2,7 +2,7 @@
 
 ghost use Rattle.std.specs.Prelude.{◌≡◌, ◌↔◌, ℕ, ◌%◌, ◌^◌, false, Some, None, Err, [], ◌∷◌, is_some, IsSome, IfOk, OnErr, IfSome, IfNone};
 ghost use Rattle.std.specs.FinMap as finite;
-ghost use Rattle.vt_can.specs.Assigned.{SENDER_TIMEOUT};
+ghost use Rattle.vt_can.specs.Assigned as assigned;
 ghost use Rattle.vt_can.specs.transport.FirstTimes.{IsFirstTime};
 ghost use Rattle.vt_can.specs.transport.Sessions.{is_overdue, SomeOverdue, AreOfAddresses};
 ghost use Rattle.vt_can.specs.frames.Frame.{source_of};
@@ -116,7 +116,7 @@ impl Sender {
 
     /// The first time at which a session is overdue, or `None` if none ever is. docs/PROFILE.md, "Timeouts".
     pub fn overdue_from(&self) -> Option<u64>
-        ensures { IsFirstTime (SomeOverdue SENDER_TIMEOUT self.now.sessions) result }
+        ensures { IsFirstTime (SomeOverdue assigned.SENDER_TIMEOUT self.now.sessions) result }
     {
         self.sessions.overdue_from()
     }
@@ -124,7 +124,7 @@ impl Sender {
     /// Whether the session to a destination would be overdue at the time `now`. False if no message is being sent there.
     /// docs/PROFILE.md, "Timeouts".
     pub fn is_overdue(&self, to: u8, now: u64) -> bool
-        ensures { result ≡ is_overdue SENDER_TIMEOUT now (finite.get self.now.sessions to) }
+        ensures { result ≡ is_overdue assigned.SENDER_TIMEOUT now (finite.get self.now.sessions to) }
     {
         self.sessions.is_overdue(to, now)
     }
@@ -158,7 +158,7 @@ impl Sender {
         ensures some { IfSome result (λ frame. TimesOut self.old self.new now frame) }
         ensures none { IfNone result (self.new ≡ self.old) }
         ensures all { IfNone result
-            ((to : ℕ) → is_overdue SENDER_TIMEOUT now (finite.get self.old.sessions to) ≡ false) }
+            ((to : ℕ) → is_overdue assigned.SENDER_TIMEOUT now (finite.get self.old.sessions to) ≡ false) }
         ensures addresses { AreOfAddresses self.old.sessions }
     {
         let (to, session) = self.sessions.expire(now)?;
