@@ -3,6 +3,7 @@
 use Rattle.std.specs.Prelude.{◌≡◌, ◌≢◌, ◌⊎◌, ℕ, List, refl}
 use Rattle.std.specs.Coded.{Coded, code_by, coded×, coded_ℕ}
 use Rattle.std.specs.FinMap as finite
+use Rattle.vt_can.specs.Assigned.{TP_TIMEOUT, ETP_TIMEOUT, SENDER_TIMEOUT}
 use Rattle.vt_can.specs.declared.frames.frame.Frame.{Frame}
 use Rattle.vt_can.specs.declared.transport.heard.Heard.{Heard}
 use Rattle.vt_can.specs.frames.Frame.{source_of}
@@ -42,7 +43,8 @@ node_code =
 
 -- some session of the node is overdue
 abbrev pub HasOverdue : NodeState → ℕ → Type 0
-HasOverdue node now = (SomeOverdue node.tp now ⊎ SomeOverdue node.etp now) ⊎ SomeOverdue node.sending now
+HasOverdue node now =
+    (SomeOverdue TP_TIMEOUT node.tp now ⊎ SomeOverdue ETP_TIMEOUT node.etp now) ⊎ SomeOverdue SENDER_TIMEOUT node.sending now
 
 -- the result of a frame in each receiver, at a time
 abbrev pub tp_taken : NodeState → ℕ → Frame → Taken tp_session.SessionState
@@ -70,11 +72,11 @@ pub record HasAnswered (given : sender.Answer) (to : ℕ) (old new : ByAddress M
   pub others : (other : ℕ) → other ≢ to → finite.get new other ≡ finite.get old other
 
 -- The overdue session of the least address is removed, and the frame is its abort.
-pub record HasExpired {S : Type 0} (abort : ℕ → S → Frame) (old new : ByAddress S) (now : ℕ) (frame : Frame) : Type 0 where
+pub record HasExpired {S : Type 0} (timeout : ℕ) (abort : ℕ → S → Frame) (old new : ByAddress S) (now : ℕ) (frame : Frame) : Type 0 where
   pub address : ℕ
   pub session : S
-  pub expired : Expires old new now address session
+  pub expired : Expires timeout old new now address session
   pub abort_is : frame ≡ abort address session
 
 abbrev pub abort_by : {S F R : Type 0} → Protocol S F R → ℕ → ℕ → S → Frame
-abort_by protocol own address session = protocol.reply_frame own address (protocol.timeout session)
+abort_by protocol own address session = protocol.reply_frame own address (protocol.timeout_reply session)

@@ -130,7 +130,7 @@ impl Node {
         ensures same { self.new ≡ record self.old { tp_spare = self.new.tp_spare } }
         ensures ready { OnOk result (HasCapacityFor tp.protocol (tp_frame self.old.claims.own frame.now) self.new.tp_spare) }
         ensures completed { IfOk result (λ completed. completed ≡ size_and_first_byte
-            (stepped tp.protocol now (alive now (finite.get self.old.tp (source_of frame.now))) (tp_frame self.old.claims.own frame.now)).message) }
+            (stepped tp.protocol now (alive assigned.TP_TIMEOUT now (finite.get self.old.tp (source_of frame.now))) (tp_frame self.old.claims.own frame.now)).message) }
     {
         self.tp.prepare(now, frame)
     }
@@ -145,7 +145,7 @@ impl Node {
         ensures same { self.new ≡ record self.old { etp_spare = self.new.etp_spare } }
         ensures ready { OnOk result (HasCapacityFor etp.protocol (etp_frame self.old.claims.own frame.now) self.new.etp_spare) }
         ensures completed { IfOk result (λ completed. completed ≡ size_and_first_byte
-            (stepped etp.protocol now (alive now (finite.get self.old.etp (source_of frame.now))) (etp_frame self.old.claims.own frame.now)).message) }
+            (stepped etp.protocol now (alive assigned.ETP_TIMEOUT now (finite.get self.old.etp (source_of frame.now))) (etp_frame self.old.claims.own frame.now)).message) }
     {
         self.etp.prepare(now, frame)
     }
@@ -188,7 +188,7 @@ impl Node {
 
     /// Whether the session that sends a message to an address would be overdue at the time `now`. False if there is no such session.
     pub fn is_overdue_to(&self, address: u8, now: u64) -> bool
-        ensures { result ≡ is_overdue now (finite.get self.now.sending address) }
+        ensures { result ≡ is_overdue assigned.SENDER_TIMEOUT now (finite.get self.now.sending address) }
     {
         self.sender.is_overdue(address, now)
     }
@@ -210,8 +210,8 @@ impl Node {
 
     /// Ends the overdue receiving session with the lowest address, and returns its abort.
     pub fn expire_tp(&mut self, now: u64) -> Option<Frame>
-        ensures some { IfSome result (HasExpired (abort_by tp.protocol self.old.claims.own) self.old.tp self.new.tp now) }
-        ensures none { IfNone result (NoneExpires self.old.tp self.new.tp now) }
+        ensures some { IfSome result (HasExpired assigned.TP_TIMEOUT (abort_by tp.protocol self.old.claims.own) self.old.tp self.new.tp now) }
+        ensures none { IfNone result (NoneExpires assigned.TP_TIMEOUT self.old.tp self.new.tp now) }
         ensures addresses { AreOfAddresses self.old.tp }
         ensures rest { self.new ≡ record self.old { tp = self.new.tp } }
     {
@@ -219,8 +219,8 @@ impl Node {
     }
 
     pub fn expire_etp(&mut self, now: u64) -> Option<Frame>
-        ensures some { IfSome result (HasExpired (abort_by etp.protocol self.old.claims.own) self.old.etp self.new.etp now) }
-        ensures none { IfNone result (NoneExpires self.old.etp self.new.etp now) }
+        ensures some { IfSome result (HasExpired assigned.ETP_TIMEOUT (abort_by etp.protocol self.old.claims.own) self.old.etp self.new.etp now) }
+        ensures none { IfNone result (NoneExpires assigned.ETP_TIMEOUT self.old.etp self.new.etp now) }
         ensures addresses { AreOfAddresses self.old.etp }
         ensures rest { self.new ≡ record self.old { etp = self.new.etp } }
     {
@@ -229,8 +229,8 @@ impl Node {
 
     /// Ends the overdue sending session with the lowest address, and returns its abort.
     pub fn expire_sending(&mut self, now: u64) -> Option<Frame>
-        ensures some { IfSome result (HasExpired (timeout_frame self.old.claims.own) self.old.sending self.new.sending now) }
-        ensures none { IfNone result (NoneExpires self.old.sending self.new.sending now) }
+        ensures some { IfSome result (HasExpired assigned.SENDER_TIMEOUT (timeout_frame self.old.claims.own) self.old.sending self.new.sending now) }
+        ensures none { IfNone result (NoneExpires assigned.SENDER_TIMEOUT self.old.sending self.new.sending now) }
         ensures addresses { AreOfAddresses self.old.sending }
         ensures rest { self.new ≡ record self.old { sending = self.new.sending } }
     {
