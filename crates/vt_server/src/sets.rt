@@ -2,6 +2,7 @@
 
 ghost use Rattle.std.specs.Prelude.{◌≡◌, is_some, length, slice_get};
 ghost use Rattle.std.specs.Option.{option_copied};
+ghost use Rattle.vt_can.specs.Assigned.{SENDER_TIMEOUT};
 ghost use Rattle.vt_can.specs.transport.Sessions.{is_overdue};
 ghost use Rattle.vt_node.specs.Watches.{is_silent};
 ghost use Rattle.vt_server.specs.message.UploadEnds.{upload_end};
@@ -47,7 +48,7 @@ impl Terminal {
     /// Whether the session that sends a message to an address would be overdue at a time. False if there is no such session.
     /// docs/PROFILE.md, "Timeouts".
     pub fn is_overdue_to(&self, address: u8, time: u64) -> bool
-        ensures { result ≡ is_overdue time ((state_of self.now).places address).sending }
+        ensures { result ≡ is_overdue SENDER_TIMEOUT time ((state_of self.now).places address).sending }
     {
         self.node.is_overdue_to(address, time)
     }

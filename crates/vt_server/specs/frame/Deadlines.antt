@@ -1,7 +1,7 @@
 -- A tick, and the time from which a tick does anything (docs/PROFILE.md, "Ticks").
 use Rattle.std.specs.Prelude.{◌≡◌, ◌⊎◌, ℕ, max, Bool, true, false, ◌&&◌, nat_eq, []}
 use Rattle.std.specs.Option.{option_eq}
-use Rattle.vt_can.specs.Assigned.{GLOBAL_ADDRESS}
+use Rattle.vt_can.specs.Assigned.{GLOBAL_ADDRESS, TP_TIMEOUT, ETP_TIMEOUT, SENDER_TIMEOUT}
 use Rattle.vt_can.specs.declared.frames.frame.Frame.{Frame}
 use Rattle.vt_can.specs.transport.Sessions.{is_overdue}
 use Rattle.vt_node.specs.Messages.{message_to}
@@ -17,8 +17,8 @@ echo own = message_to own GLOBAL_ADDRESS []
 -- some address has a session that is overdue
 abbrev pub HasOverdueAt : (ℕ → AddressState) → ℕ → Type 0
 HasOverdueAt places now =
-    (((a : ℕ) × (is_overdue now (places a).tp ≡ true)) ⊎ ((a : ℕ) × (is_overdue now (places a).etp ≡ true)))
-    ⊎ ((a : ℕ) × (is_overdue now (places a).sending ≡ true))
+    (((a : ℕ) × (is_overdue TP_TIMEOUT now (places a).tp ≡ true)) ⊎ ((a : ℕ) × (is_overdue ETP_TIMEOUT now (places a).etp ≡ true)))
+    ⊎ ((a : ℕ) × (is_overdue SENDER_TIMEOUT now (places a).sending ≡ true))
 
 -- the selected set and the shown set are those that would be chosen now
 abbrev pub is_settled : State → Bool

@@ -1,6 +1,7 @@
 -- The work done in advance for a frame, and the contracts of the calls that handle it.
 use Rattle.std.specs.Prelude.{◌≡◌, ◌≢◌, ◌≤◌, ◌<◌, ◌+◌, ◌++◌, ℕ, true, false, List, [], ◌∷◌, length, Option, Some, None, is_some}
 use Rattle.std.specs.Option.{option_to_list}
+use Rattle.vt_can.specs.Assigned.{TP_TIMEOUT, ETP_TIMEOUT, SENDER_TIMEOUT}
 use Rattle.vt_can.specs.declared.frames.frame.Frame.{Frame}
 use Rattle.vt_can.specs.frames.Frame.{source_of}
 use Rattle.vt_can.specs.transport.Receivers.{HasCapacityFor}
@@ -90,7 +91,7 @@ pub record CapacityStays (old new : Terminal) : Type 0 where
 
 -- the state of an address after its overdue sessions have ended
 abbrev pub timely : ℕ → AddressState → AddressState
-timely now place = record place { tp = alive now place.tp; etp = alive now place.etp; sending = alive now place.sending }
+timely now place = record place { tp = alive TP_TIMEOUT now place.tp; etp = alive ETP_TIMEOUT now place.etp; sending = alive SENDER_TIMEOUT now place.sending }
 
 -- the bytes of the message that a frame completes, by the state of its source address
 abbrev pub message_by : Terminal → ℕ → AddressState → FrameMeaning → Frame → Option (List ℕ)

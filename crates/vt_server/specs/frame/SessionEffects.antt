@@ -59,7 +59,7 @@ came now own address place _ frame = record { place = place; frames = []; messag
 -- the abort of a receiving session
 abbrev pub timeout_of : {S F R : Type 0} → Protocol S F R → ℕ → ℕ → Option (Timed S) → List Frame
 timeout_of protocol own address session =
-    option_to_list (option_map (λ timed. protocol.reply_frame own address (protocol.timeout timed.session)) session)
+    option_to_list (option_map (λ timed. protocol.reply_frame own address (protocol.timeout_reply timed.session)) session)
 
 -- the abort of a sending session
 abbrev pub sending_timeout : ℕ → ℕ → Option (Timed transport.Message) → List Frame

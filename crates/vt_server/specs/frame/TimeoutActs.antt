@@ -1,6 +1,7 @@
 -- The acts at the time of a frame line: timeouts of sessions, then closings of silent sets (docs/PROFILE.md, "The order of a
 -- step", "Timeouts", "Silence").
 use Rattle.std.specs.Prelude.{ℕ, max, Bool, if◌then◌else◌, List, [], ◌∷◌, ◌++◌, map, filter, Option, Some, None}
+use Rattle.vt_can.specs.Assigned.{TP_TIMEOUT, ETP_TIMEOUT, SENDER_TIMEOUT}
 use Rattle.vt_can.specs.transport.Sessions.{each_below, is_overdue}
 use Rattle.vt_names.specs.Registry.{Set}
 use Rattle.vt_node.specs.Watches.{is_silent}
@@ -16,13 +17,13 @@ abbrev pub set_is_silent : State → Set → Bool
 set_is_silent s set = is_silent s.now (s.places set.address).heard
 
 abbrev pub tp_due : State → List (ℕ × Act)
-tp_due s = each_below (λ a. is_overdue s.now (s.places a).tp) TpExpires 256
+tp_due s = each_below (λ a. is_overdue TP_TIMEOUT s.now (s.places a).tp) TpExpires 256
 
 abbrev pub etp_due : State → List (ℕ × Act)
-etp_due s = each_below (λ a. is_overdue s.now (s.places a).etp) EtpExpires 256
+etp_due s = each_below (λ a. is_overdue ETP_TIMEOUT s.now (s.places a).etp) EtpExpires 256
 
 abbrev pub sending_due : State → List (ℕ × Act)
-sending_due s = each_below (λ a. is_overdue s.now (s.places a).sending) SendingExpires 256
+sending_due s = each_below (λ a. is_overdue SENDER_TIMEOUT s.now (s.places a).sending) SendingExpires 256
 
 -- the closings of silent sets in order of registration
 abbrev pub silences : State → List (ℕ × Act)

@@ -4,6 +4,7 @@ ghost use Rattle.std.specs.Prelude.{◌≡◌, ◌≤◌, ◌++◌, ℕ, Option,
 ghost use Rattle.vt_server.specs.frame.TimeoutActs as lapses;
 ghost use Rattle.vt_server.specs.Outputs.{outputs_of, HasSpare};
 ghost use Rattle.std.specs.FinMap as finite;
+ghost use Rattle.vt_can.specs.Assigned.{TP_TIMEOUT, ETP_TIMEOUT, SENDER_TIMEOUT};
 ghost use Rattle.vt_can.specs.transport.Sessions.{alive};
 ghost use Rattle.vt_server.specs.frame.TimeoutContracts.{HasLapsed, ClosesSets};
 ghost use Rattle.vt_server.specs.States.{state_of};
@@ -36,7 +37,7 @@ impl Terminal {
         ensures state { state_of self.new ≡ lapses.after_tp_timeouts (state_of self.old) }
         ensures sent { outputs.new.items ≡ outputs.old.items ++ outputs_of (spec.sent_by_acts (state_of self.old) (lapses.tp_due (state_of self.old))) }
         ensures capacity { HasSpare 770 outputs.new }
-        ensures timely { (address : ℕ) → finite.get self.new.node.tp address ≡ alive self.old.time (finite.get self.old.node.tp address) }
+        ensures timely { (address : ℕ) → finite.get self.new.node.tp address ≡ alive TP_TIMEOUT self.old.time (finite.get self.old.node.tp address) }
         ensures rest { self.new ≡ record self.old { node = record self.old.node { tp = self.new.node.tp } } }
     {
         while let Some(abort) = self.node.expire_tp(self.time) {
@@ -49,7 +50,7 @@ impl Terminal {
         ensures state { state_of self.new ≡ spec.after_acts (state_of self.old) (lapses.etp_due (state_of self.old)) }
         ensures sent { outputs.new.items ≡ outputs.old.items ++ outputs_of (spec.sent_by_acts (state_of self.old) (lapses.etp_due (state_of self.old))) }
         ensures capacity { HasSpare 514 outputs.new }
-        ensures timely { (address : ℕ) → finite.get self.new.node.etp address ≡ alive self.old.time (finite.get self.old.node.etp address) }
+        ensures timely { (address : ℕ) → finite.get self.new.node.etp address ≡ alive ETP_TIMEOUT self.old.time (finite.get self.old.node.etp address) }
         ensures rest { self.new ≡ record self.old { node = record self.old.node { etp = self.new.node.etp } } }
     {
         while let Some(abort) = self.node.expire_etp(self.time) {
@@ -62,7 +63,7 @@ impl Terminal {
         ensures state { state_of self.new ≡ spec.after_acts (state_of self.old) (lapses.sending_due (state_of self.old)) }
         ensures sent { outputs.new.items ≡ outputs.old.items ++ outputs_of (spec.sent_by_acts (state_of self.old) (lapses.sending_due (state_of self.old))) }
         ensures capacity { HasSpare 258 outputs.new }
-        ensures timely { (address : ℕ) → finite.get self.new.node.sending address ≡ alive self.old.time (finite.get self.old.node.sending address) }
+        ensures timely { (address : ℕ) → finite.get self.new.node.sending address ≡ alive SENDER_TIMEOUT self.old.time (finite.get self.old.node.sending address) }
         ensures rest { self.new ≡ record self.old { node = record self.old.node { sending = self.new.node.sending } } }
     {
         while let Some(abort) = self.node.expire_sending(self.time) {

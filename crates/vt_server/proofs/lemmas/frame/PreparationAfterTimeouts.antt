@@ -1,7 +1,7 @@
 -- The work done in advance for a frame is right after the timeouts and closings of its time.
 use Rattle.std.proofs.Common.{◌≡◌, ◌<◌, ℕ, Bool, true, false, cond, eqb, max, Option, Some, None, refl, sym, ap, subst, ◌∙◌, arith}
 use Rattle.std.specs.FinMap as finite
-use Rattle.vt_can.specs.Assigned.{ECU_TO_VT}
+use Rattle.vt_can.specs.Assigned.{ECU_TO_VT, TP_TIMEOUT, ETP_TIMEOUT}
 use Rattle.vt_can.specs.declared.frames.frame.Frame.{Frame}
 use Rattle.vt_can.specs.frames.Frame.{source_of}
 use Rattle.vt_can.specs.transport.Messages.{Message, size_and_first_byte}
@@ -108,7 +108,7 @@ module _ (t : Terminal) (node : NodeState) (u : Terminal) (now q : ℕ) (n : Fra
       (λ message e. subst (λ c. FitsMessage (content_of u.contents c) (spare_of u.contents c) message.bytes upload) at (ready message (is ∙ e)))
 
   pub prepared-tp : n ≡ notices.Tp → node ≡ record t.node { tp_spare = node.tp_spare } → HasCapacityFor tp.protocol (tp_frame t.node.claims.own frame) node.tp_spare
-      → completed ≡ size_and_first_byte (stepped tp.protocol now (alive now (finite.get t.node.tp b)) (tp_frame t.node.claims.own frame)).message
+      → completed ≡ size_and_first_byte (stepped tp.protocol now (alive TP_TIMEOUT now (finite.get t.node.tp b)) (tp_frame t.node.claims.own frame)).message
       → FitsBeforeTimeouts (state_of t) u now n frame (readies.Prepared upload)
   prepared-tp is rest spare completed-is =
       subst (λ m. FitsBeforeTimeouts (state_of t) u now m frame (readies.Prepared upload)) (sym is) (
@@ -120,12 +120,12 @@ module _ (t : Terminal) (node : NodeState) (u : Terminal) (now q : ℕ) (n : Fra
           sets = λ count e. absurd (subst IsTp e tt);
         },
         subst (λ (k : NodeState). FitsCompleted (content_of u.contents b) (spare_of u.contents b)
-            (message_to_terminal (stepped tp.protocol now (alive now (finite.get k.tp b)) (tp_frame k.claims.own frame)).message) upload) (sym (reserved.node ∙ rest))
-            (message-ready (stepped tp.protocol now (alive now (finite.get t.node.tp b)) (tp_frame t.node.claims.own frame)).message completed-is),
+            (message_to_terminal (stepped tp.protocol now (alive TP_TIMEOUT now (finite.get k.tp b)) (tp_frame k.claims.own frame)).message) upload) (sym (reserved.node ∙ rest))
+            (message-ready (stepped tp.protocol now (alive TP_TIMEOUT now (finite.get t.node.tp b)) (tp_frame t.node.claims.own frame)).message completed-is),
       )
 
   pub prepared-etp : n ≡ notices.Etp → node ≡ record t.node { etp_spare = node.etp_spare } → HasCapacityFor etp.protocol (etp_frame t.node.claims.own frame) node.etp_spare
-      → completed ≡ size_and_first_byte (stepped etp.protocol now (alive now (finite.get t.node.etp b)) (etp_frame t.node.claims.own frame)).message
+      → completed ≡ size_and_first_byte (stepped etp.protocol now (alive ETP_TIMEOUT now (finite.get t.node.etp b)) (etp_frame t.node.claims.own frame)).message
       → FitsBeforeTimeouts (state_of t) u now n frame (readies.Prepared upload)
   prepared-etp is rest spare completed-is =
       subst (λ m. FitsBeforeTimeouts (state_of t) u now m frame (readies.Prepared upload)) (sym is) (
@@ -137,8 +137,8 @@ module _ (t : Terminal) (node : NodeState) (u : Terminal) (now q : ℕ) (n : Fra
           sets = λ count e. absurd (subst IsEtp e tt);
         },
         subst (λ (k : NodeState). FitsCompleted (content_of u.contents b) (spare_of u.contents b)
-            (message_to_terminal (stepped etp.protocol now (alive now (finite.get k.etp b)) (etp_frame k.claims.own frame)).message) upload) (sym (reserved.node ∙ rest))
-            (message-ready (stepped etp.protocol now (alive now (finite.get t.node.etp b)) (etp_frame t.node.claims.own frame)).message completed-is),
+            (message_to_terminal (stepped etp.protocol now (alive ETP_TIMEOUT now (finite.get k.etp b)) (etp_frame k.claims.own frame)).message) upload) (sym (reserved.node ∙ rest))
+            (message-ready (stepped etp.protocol now (alive ETP_TIMEOUT now (finite.get t.node.etp b)) (etp_frame t.node.claims.own frame)).message completed-is),
       )
 
 -- ---- the timeouts and closings keep the work right

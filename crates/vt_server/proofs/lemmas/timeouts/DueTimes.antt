@@ -1,6 +1,7 @@
 -- What is late at a time is late at each later one.
 use Rattle.std.proofs.Common.{◌≡◌, ◌⊎◌, inl, inr, ℕ, ◌<◌, ◌≤◌, ◌^◌, max, Bool, true, false, cond, is_some, List, [], ◌∷◌, Option, Some, None, refl, sym, ◌∙◌, arith, lt-ltb}
 use Rattle.std.proofs.lemmas.Bool.{ltb-true, false≢true, true≢false}
+use Rattle.vt_can.specs.Assigned.{TP_TIMEOUT, ETP_TIMEOUT, SENDER_TIMEOUT}
 use Rattle.vt_can.specs.declared.transport.sessions.Timed.{Timed}
 use Rattle.vt_can.specs.transport.FirstTimes.{IsFirstTime}
 use Rattle.vt_can.specs.transport.Sessions.{is_overdue}
@@ -10,9 +11,9 @@ use Rattle.vt_server.specs.frame.Deadlines.{HasOverdueAt, IsDue, IsLate, is_sett
 use Rattle.vt_server.specs.state.AddressStates.{AddressState}
 use Rattle.vt_server.specs.Terminals.{State}
 
-overdue-later : {T : Type 0} (a b : ℕ) (o : Option (Timed T)) → a ≤ b → is_overdue a o ≡ true → is_overdue b o ≡ true
-overdue-later a b None le is = absurd (false≢true is)
-overdue-later a b (Some timed) le is = let late = ltb-true _ _ is in lt-ltb _ _ (omega (arith, le, late))
+overdue-later : {T : Type 0} (timeout a b : ℕ) (o : Option (Timed T)) → a ≤ b → is_overdue timeout a o ≡ true → is_overdue timeout b o ≡ true
+overdue-later timeout a b None le is = absurd (false≢true is)
+overdue-later timeout a b (Some timed) le is = let late = ltb-true _ _ is in lt-ltb _ _ (omega (arith, le, late))
 
 silent-later : (a b : ℕ) (o : Option ℕ) → a ≤ b → is_silent a o ≡ true → is_silent b o ≡ true
 silent-later a b None le is = absurd (false≢true is)
@@ -31,9 +32,9 @@ sets-later heard (set ∷ sets) a b le is =
     (silent-later a b (heard set.address) le) (sets-later heard sets a b le) is
 
 places-later : (places : ℕ → AddressState) (a b : ℕ) → a ≤ b → HasOverdueAt places a → HasOverdueAt places b
-places-later places a b le (inl (inl some)) = inl (inl (some.0, overdue-later a b (places some.0).tp le some.1))
-places-later places a b le (inl (inr some)) = inl (inr (some.0, overdue-later a b (places some.0).etp le some.1))
-places-later places a b le (inr some) = inr (some.0, overdue-later a b (places some.0).sending le some.1)
+places-later places a b le (inl (inl some)) = inl (inl (some.0, overdue-later TP_TIMEOUT a b (places some.0).tp le some.1))
+places-later places a b le (inl (inr some)) = inl (inr (some.0, overdue-later ETP_TIMEOUT a b (places some.0).etp le some.1))
+places-later places a b le (inr some) = inr (some.0, overdue-later SENDER_TIMEOUT a b (places some.0).sending le some.1)
 
 pub late-later : (s : State) (a b : ℕ) → a ≤ b → IsLate s a → IsLate s b
 late-later s a b le (inl some) = inl (places-later s.places a b le some)

@@ -1,7 +1,8 @@
--- The three kinds of sessions as lanes: how to find a session, the act that ends it, and its abort.
+-- The three kinds of sessions as lanes: how to find a session, its timeout, the act that ends it, and its abort.
 use Rattle.std.proofs.Common.{◌≡◌, ℕ, List, Option, None, refl}
 use Rattle.std.specs.FinMap as finite
 use Rattle.std.specs.Option.{option_map, option_to_list}
+use Rattle.vt_can.specs.Assigned.{TP_TIMEOUT, ETP_TIMEOUT, SENDER_TIMEOUT}
 use Rattle.vt_can.specs.declared.frames.frame.Frame.{Frame}
 use Rattle.vt_can.specs.declared.transport.sessions.Timed.{Timed}
 use Rattle.vt_can.specs.transport.Messages.{Message}
@@ -27,6 +28,7 @@ pub record Lane (S : Type 0) : Type 0 where
   pub with_sessions : ByAddress S → NodeState → NodeState
   pub session : AddressState → Option (Timed S)
   pub with_session : Option (Timed S) → AddressState → AddressState
+  pub timeout : ℕ
   pub act : Act
   pub abort : ℕ → ℕ → S → Frame
   -- laws of the members above
@@ -44,6 +46,7 @@ tp_lane = record {
   with_sessions = λ m node. record node { tp = m };
   session = λ place. place.tp;
   with_session = λ session place. record place { tp = session };
+  timeout = TP_TIMEOUT;
   act = TpExpires;
   abort = abort_by tp.protocol;
   found = λ t address. refl;
@@ -59,6 +62,7 @@ etp_lane = record {
   with_sessions = λ m node. record node { etp = m };
   session = λ place. place.etp;
   with_session = λ session place. record place { etp = session };
+  timeout = ETP_TIMEOUT;
   act = EtpExpires;
   abort = abort_by etp.protocol;
   found = λ t address. refl;
@@ -74,6 +78,7 @@ sending_lane = record {
   with_sessions = λ m node. record node { sending = m };
   session = λ place. place.sending;
   with_session = λ session place. record place { sending = session };
+  timeout = SENDER_TIMEOUT;
   act = SendingExpires;
   abort = timeout_frame;
   found = λ t address. refl;
@@ -85,4 +90,4 @@ sending_lane = record {
 
 -- the acts that end the overdue sessions of a lane
 abbrev pub due : {S : Type 0} → Lane S → State → List (ℕ × Act)
-due lane s = each_below (λ address. is_overdue s.now (lane.session (s.places address))) lane.act 256
+due lane s = each_below (λ address. is_overdue lane.timeout s.now (lane.session (s.places address))) lane.act 256

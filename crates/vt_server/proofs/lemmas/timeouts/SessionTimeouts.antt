@@ -23,7 +23,7 @@ use Rattle.vt_names.proofs.AddressesAfterClaim.{by_eq}
 
 -- ---- one session expires
 
-module _ {S : Type 0} {old new : ByAddress S} {now address : ℕ} {session : S} (expired : Expires old new now address session) where
+module _ {S : Type 0} {timeout : ℕ} {old new : ByAddress S} {now address : ℕ} {session : S} (expired : Expires timeout old new now address session) where
   gone : finite.get new address ≡ None
   gone = ap (λ (m : ByAddress S). finite.get m address) expired.removed ∙ (session_removed old address).gone
 
@@ -31,12 +31,12 @@ module _ {S : Type 0} {old new : ByAddress S} {now address : ℕ} {session : S} 
   others-stay q ne = ap (λ (m : ByAddress S). finite.get m q) expired.removed ∙ (session_removed old address).others q ne
 
   -- The sessions that are not overdue are unchanged.
-  alive-same : (q : ℕ) → alive now (finite.get new q) ≡ alive now (finite.get old q)
+  alive-same : (q : ℕ) → alive timeout now (finite.get new q) ≡ alive timeout now (finite.get old q)
   alive-same q =
       by_eq q address
-      (λ is. ap (λ r. alive now (finite.get new r)) is ∙ ap (alive now) gone
-      ∙ sym (ap (λ b. cond b None (finite.get old address)) expired.first.overdue) ∙ ap (λ r. alive now (finite.get old r)) (sym is))
-      (λ ne. ap (alive now) (others-stay q ne))
+      (λ is. ap (λ r. alive timeout now (finite.get new r)) is ∙ ap (alive timeout now) gone
+      ∙ sym (ap (λ b. cond b None (finite.get old address)) expired.first.overdue) ∙ ap (λ r. alive timeout now (finite.get old r)) (sym is))
+      (λ ne. ap (alive timeout now) (others-stay q ne))
 
   pub one-less : finite.len new + 1 ≡ finite.len old
   one-less =
@@ -45,12 +45,12 @@ module _ {S : Type 0} {old new : ByAddress S} {now address : ℕ} {session : S} 
 
 -- ---- one session of a lane expires
 
-due-is : {S : Type 0} (lane : Lane S) (t : Terminal) → due lane (state_of t) ≡ each_overdue t.time (lane.sessions t.node) lane.act
-due-is lane t = ap (λ (f : ℕ → Bool). each_below f lane.act 256) (λ i address. is_overdue t.time (lane.found t address i))
+due-is : {S : Type 0} (lane : Lane S) (t : Terminal) → due lane (state_of t) ≡ each_overdue lane.timeout t.time (lane.sessions t.node) lane.act
+due-is lane t = ap (λ (f : ℕ → Bool). each_below f lane.act 256) (λ i address. is_overdue lane.timeout t.time (lane.found t address i))
 
 -- One step of the loop: from the current node to the next.
 module _ {S : Type 0} (lane : Lane S) (now : Terminal) (node : NodeState) (rest : node ≡ lane.with_sessions (lane.sessions node) now.node) (frame : Frame)
-    (expired : HasExpired (lane.abort now.node.claims.own) (lane.sessions now.node) (lane.sessions node) now.time frame) where
+    (expired : HasExpired lane.timeout (lane.abort now.node.claims.own) (lane.sessions now.node) (lane.sessions node) now.time frame) where
   abbrev current : State
   current = state_of now
 
@@ -89,7 +89,7 @@ module _ {S : Type 0} (lane : Lane S) (now : Terminal) (node : NodeState) (rest 
   due-next : due lane current ≡ (address, lane.act) ∷ due lane next
   due-next =
       due-is lane now
-      ∙ (first_expires S Act).some (lane.sessions now.node) (lane.sessions node) now.time address expired.session lane.act expired.expired
+      ∙ (first_expires S Act).some lane.timeout (lane.sessions now.node) (lane.sessions node) now.time address expired.session lane.act expired.expired
       ∙ ap (λ acts. (address, lane.act) ∷ acts) (sym (due-is lane (record now { node = node })))
 
   state-next : after_acts next (due lane next) ≡ after_acts current (due lane current)
@@ -112,13 +112,13 @@ pub record IsExpiring {S : Type 0} (lane : Lane S) (spare : ℕ) (old now : Term
   pub rest : now ≡ record old { node = lane.with_sessions (lane.sessions now.node) old.node }
   pub state : after_acts (state_of now) (due lane (state_of now)) ≡ after_acts (state_of old) (due lane (state_of old))
   pub sent : now_out ++ outputs_of (sent_by_acts (state_of now) (due lane (state_of now))) ≡ old_out ++ outputs_of (sent_by_acts (state_of old) (due lane (state_of old)))
-  pub timely : (address : ℕ) → alive old.time (finite.get (lane.sessions now.node) address) ≡ alive old.time (finite.get (lane.sessions old.node) address)
+  pub timely : (address : ℕ) → alive lane.timeout old.time (finite.get (lane.sessions now.node) address) ≡ alive lane.timeout old.time (finite.get (lane.sessions old.node) address)
   pub enough : finite.len (lane.sessions now.node) ≤ 256 → finite.len (lane.sessions now.node) + spare ≤ free
 
 module _ {S : Type 0} {lane : Lane S} {spare : ℕ} {old now : Terminal} {node : NodeState} {old_out out : List Output} {free : ℕ}
     (so_far : IsExpiring lane spare old now old_out out free) (rest : node ≡ lane.with_sessions (lane.sessions node) now.node) where
   pub goes-on : {frame : Frame} {new_out : List Output} {left : ℕ}
-      → HasExpired (lane.abort now.node.claims.own) (lane.sessions now.node) (lane.sessions node) now.time frame
+      → HasExpired lane.timeout (lane.abort now.node.claims.own) (lane.sessions now.node) (lane.sessions node) now.time frame
       → AreOfAddresses (lane.sessions now.node) → new_out ≡ out ++ declared.Frame frame ∷ [] → free ≤ left + 1
       → IsExpiring lane spare old (record now { node = node }) old_out new_out left
   goes-on {frame} {new_out} {left} expired addresses out-is one_taken =
@@ -134,16 +134,16 @@ module _ {S : Type 0} {lane : Lane S} {spare : ℕ} {old now : Terminal} {node :
             ∙ sent-next lane now node rest frame expired out
             ∙ so_far.sent;
         timely = λ address.
-            ap (λ time. alive time (finite.get (lane.sessions node) address)) (sym time-is)
+            ap (λ time. alive lane.timeout time (finite.get (lane.sessions node) address)) (sym time-is)
             ∙ alive-same expired.expired address
-            ∙ ap (λ time. alive time (finite.get (lane.sessions now.node) address)) time-is
+            ∙ ap (λ time. alive lane.timeout time (finite.get (lane.sessions now.node) address)) time-is
             ∙ so_far.timely address;
         enough = λ few. omega (arith, so_far.enough addresses.at_most);
       }
 
-  module _ (none : NoneExpires (lane.sessions now.node) (lane.sessions node) now.time) where
+  module _ (none : NoneExpires lane.timeout (lane.sessions now.node) (lane.sessions node) now.time) where
     none-due : due lane (state_of now) ≡ []
-    none-due = due-is lane now ∙ (first_expires S Act).none (lane.sessions now.node) (lane.sessions node) now.time lane.act none
+    none-due = due-is lane now ∙ (first_expires S Act).none lane.timeout (lane.sessions now.node) (lane.sessions node) now.time lane.act none
 
     pub state-ends : state_of (record now { node = node }) ≡ after_acts (state_of old) (due lane (state_of old))
     state-ends =
