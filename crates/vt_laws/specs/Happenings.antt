@@ -2,6 +2,7 @@
 use Rattle.std.specs.Prelude.{◌≡◌, ◌≢◌, ℕ, ◌==◌, ◌&&◌, Bool, true, false, if◌then◌else◌, List, [], ◌∷◌, ◌++◌, Option, Some, None, nat_eq, is_some}
 use Rattle.std.specs.List.{AllZip}
 use Rattle.std.specs.Option.{option_eq}
+use Rattle.vt_can.specs.Assigned.{TP_TIMEOUT, ETP_TIMEOUT, SENDER_TIMEOUT}
 use Rattle.vt_can.specs.declared.frames.frame.Frame.{Frame}
 use Rattle.vt_can.specs.frames.Frame.{source_of}
 use Rattle.vt_can.specs.lines.Actions.{ActionValue}
@@ -87,9 +88,9 @@ is_at address found = option_eq nat_eq found (Some address)
 -- the happenings by the time of a frame: timeouts of sessions, and the closing of a silent set
 abbrev pub lapses : ℕ → State → List Happening
 lapses address s =
-    if_so (is_overdue s.now (s.places address).tp) TpExpired
-    ++ (if_so (is_overdue s.now (s.places address).etp) EtpExpired
-    ++ (if_so (is_overdue s.now (s.places address).sending) SendingExpired
+    if_so (is_overdue TP_TIMEOUT s.now (s.places address).tp) TpExpired
+    ++ (if_so (is_overdue ETP_TIMEOUT s.now (s.places address).etp) EtpExpired
+    ++ (if_so (is_overdue SENDER_TIMEOUT s.now (s.places address).sending) SendingExpired
     ++ if_so (is_some (set_at address s.sets) && is_silent s.now (s.places address).heard) FellSilent))
 
 -- whether the terminal loses its address by a frame

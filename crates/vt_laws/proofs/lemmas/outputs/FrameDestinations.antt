@@ -1,6 +1,7 @@
 -- The frames of a step to one address are messages, session control frames and packets; those to all are claims and statuses.
 use Rattle.std.proofs.Common.{◌≡◌, ◌<◌, ◌^◌, inl, inr, ◌||◌, ℕ, Bool, true, false, cond, nat_eq, List, [], ◌∷◌, ◌++◌, map, Option, Some, None, IfSome, refl, sym, ap, subst, ◌∙◌, arith}
 use Rattle.std.specs.Option.{option_eq}
+use Rattle.vt_can.specs.Assigned.{TP_TIMEOUT, ETP_TIMEOUT, SENDER_TIMEOUT}
 use Rattle.vt_can.specs.declared.frames.frame.Frame.{Frame}
 use Rattle.vt_can.specs.frames.Identifier.{PartsAreIdentifiers, parts_of, raw_of, addressed}
 use Rattle.vt_can.specs.frames.Frame.{source_of}
@@ -125,10 +126,10 @@ module _ (law : PartsAreIdentifiers) where
         let t-is = own-acts s (tp_due s) is in
         let u-is = own-acts t (etp_due t) t-is in
         addressed-append own (sent_by_acts s (tp_due s)) (sent_by_acts t (etp_due t) ++ sent_by_acts u (sending_due u))
-        (acts-send s (tp_due s) is (at-below Fits (λ b. is_overdue s.now (s.places b).tp) TpExpires 256 (λ b lt. lt)))
+        (acts-send s (tp_due s) is (at-below Fits (λ b. is_overdue TP_TIMEOUT s.now (s.places b).tp) TpExpires 256 (λ b lt. lt)))
         (addressed-append own (sent_by_acts t (etp_due t)) (sent_by_acts u (sending_due u))
-        (acts-send t (etp_due t) t-is (at-below Fits (λ b. is_overdue t.now (t.places b).etp) EtpExpires 256 (λ b lt. lt)))
-        (acts-send u (sending_due u) u-is (at-below Fits (λ b. is_overdue u.now (u.places b).sending) SendingExpires 256 (λ b lt. lt))))
+        (acts-send t (etp_due t) t-is (at-below Fits (λ b. is_overdue ETP_TIMEOUT t.now (t.places b).etp) EtpExpires 256 (λ b lt. lt)))
+        (acts-send u (sending_due u) u-is (at-below Fits (λ b. is_overdue SENDER_TIMEOUT u.now (u.places b).sending) SendingExpires 256 (λ b lt. lt))))
 
     -- ---- frames to all
 

@@ -105,8 +105,8 @@ pub outcome-replies : (now a : ℕ) (p : AddressView) (h : Act) → AreReplies p
 outcome-replies now a p (Hears n frame verdict) = notice-replies now a (record p { place = heard_at now p.place }) n frame verdict
 outcome-replies now a p Rebinds = change-replies p.terminal a p p.set
 outcome-replies now a p (Preloads contents) = tt
-outcome-replies now a p TpExpires = option-replies p.terminal a (λ timed. tp.protocol.reply_frame p.terminal a (tp.protocol.timeout timed.session)) (λ timed. inr (inl refl)) p.place.tp
-outcome-replies now a p EtpExpires = option-replies p.terminal a (λ timed. etp.protocol.reply_frame p.terminal a (etp.protocol.timeout timed.session)) (λ timed. inr (inr (inl refl))) p.place.etp
+outcome-replies now a p TpExpires = option-replies p.terminal a (λ timed. tp.protocol.reply_frame p.terminal a (tp.protocol.timeout_reply timed.session)) (λ timed. inr (inl refl)) p.place.tp
+outcome-replies now a p EtpExpires = option-replies p.terminal a (λ timed. etp.protocol.reply_frame p.terminal a (etp.protocol.timeout_reply timed.session)) (λ timed. inr (inr (inl refl))) p.place.etp
 outcome-replies now a p SendingExpires = option-replies p.terminal a (λ timed. timeout_frame p.terminal a timed.session) (λ timed. inr (inl refl)) p.place.sending
 outcome-replies now a p FallsSilent = tt
 outcome-replies now a p (Operates action shown) = operator-replies now a p action shown p.place.content.pool

@@ -2,6 +2,7 @@
 use Rattle.std.proofs.Common.{◌≡◌, ◌<◌, ◌≤◌, ◌+◌, ℕ, zero, suc, ◌||◌, Bool, true, false, cond, nat_eq, eqb, List, [], ◌∷◌, ◌++◌, map, length, slice_index, Option, Some, None, refl, sym, ap, subst, ◌∙◌, arith}
 use Rattle.std.proofs.lemmas.List.{length-append, length-map}
 use Rattle.std.specs.Option.{option_eq}
+use Rattle.vt_can.specs.Assigned.{TP_TIMEOUT, ETP_TIMEOUT, SENDER_TIMEOUT}
 use Rattle.vt_can.specs.declared.frames.frame.Frame.{Frame}
 use Rattle.vt_can.specs.frames.Frame.{source_of}
 use Rattle.vt_can.specs.lines.Actions.{ActionValue}
@@ -207,11 +208,11 @@ unfolding sent_by_lapses
 lapses-few s =
     let t = after_tp_timeouts s in
     let u = after_etp_timeouts s in
-    let first = timeouts-few s (λ b. is_overdue s.now (s.places b).tp) TpExpires
-    (λ x a. frames-few a 1 (outcome x.now a (part a x) TpExpires) refl (option-few (λ timed. tp.protocol.reply_frame x.claims.own a (tp.protocol.timeout timed.session)) (x.places a).tp)) in
-    let second = timeouts-few t (λ b. is_overdue t.now (t.places b).etp) EtpExpires
-    (λ x a. frames-few a 1 (outcome x.now a (part a x) EtpExpires) refl (option-few (λ timed. etp.protocol.reply_frame x.claims.own a (etp.protocol.timeout timed.session)) (x.places a).etp)) in
-    let third = timeouts-few u (λ b. is_overdue u.now (u.places b).sending) SendingExpires
+    let first = timeouts-few s (λ b. is_overdue TP_TIMEOUT s.now (s.places b).tp) TpExpires
+    (λ x a. frames-few a 1 (outcome x.now a (part a x) TpExpires) refl (option-few (λ timed. tp.protocol.reply_frame x.claims.own a (tp.protocol.timeout_reply timed.session)) (x.places a).tp)) in
+    let second = timeouts-few t (λ b. is_overdue ETP_TIMEOUT t.now (t.places b).etp) EtpExpires
+    (λ x a. frames-few a 1 (outcome x.now a (part a x) EtpExpires) refl (option-few (λ timed. etp.protocol.reply_frame x.claims.own a (etp.protocol.timeout_reply timed.session)) (x.places a).etp)) in
+    let third = timeouts-few u (λ b. is_overdue SENDER_TIMEOUT u.now (u.places b).sending) SendingExpires
     (λ x a. frames-few a 1 (outcome x.now a (part a x) SendingExpires) refl (option-few (λ timed. timeout_frame x.claims.own a timed.session) (x.places a).sending)) in
     let all = length-append (sent_by_acts s (tp_due s)) (sent_by_acts t (etp_due t) ++ sent_by_acts u (sending_due u)) in
     let both = length-append (sent_by_acts t (etp_due t)) (sent_by_acts u (sending_due u)) in

@@ -3,6 +3,7 @@ use Rattle.std.proofs.Common.{◌≡◌, ◌≢◌, ℕ, Bool, true, false, cond
 use Rattle.std.proofs.lemmas.List.Elements.{filter-append}
 use Rattle.std.specs.Prelude.{IfSome, IsSomeAnd}
 use Rattle.std.specs.List.{AllByRecursion, filter}
+use Rattle.vt_can.specs.Assigned.{TP_TIMEOUT, ETP_TIMEOUT, SENDER_TIMEOUT}
 use Rattle.vt_can.specs.declared.frames.frame.Frame.{Frame}
 use Rattle.vt_can.specs.declared.transport.sessions.Timed.{Timed}
 use Rattle.vt_can.specs.frames.Frame.{source_of}
@@ -193,9 +194,9 @@ lapsed-follows s q =
     let u = after_etp_timeouts s in
     let v = after_timeouts s in
     let w = after_acts v (silences v) in
-    let tp = due-follows s (λ a. is_overdue s.now (s.places a).tp) TpExpires q (λ a. tt) (λ a now p. refl) in
-    let etp = due-follows t (λ a. is_overdue t.now (t.places a).etp) EtpExpires q (λ a. tt) (λ a now p. refl) in
-    let sending = due-follows u (λ a. is_overdue u.now (u.places a).sending) SendingExpires q (λ a. tt) (λ a now p. refl) in
+    let tp = due-follows s (λ a. is_overdue TP_TIMEOUT s.now (s.places a).tp) TpExpires q (λ a. tt) (λ a now p. refl) in
+    let etp = due-follows t (λ a. is_overdue ETP_TIMEOUT t.now (t.places a).etp) EtpExpires q (λ a. tt) (λ a now p. refl) in
+    let sending = due-follows u (λ a. is_overdue SENDER_TIMEOUT u.now (u.places a).sending) SendingExpires q (λ a. tt) (λ a now p. refl) in
     let silence = lapse-follows v (silences v) q (silences-plain (filter (set_is_silent v) v.sets)) (silences-none (filter (set_is_silent v) v.sets)) in
     follows-then (pool_of s q) (pool_of t q) (pool_of w q) [] [] tp
     (follows-then (pool_of t q) (pool_of u q) (pool_of w q) [] [] etp

@@ -3,6 +3,7 @@ use Rattle.std.proofs.Common.{◌≡◌, ℕ, Bool, true, false, cond, nat_eq, e
 use Rattle.std.specs.Prelude.{IfSome}
 use Rattle.std.specs.List.{filter}
 use Rattle.std.specs.Option.{option_eq}
+use Rattle.vt_can.specs.Assigned.{TP_TIMEOUT, ETP_TIMEOUT, SENDER_TIMEOUT}
 use Rattle.vt_can.specs.declared.frames.frame.Frame.{Frame}
 use Rattle.vt_can.specs.frames.Frame.{source_of}
 use Rattle.vt_can.specs.lines.Actions.{ActionValue, Press, Release, Select, Number, Text}
@@ -165,9 +166,9 @@ module _ (laws : Laws) where
       let u = after_etp_timeouts s in
       let v = after_timeouts s in
       acts-in-force pools v (silences v) (silences-plain (filter (set_is_silent v) v.sets))
-      (acts-in-force pools u (sending_due u) (at-below IsPlain (λ a. is_overdue u.now (u.places a).sending) SendingExpires 256 (λ a lt. tt))
-      (acts-in-force pools t (etp_due t) (at-below IsPlain (λ a. is_overdue t.now (t.places a).etp) EtpExpires 256 (λ a lt. tt))
-      (acts-in-force pools s (tp_due s) (at-below IsPlain (λ a. is_overdue s.now (s.places a).tp) TpExpires 256 (λ a lt. tt)) is)))
+      (acts-in-force pools u (sending_due u) (at-below IsPlain (λ a. is_overdue SENDER_TIMEOUT u.now (u.places a).sending) SendingExpires 256 (λ a lt. tt))
+      (acts-in-force pools t (etp_due t) (at-below IsPlain (λ a. is_overdue ETP_TIMEOUT t.now (t.places a).etp) EtpExpires 256 (λ a lt. tt))
+      (acts-in-force pools s (tp_due s) (at-below IsPlain (λ a. is_overdue TP_TIMEOUT s.now (s.places a).tp) TpExpires 256 (λ a lt. tt)) is)))
 
   shown_updated-in-force : (pools : Pools) (s : State) → ArePoolsInForce pools s → ArePoolsInForce pools (with_shown_updated s)
   unfolding with_shown_updated

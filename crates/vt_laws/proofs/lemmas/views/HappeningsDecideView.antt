@@ -3,6 +3,7 @@ use Rattle.std.proofs.Common.{◌≡◌, ◌≢◌, ℕ, Bool, true, false, cond
 use Rattle.std.proofs.lemmas.Bool.{eqb-true, false≢true}
 use Rattle.std.specs.List.{AllZip}
 use Rattle.std.specs.Option.{option_eq}
+use Rattle.vt_can.specs.Assigned.{TP_TIMEOUT, ETP_TIMEOUT, SENDER_TIMEOUT}
 use Rattle.vt_can.specs.declared.frames.frame.Frame.{Frame}
 use Rattle.vt_can.specs.frames.Frame.{source_of}
 use Rattle.vt_can.specs.lines.Actions.{ActionValue}
@@ -74,9 +75,9 @@ plain-so false h plain = tt
 
 lapses-plain : (a : ℕ) (s : State) → ArePlain (lapses a s)
 lapses-plain a s =
-    let tp = is_overdue s.now (s.places a).tp in
-    let etp = is_overdue s.now (s.places a).etp in
-    let sending = is_overdue s.now (s.places a).sending in
+    let tp = is_overdue TP_TIMEOUT s.now (s.places a).tp in
+    let etp = is_overdue ETP_TIMEOUT s.now (s.places a).etp in
+    let sending = is_overdue SENDER_TIMEOUT s.now (s.places a).sending in
     let silent = is_some (set_at a s.sets) && is_silent s.now (s.places a).heard in
     plain-append (if_so tp TpExpired) (if_so etp EtpExpired ++ (if_so sending SendingExpired ++ if_so silent FellSilent)) (plain-so tp TpExpired (λ b p. tt))
     (plain-append (if_so etp EtpExpired) (if_so sending SendingExpired ++ if_so silent FellSilent) (plain-so etp EtpExpired (λ b p. tt))

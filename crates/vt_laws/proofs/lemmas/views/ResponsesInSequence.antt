@@ -1,6 +1,7 @@
 -- The response of an address to one stage of a step, and to several in sequence.
 use Rattle.std.proofs.Common.{◌≡◌, ◌<◌, ℕ, Bool, true, false, cond, ◌&&◌, List, [], ◌∷◌, ◌++◌, Option, Some, None, is_some, refl, sym, ap, subst, ◌∙◌, nat_eq, append_assoc, append-nil}
 use Rattle.std.specs.Option.{option_eq}
+use Rattle.vt_can.specs.Assigned.{TP_TIMEOUT, ETP_TIMEOUT, SENDER_TIMEOUT}
 use Rattle.vt_can.specs.transport.Sessions.{is_overdue}
 use Rattle.vt_names.specs.Registry.{AreApart, set_at}
 use Rattle.vt_server.specs.shown.ShownSet.{choosing, shown_now, raised_at, events_of_change, display, status, same_display, ShownMasks, status_frame, ACTIVATE, DEACTIVATE}
@@ -121,11 +122,11 @@ module _ (laws : Laws) (a : ℕ) (s : State) (small : a < 256) (apart : AreApart
   lapses-take =
       subst (λ l. Takes a (bare a s) (sent_by_acts s (tp_due s) ++ (sent_by_acts first (etp_due first) ++ l)) (lapsed s) (lapses a s)) (append-nil (sent_by_acts second (sending_due second)))
       (then-takes a (bare a s) (sent_by_acts s (tp_due s)) _ first (lapsed s) _ _
-      (acts-take laws a s (tp_due s) has (is_overdue s.now (s.places a).tp) TpExpires TpExpired (of-tp s a small) (λ _. refl))
+      (acts-take laws a s (tp_due s) has (is_overdue TP_TIMEOUT s.now (s.places a).tp) TpExpires TpExpired (of-tp s a small) (λ _. refl))
       (then-takes a (bare a first) (sent_by_acts first (etp_due first)) _ second (lapsed s) _ _
-      (acts-take laws a first (etp_due first) has-first (is_overdue s.now (s.places a).etp) EtpExpires EtpExpired (of-etp s a small) (λ _. refl))
+      (acts-take laws a first (etp_due first) has-first (is_overdue ETP_TIMEOUT s.now (s.places a).etp) EtpExpires EtpExpired (of-etp s a small) (λ _. refl))
       (then-takes a (bare a second) (sent_by_acts second (sending_due second)) [] third (lapsed s) _ _
-      (acts-take laws a second (sending_due second) has-second (is_overdue s.now (s.places a).sending) SendingExpires SendingExpired (of-sending s a small) (λ _. refl))
+      (acts-take laws a second (sending_due second) has-second (is_overdue SENDER_TIMEOUT s.now (s.places a).sending) SendingExpires SendingExpired (of-sending s a small) (λ _. refl))
       silent-takes)))
 
 -- ---- the choice of the shown set, and the events of its change

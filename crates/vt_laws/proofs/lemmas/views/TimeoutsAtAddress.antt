@@ -1,6 +1,7 @@
 -- The acts by the time of a frame at one address: timeouts of its sessions and the closing of its set.
 use Rattle.std.proofs.Common.{◌≡◌, ◌≢◌, ◌<◌, ◌≤◌, ℕ, zero, suc, Bool, true, false, cond, ◌&&◌, eqb, List, [], ◌∷◌, ◌++◌, map, Option, None, is_some, refl, sym, ap, subst, ◌∙◌, eq-eqb, ne_eqb, append-nil, arith}
 use Rattle.std.specs.List.{filter}
+use Rattle.vt_can.specs.Assigned.{TP_TIMEOUT, ETP_TIMEOUT, SENDER_TIMEOUT}
 use Rattle.vt_can.specs.transport.Sessions.{each_below, is_overdue}
 use Rattle.vt_names.specs.Registry.{AreApart, Set, set_at}
 use Rattle.vt_server.specs.frame.TimeoutActs.{silences, tp_due, etp_due, sending_due, after_tp_timeouts, after_etp_timeouts, after_timeouts}
@@ -135,37 +136,37 @@ module _ (s : State) where
 
   pub sets-third : third.sets ≡ s.sets
   sets-third =
-      sets-kept second (sending_due second) (all-below KeepsSets (λ a. is_overdue second.now (second.places a).sending) SendingExpires 256 (λ now b p. refl))
-      ∙ sets-kept first (etp_due first) (all-below KeepsSets (λ a. is_overdue first.now (first.places a).etp) EtpExpires 256 (λ now b p. refl))
-      ∙ sets-kept s (tp_due s) (all-below KeepsSets (λ a. is_overdue s.now (s.places a).tp) TpExpires 256 (λ now b p. refl))
+      sets-kept second (sending_due second) (all-below KeepsSets (λ a. is_overdue SENDER_TIMEOUT second.now (second.places a).sending) SendingExpires 256 (λ now b p. refl))
+      ∙ sets-kept first (etp_due first) (all-below KeepsSets (λ a. is_overdue ETP_TIMEOUT first.now (first.places a).etp) EtpExpires 256 (λ now b p. refl))
+      ∙ sets-kept s (tp_due s) (all-below KeepsSets (λ a. is_overdue TP_TIMEOUT s.now (s.places a).tp) TpExpires 256 (λ now b p. refl))
 
   module _ {X : Type 0} (read : AddressState → X) (a : ℕ) where
     places-first : KeepsPlaces read TpExpires → read (first.places a) ≡ read (s.places a)
-    places-first keeps = places-kept read a s (tp_due s) (all-below (KeepsPlaces read) (λ b. is_overdue s.now (s.places b).tp) TpExpires 256 keeps)
+    places-first keeps = places-kept read a s (tp_due s) (all-below (KeepsPlaces read) (λ b. is_overdue TP_TIMEOUT s.now (s.places b).tp) TpExpires 256 keeps)
 
     places-second : KeepsPlaces read TpExpires → KeepsPlaces read EtpExpires → read (second.places a) ≡ read (s.places a)
     places-second keeps then-keeps =
-        places-kept read a first (etp_due first) (all-below (KeepsPlaces read) (λ b. is_overdue first.now (first.places b).etp) EtpExpires 256 then-keeps)
+        places-kept read a first (etp_due first) (all-below (KeepsPlaces read) (λ b. is_overdue ETP_TIMEOUT first.now (first.places b).etp) EtpExpires 256 then-keeps)
         ∙ places-first keeps
 
     pub places-third : KeepsPlaces read TpExpires → KeepsPlaces read EtpExpires → KeepsPlaces read SendingExpires → read (third.places a) ≡ read (s.places a)
     places-third keeps then-keeps last-keeps =
-        places-kept read a second (sending_due second) (all-below (KeepsPlaces read) (λ b. is_overdue second.now (second.places b).sending) SendingExpires 256 last-keeps)
+        places-kept read a second (sending_due second) (all-below (KeepsPlaces read) (λ b. is_overdue SENDER_TIMEOUT second.now (second.places b).sending) SendingExpires 256 last-keeps)
         ∙ places-second keeps then-keeps
 
   module _ (a : ℕ) (small : a < 256) where
-    pub of-tp : of a (tp_due s) ≡ so (is_overdue s.now (s.places a).tp) TpExpires
-    of-tp = of-below a 256 (λ b. is_overdue s.now (s.places b).tp) TpExpires small
+    pub of-tp : of a (tp_due s) ≡ so (is_overdue TP_TIMEOUT s.now (s.places a).tp) TpExpires
+    of-tp = of-below a 256 (λ b. is_overdue TP_TIMEOUT s.now (s.places b).tp) TpExpires small
 
-    pub of-etp : of a (etp_due first) ≡ so (is_overdue s.now (s.places a).etp) EtpExpires
+    pub of-etp : of a (etp_due first) ≡ so (is_overdue ETP_TIMEOUT s.now (s.places a).etp) EtpExpires
     of-etp =
-        of-below a 256 (λ b. is_overdue first.now (first.places b).etp) EtpExpires small
-        ∙ (λ i. so (is_overdue (now-first i) (places-first (λ (x : AddressState). x.etp) a (λ now b p. refl) i)) EtpExpires)
+        of-below a 256 (λ b. is_overdue ETP_TIMEOUT first.now (first.places b).etp) EtpExpires small
+        ∙ (λ i. so (is_overdue ETP_TIMEOUT (now-first i) (places-first (λ (x : AddressState). x.etp) a (λ now b p. refl) i)) EtpExpires)
 
-    pub of-sending : of a (sending_due second) ≡ so (is_overdue s.now (s.places a).sending) SendingExpires
+    pub of-sending : of a (sending_due second) ≡ so (is_overdue SENDER_TIMEOUT s.now (s.places a).sending) SendingExpires
     of-sending =
-        of-below a 256 (λ b. is_overdue second.now (second.places b).sending) SendingExpires small
-        ∙ (λ i. so (is_overdue (now-second i) (places-second (λ (x : AddressState). x.sending) a (λ now b p. refl) (λ now b p. refl) i)) SendingExpires)
+        of-below a 256 (λ b. is_overdue SENDER_TIMEOUT second.now (second.places b).sending) SendingExpires small
+        ∙ (λ i. so (is_overdue SENDER_TIMEOUT (now-second i) (places-second (λ (x : AddressState). x.sending) a (λ now b p. refl) (λ now b p. refl) i)) SendingExpires)
 
   pub of-silences : (a : ℕ) → AreApart s.sets → of a (silences third) ≡ so (is_some (set_at a s.sets) && is_silent s.now (s.places a).heard) FallsSilent
   of-silences a apart =
