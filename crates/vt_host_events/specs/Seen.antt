@@ -1,6 +1,7 @@
 -- What is seen of a terminal before an input and after it (docs/PROFILE.md, "Events for a host").
 use Rattle.std.specs.Prelude.{ℕ, ◌&&◌, Bool, false, not, List, map, Option, Some, None, is_some}
 use Rattle.std.specs.FinMap as finite
+use Rattle.vt_can.specs.Assigned.{SENDER_TIMEOUT}
 use Rattle.vt_can.specs.transport.Sessions.{is_overdue}
 use Rattle.vt_names.specs.Registry.{set_at}
 use Rattle.vt_node.specs.Watches.{is_silent}
@@ -23,7 +24,7 @@ use Rattle.vt_host_events.specs.declared.seen.SourceSeen.{SourceSeen}
 -- whether a message to an address is overdue at the time of an input, which an action of the operator does not have
 abbrev pub overdue_by : Option ℕ → State → ℕ → Bool
 overdue_by None s address = false
-overdue_by (Some time) s address = is_overdue time (s.places address).sending
+overdue_by (Some time) s address = is_overdue SENDER_TIMEOUT time (s.places address).sending
 
 -- whether an address is silent at the time of an input
 abbrev pub silent_by : Option ℕ → State → ℕ → Bool
