@@ -7,11 +7,11 @@ pub loop-abort-preserved : goal.loop-abort-preserved
 loop-abort-preserved c = record {
   own_address = c.expire.ensures.own_address ∙ c.loop-abort.invariant.own_address;
   spare = c.expire.ensures.spare ∙ c.loop-abort.invariant.spare;
-  sessions = λ q. expired_same _ _ _ _ _ c.in-Some.ensures.some.expired q ∙ c.loop-abort.invariant.sessions q;
+  sessions = λ q. expired_same _ _ _ _ _ _ c.in-Some.ensures.some.expired q ∙ c.loop-abort.invariant.sessions q;
 }
 
 pub loop-abort-smaller : goal.loop-abort-smaller
-loop-abort-smaller c = expired_fewer _ _ _ _ _ c.in-Some.ensures.some.expired
+loop-abort-smaller c = expired_fewer _ _ _ _ _ _ c.in-Some.ensures.some.expired
 
 pub returns-clause-serves : goal.returns-clause-serves
 returns-clause-serves c =
