@@ -210,11 +210,11 @@ module _ {S F R O P : Type 0} (protocol : Protocol S F R) (spelling : Spelling F
       let frames = frames_of timed in
       let none : said channel frame ≡ None = subst (λ s. said (channel_of extended s own) frame ≡ None) from (reading.unread own frame small decodes) in
       same_before frame frames later o none
-      (continues later earlier o (unmarked (is_overdue now (session_after protocol (history timed))) now (history timed) later earlier (spelling.request o) is quiet) quiet
+      (continues later earlier o (unmarked (is_overdue protocol.timeout now (session_after protocol (history timed))) now (history timed) later earlier (spelling.request o) is quiet) quiet
       (not_refused channel (spelling.pgn o) frame frames (none_asks (said channel frame) none) free))
   after_own now frame timed (Some f) decodes from continues later earlier o is quiet free =
       after_frame frame f timed decodes from continues (untimed (marked protocol now (history timed))) later earlier o is
-      (λ later' is' quiet'. unmarked (is_overdue now (session_after protocol (history timed))) now (history timed) later' earlier (spelling.request o) is' quiet') quiet free
+      (λ later' is' quiet'. unmarked (is_overdue protocol.timeout now (session_after protocol (history timed))) now (history timed) later' earlier (spelling.request o) is' quiet') quiet free
 
   after_any : (now : ℕ) (frame : Frame) (timed : List (ℕ × Frame)) (from : Bool) → eqb (source_of frame) source ≡ from → Continues timed
       → (later earlier : List (SessionEvent F)) (o : O)
@@ -224,7 +224,7 @@ module _ {S F R O P : Type 0} (protocol : Protocol S F R) (spelling : Spelling F
       after_own now frame timed (protocol.frame_in own frame) refl (eqb-true (source_of frame) source from) continues later earlier o is quiet free
   after_any now frame timed false from continues later earlier o is quiet free =
       after_another frame timed (eqb-false (source_of frame) source from) continues later earlier o
-      (unmarked (is_overdue now (session_after protocol (history timed))) now (history timed) later earlier (spelling.request o) is quiet) quiet free
+      (unmarked (is_overdue protocol.timeout now (session_after protocol (history timed))) now (history timed) later earlier (spelling.request o) is quiet) quiet free
 
   -- the parts since the request are those of the later session events
   pub follow : (timed : List (ℕ × Frame)) → Continues timed
@@ -289,7 +289,7 @@ module _ {S F R O P : Type 0} (protocol : Protocol S F R) (spelling : Spelling F
         let e = split in
         let head : h ≡ Came f = cc in
         let tail : hs ≡ later ++ Came (spelling.request o) ∷ earlier = cc in
-        let is = unmarked (is_overdue now (session_after protocol (history timed))) now (history timed) later earlier (spelling.request o) (sym hs_are ∙ tail) quiet.1 in
+        let is = unmarked (is_overdue protocol.timeout now (session_after protocol (history timed))) now (history timed) later earlier (spelling.request o) (sym hs_are ∙ tail) quiet.1 in
         let continued = follow timed later earlier o is quiet.1 (λ refused. free (subst (λ p. IsRefused (channel_of extended source own) p (frames_of timed)) (sym pgn) refused)) in
         whole_after frame (frames_of timed) o packets later message continued
         (last o packets frame continued.came h later (record { f = f; is = head; decodes = decodes; from = from }) continued.decoded opened quiet brought all
