@@ -31,7 +31,7 @@ EXAMPLES = {
     'A refusal to the operator': {'NotPressed|VT_NOT_PRESSED': ''},
     'A refusal of a pool': {r'MacroValue|(rule|refusal)\W+1 to 12': ''},
     'A fault of a pool': {r'NullId|1 to 5\W+(and|or) 7': ''},
-    'A timeout': {'TIMEOUT|1250000|1_250_000|1,250,000': '', 'SILENCE|3000000|3_000_000|3,000,000': 'crates/'},
+    'A timeout': {r'(TP|ETP|SENDER)_TIMEOUT(: u64)? =|1250000|1_250_000|1,250,000': '', 'SILENCE|3000000|3_000_000|3,000,000': 'crates/'},
     'A form of log lines': {'frame_form|data_form|put_frame': 'crates/vt_recorded/'},
     'An option of vt_replay': {r'report_flag|in_report|options\.report|"report"|six_ids': 'crates/vt_program/'},
     'A subcommand of segyolant_log': {'Options::Compare|CompareOptions|run_compare|"compare"': 'crates/'},
