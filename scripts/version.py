@@ -12,8 +12,7 @@ ROOT = os.path.dirname(os.path.dirname(os.path.abspath(__file__)))
 # The file, and the text around the version: {} is 0.2.0, {hex} the number of vt_version(), 000200, as a header or Rust writes it.
 PLACES = [
     ('crates/vt_program/src/options.rt', '.version("{}")'),
-    ('crates/vt_inspector_words/src/subcommands.rt', 'version: "{}",'),
-    ('crates/vt_log_words/src/subcommands.rt', 'version: "{}",'),
+    ('crates/vt_cli/src/command_line.rt', 'pub const VERSION: &str = "{}";'),
     ('crates/vt_live/src/main.rt', '"vt_live {}\\n"'),
     ('crates/vt_live/stdout', 'vt_live {}\n'),
     ('crates/vt_terminal/src/lib.rt', 'const VERSION: u32 = 0x00{high}_{low};'),

@@ -6,57 +6,29 @@
 mod console;
 
 use console::Console;
-use std::fmt;
-use std::io::{self, BufWriter, Error, ErrorKind, Write};
+use std::io::{self, BufWriter};
 use std::process::ExitCode;
-use vt_log_tool::{Files, Status, run};
+use vt_cli::{Files, Status, exit_code, words_of};
+use vt_log_tool::run;
+
+/// The name of the program.
+const NAME: &str = "segyolant_log";
 
 fn main(rt: HostRuntime) -> io::Result<ExitCode> {
-    let status = match run_words(&rt) {
-        Ok(status) => status,
-        // Whoever reads the output has seen enough of it, such as head.
-        Err(error) if error.kind() == ErrorKind::BrokenPipe => Status::NotJudged,
-        Err(error) => {
-            let _ = writeln!(rt.stderr(), "segyolant_log: {}", Cause { error: &error });
-            Status::NotJudged
-        }
-    };
-    Ok(ExitCode::from(status.code()))
+    let status = run_words(&rt);
+    Ok(exit_code(&rt, NAME, status))
 }
 
 /// Runs the program on the words of the command line, with the streams of the system.
 fn run_words(rt: &HostRuntime) -> io::Result<Status> {
-    let alloc = rt.alloc();
-    let mut errors = Console::new(rt);
-    let words: Vec<String> = match std::env::args(rt) {
-        Ok(words) => words.collect(alloc)?,
-        Err(error) if error.kind() == ErrorKind::InvalidData => {
-            let _ = writeln!(
-                errors,
-                "segyolant_log: a word of the command line is not UTF-8; a file with such a name can be renamed, or read as -, the standard input"
-            );
-            return Ok(Status::NotJudged);
-        }
-        Err(error) => return Err(error),
+    let Some(words) = words_of(rt, NAME)? else {
+        return Ok(Status::NotJudged);
     };
+    let alloc = rt.alloc();
+    let mut files = Files::new(rt, NAME);
     let mut out = BufWriter::new(alloc, io::writer(rt))?;
-    let mut files = Files::new(rt, "segyolant_log");
+    let mut errors = Console::new(rt);
     let status = run(alloc, words.as_slice(), &mut files, &mut out, &mut errors);
     errors.end_progress();
     status
-}
-
-/// Why a run ended early: `run` itself reports files that cannot be read, so the cause is memory or the output.
-#[derive(Clone, Copy, Drop)]
-struct Cause<'a> {
-    error: &'a Error,
-}
-
-impl fmt::Display for Cause<'_> {
-    fn fmt<W: fmt::Write>(&self, f: &mut fmt::Formatter<W>) -> fmt::Result {
-        match self.error.kind() {
-            ErrorKind::OutOfMemory => write!(f, "out of memory"),
-            _ => write!(f, "the output could not be written: {}", self.error),
-        }
-    }
 }

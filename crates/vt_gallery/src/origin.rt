@@ -3,8 +3,8 @@
 use crate::{GivenSet, StateFault, pool_left};
 use std::alloc::Global;
 use std::io::{self, Error, ErrorKind, Write};
-use vt_files::{Open, read_file};
-use vt_inspector_words::{Origin, StartSet};
+use vt_cli::{Open, StartSet, read_file};
+use vt_inspector_words::Origin;
 use vt_logs::{ReplayFault, Stream};
 
 /// The file whose objects are drawn: the pool, or the log.

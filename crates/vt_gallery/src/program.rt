@@ -6,7 +6,7 @@ use crate::page::page_of;
 use crate::refusal::{Refusal, RefusalLine};
 use std::alloc::{AllocError, Global};
 use std::io::{self, Write};
-use vt_files::{Open, Save, make_folder, read_names, save_file};
+use vt_cli::{Open, Save, make_folder, read_names, save_file};
 use vt_findings_text::Source;
 use vt_inspect::inspect;
 use vt_inspector_words::{DrawOptions, Drawing};

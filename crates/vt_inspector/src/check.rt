@@ -1,9 +1,9 @@
 //! The subcommand `check`.
 
-use crate::program::{Look, Status, put_message};
+use crate::program::{Look, put_message};
 use std::alloc::Global;
 use std::io::{self, Write};
-use vt_files::{Open, read_file, read_names};
+use vt_cli::{Open, Status, read_file, read_names};
 use vt_findings_json::{item_json, summary_json};
 use vt_findings_text::{GithubLine, Item, Names, Source, Summary};
 use vt_inspect::inspect;

@@ -1,10 +1,10 @@
 //! The subcommand `diff`.
 
-use crate::program::{Status, is_read};
+use crate::program::is_read;
 use std::alloc::Global;
 use std::io::{self, Write};
 use vt_changes::changed_fields;
-use vt_files::{Open, read_file, read_names};
+use vt_cli::{Open, Status, read_file, read_names};
 use vt_findings_text::Source;
 use vt_inspect::{Finding, Inspection, inspect};
 use vt_inspector_words::DiffOptions;

@@ -10,5 +10,4 @@ mod needs;
 mod program;
 mod why;
 
-pub use program::{Look, Status, run};
-pub use vt_files::{Files, Open, Opened, Program, Save};
+pub use program::{Look, run};

@@ -1,9 +1,9 @@
 //! The subcommand `needs`.
 
-use crate::program::{Status, is_read};
+use crate::program::is_read;
 use std::alloc::Global;
 use std::io::{self, Error, ErrorKind, Write};
-use vt_files::{Open, read_file, read_names};
+use vt_cli::{Open, Status, read_file, read_names};
 use vt_findings_text::{Source, event_name};
 use vt_inspect::{Inspection, inspect};
 use vt_inspector_words::NeedsOptions;

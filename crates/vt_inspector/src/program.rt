@@ -1,8 +1,5 @@
 //! A run of the program, from its command line to its status.
 
-ghost use Rattle.std.specs.Prelude.{◌≡◌};
-ghost use Rattle.vt_inspector.specs.Statuses.{status_code};
-
 use crate::check::run_check;
 use crate::diff::run_diff;
 use crate::needs::run_needs;
@@ -10,44 +7,11 @@ use crate::why::run_why;
 use std::alloc::Global;
 use std::convert::AsStr;
 use std::io::{self, Write};
-use vt_files::{Open, Save};
+use vt_cli::{Open, Save, Status, refuse};
 use vt_findings_text::{ColouredLine, Message};
 use vt_gallery::{Outcome, run_draw};
 use vt_inspect::{Inspection, Note};
-use vt_inspector_words::{Options, UsageError};
-
-/// The status with which a run ends.
-#[derive(Clone, Copy, PartialEq, Eq)]
-pub enum Status {
-    /// Nothing was found.
-    Clean,
-    /// Something was found.
-    Found,
-    /// Something was not judged: the command line, a file or memory prevented it, or the subcommand accepts no such pool.
-    NotJudged,
-}
-
-impl Status {
-    /// The exit status of the process.
-    pub fn code(self) -> u8
-        ensures { result ≡ status_code self }
-    {
-        match self {
-            Status::Clean => 0,
-            Status::Found => 1,
-            Status::NotJudged => 2,
-        }
-    }
-
-    /// The status of two pools. `NotJudged` counts more than `Found`, and `Found` more than `Clean`.
-    pub(crate) fn and(self, other: Status) -> Status {
-        match (self, other) {
-            (Status::NotJudged, _) | (_, Status::NotJudged) => Status::NotJudged,
-            (Status::Found, _) | (_, Status::Found) => Status::Found,
-            (Status::Clean, Status::Clean) => Status::Clean,
-        }
-    }
-}
+use vt_inspector_words::Options;
 
 /// How the output looks.
 #[derive(Clone, Copy, PartialEq, Eq)]
@@ -91,20 +55,6 @@ fn status_of(outcome: Outcome) -> Status {
         Outcome::Faulty => Status::Found,
         Outcome::NotDrawn => Status::NotJudged,
     }
-}
-
-fn refuse<W: Write, E: Write>(
-    refusal: &UsageError<'_>,
-    out: &mut W,
-    errors: &mut E,
-) -> io::Result<Status> {
-    if refusal.is_help() {
-        write!(out, "{refusal}")?;
-        out.flush()?;
-        return Ok(Status::Clean);
-    }
-    let _ = write!(errors, "{refusal}");
-    Ok(Status::NotJudged)
 }
 
 /// Writes a message as its line for people.

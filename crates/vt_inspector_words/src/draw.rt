@@ -1,9 +1,10 @@
 //! The options of `draw`.
 
-use crate::options::{UsageError, all_of, area};
+use crate::options::area;
+use crate::wrong_option::WrongOption;
 use clap::ArgMatches;
-use hex::FromHex;
 use std::alloc::Global;
+use vt_cli::{StartSet, UsageError, all_of};
 use vt_needs::{Area, Sizes, TERMINAL_SIZES};
 use vt_objects::ObjectId;
 
@@ -34,15 +35,6 @@ pub enum Origin<'a> {
     },
 }
 
-/// A working set that is there from the start of a log.
-#[derive(Clone, Copy, PartialEq, Eq)]
-pub struct StartSet<'a> {
-    /// The file of its pool.
-    pub pool: &'a str,
-    /// Its address, at most 253, and not that of the terminal.
-    pub owner: u8,
-}
-
 /// What is drawn, and where.
 #[derive(Clone, Copy, PartialEq, Eq)]
 pub enum Drawing<'a> {
@@ -62,34 +54,32 @@ pub enum Drawing<'a> {
     },
 }
 
-/// The address of the pool's working set, unless another is given.
-const OWNER: u8 = 0x80;
-
 /// The address of the terminal that replays a log.
 const OWN_ADDRESS: u8 = 0x26;
 
 pub(crate) fn draw_options<'a>(
     alloc: Global,
     matches: &ArgMatches<'a>,
-) -> Result<DrawOptions<'a>, UsageError<'a>> {
+) -> Result<DrawOptions<'a>, UsageError<WrongOption<'a>>> {
     let Sizes { mask, key, keys } = TERMINAL_SIZES;
-    let mask = match area_of(matches, "size", mask) {
-        Ok(area) => area,
-        Err(value) => return Err(UsageError::Size(value)),
-    };
-    let key = match area_of(matches, "key-size", key) {
-        Ok(area) => area,
-        Err(value) => return Err(UsageError::KeySize(value)),
+    let mask = area_of(matches, "size", mask).map_err(WrongOption::Size)?;
+    let key = area_of(matches, "key-size", key).map_err(WrongOption::KeySize)?;
+    let origin = origin_of(
+        matches.get_str("POOL"),
+        matches.get_str("state"),
+        matches.get_str("owner"),
+    )?;
+    let names = all_of(alloc, matches, "names")?;
+    // The borrow checker does not cover `?` to another error at a value that holds an ID.
+    let drawing = match drawing_of(matches.get_str("mask"), matches.get_str("out")) {
+        Ok(drawing) => drawing,
+        Err(option) => return Err(UsageError::Wrong(option)),
     };
     Ok(DrawOptions {
-        origin: origin_of(
-            matches.get_str("POOL"),
-            matches.get_str("state"),
-            matches.get_str("owner"),
-        )?,
-        names: all_of(alloc, matches, "names")?,
+        origin,
+        names,
         sizes: Sizes { mask, key, keys },
-        drawing: drawing_of(matches.get_str("mask"), matches.get_str("out"))?,
+        drawing,
     })
 }
 
@@ -98,35 +88,19 @@ fn origin_of<'a>(
     pool: Option<&'a str>,
     log: Option<&'a str>,
     owner: Option<&'a str>,
-) -> Result<Origin<'a>, UsageError<'a>> {
+) -> Result<Origin<'a>, WrongOption<'a>> {
     match (pool, log, owner) {
         (Some(pool), Some(log), owner) => {
-            let owner = owner_of(owner)?;
-            let set = Some(StartSet { pool, owner });
-            Ok(Origin::State { log, set })
+            let set = StartSet::new(pool, owner, OWN_ADDRESS).map_err(WrongOption::Owner)?;
+            Ok(Origin::State {
+                log,
+                set: Some(set),
+            })
         }
-        (_, _, Some(_)) => Err(UsageError::OwnerAlone),
+        (_, _, Some(_)) => Err(WrongOption::OwnerAlone),
         (None, Some(log), None) => Ok(Origin::State { log, set: None }),
         (Some(pool), None, None) => Ok(Origin::Pool(pool)),
-        (None, None, None) => Err(UsageError::NoPool),
-    }
-}
-
-/// The address that the value of `--owner` gives, or else the default.
-fn owner_of<'a>(value: Option<&'a str>) -> Result<u8, UsageError<'a>> {
-    match value {
-        None => Ok(OWNER),
-        Some(value) => address(value).ok_or(UsageError::Owner(value)),
-    }
-}
-
-/// The address that two hex digits write, if a working set may have it.
-fn address(text: &str) -> Option<u8> {
-    let [address] = <[u8; 1]>::from_hex(text).ok()?;
-    if address <= 0xFD && address != OWN_ADDRESS {
-        Some(address)
-    } else {
-        None
+        (None, None, None) => Err(WrongOption::NoPool),
     }
 }
 
@@ -147,14 +121,14 @@ pub(crate) fn area_of<'a>(
 fn drawing_of<'a>(
     word: Option<&'a str>,
     out: Option<&'a str>,
-) -> Result<Drawing<'a>, UsageError<'a>> {
+) -> Result<Drawing<'a>, WrongOption<'a>> {
     let mask = match word {
         None | Some("all") => None,
         Some(word) => Some(mask_id(word)?),
     };
     match (out, word) {
         (Some(path), _) if is_folder(path) => Ok(Drawing::Gallery { mask, folder: path }),
-        (_, Some("all")) => Err(UsageError::AllMasks),
+        (_, Some("all")) => Err(WrongOption::AllMasks),
         (None | Some("-"), _) => Ok(Drawing::Picture { mask, file: None }),
         (file, _) => Ok(Drawing::Picture { mask, file }),
     }
@@ -166,9 +140,9 @@ fn is_folder(path: &str) -> bool {
 }
 
 /// The ID of a mask.
-fn mask_id<'a>(word: &'a str) -> Result<ObjectId, UsageError<'a>> {
+fn mask_id<'a>(word: &'a str) -> Result<ObjectId, WrongOption<'a>> {
     match word.parse::<u16>() {
         Ok(id) => Ok(ObjectId::from_raw(id)),
-        Err(_) => Err(UsageError::Mask(word)),
+        Err(_) => Err(WrongOption::Mask(word)),
     }
 }

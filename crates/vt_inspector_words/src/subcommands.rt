@@ -4,7 +4,7 @@ use crate::arguments::{
     DENY, DRAWN_POOL, EVENT, FORMAT, KEY_SIZE, KEYS, MASK, MOST, NAMES, NEW, OLD, OUT, OWNER, POOL,
     POOLS, SIZE, STATE,
 };
-use vt_command_line::{CommandLine, Subcommand};
+use vt_cli::{CommandLine, Subcommand};
 
 /// The text of help after the subcommands.
 const AFTER_HELP: &str = "\
@@ -53,7 +53,6 @@ the lines of check. A log is replayed by the terminal of vt_replay. Status: 0 dr
 /// The command line.
 pub(crate) const SEGYOLANT: CommandLine<'static> = CommandLine {
     name: "segyolant",
-    version: "0.2.0",
     about: "Checks object pools for makers of ISOBUS implements: every fault at once, with its place and its cause",
     after_help: AFTER_HELP,
     subcommands: &[CHECK, WHY, NEEDS, DIFF, DRAW],

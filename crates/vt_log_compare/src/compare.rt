@@ -5,8 +5,8 @@ use std::alloc::{AllocError, Global};
 use std::io::{self, Write};
 use vt_answers::{Comparison, Difference};
 use vt_can::{Line, LineFault};
-use vt_files::{Open, Program};
-use vt_log_replay::{LogReader, Messages, Replay, Status, line_ends};
+use vt_cli::{Open, Program, Status};
+use vt_log_replay::{LogReader, Messages, Replay, line_ends};
 use vt_log_words::{CompareOptions, ReplayOptions};
 use vt_server::Terminal;
 

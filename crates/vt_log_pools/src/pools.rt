@@ -8,12 +8,12 @@ use std::alloc::{AllocError, Global};
 use std::io::{self, Write};
 use vt_can::assigned::ECU_TO_VT;
 use vt_can::{Frame, Line};
-use vt_files::{Open, Save, make_folder, read_file, read_names, save_file};
+use vt_cli::{Open, Save, Status, make_folder, read_file, read_names, save_file};
 use vt_findings_text::{Item, Names, Source};
 use vt_frames_text::PoolRequest;
 use vt_inspect::inspect;
 use vt_listen::{Broken, Listener};
-use vt_log_replay::{LineCursor, LogReader, Messages, Status, line_ends, tell_no_frame, text_of};
+use vt_log_replay::{LineCursor, LogReader, Messages, line_ends, tell_no_frame, text_of};
 use vt_log_words::{Format, PoolsOptions};
 
 /// Prints every upload of a log, and the verdict on it.

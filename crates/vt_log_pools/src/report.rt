@@ -6,10 +6,10 @@ use serde_json::Value;
 use std::alloc::Global;
 use std::fmt;
 use std::io::{self, Write};
+use vt_cli::JsonLine;
 use vt_findings_json::item_json;
 use vt_findings_text::{Item, Source};
 use vt_frames_text::PoolRequest;
-use vt_json_lines::JsonLine;
 use vt_listen::Broken;
 use vt_log_words::Format;
 

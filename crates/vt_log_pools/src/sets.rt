@@ -4,7 +4,7 @@ use crate::Upload;
 use crate::verdict::Verdict;
 use std::alloc::{AllocError, Global};
 use std::collections::BTreeMap;
-use vt_log_replay::Status;
+use vt_cli::Status;
 use vt_objects::SortedStore;
 
 /// The objects of each implement at each terminal, and how many uploads each implement has ended.

@@ -4,7 +4,7 @@
 //!   the lines, a `LogReader` reads them, and `input_of` gives the input of a line. `Recorded` is what the log says about the
 //!   recorded terminal.
 //! - `read_set` and `new_terminal` begin a replay. `text_of`, `line_ends` and a `LineCursor` give the lines of a log.
-//! - `Messages` receives a run's messages and its progress, and a `Status` is how the run ended.
+//! - `Messages` receives a run's messages and its progress.
 //!
 //! docs/LOGS.md has the subcommands.
 #![tactic(auto)]
@@ -15,7 +15,6 @@ mod messages;
 mod reader;
 mod replay;
 mod start;
-mod status;
 
 pub use claims::{Load, Recorded};
 pub use lines::{LineCursor, line_ends, text_of};
@@ -23,4 +22,3 @@ pub use messages::Messages;
 pub use reader::LogReader;
 pub use replay::{Replay, input_of, tell_no_frame};
 pub use start::{LoadedSet, new_terminal, read_set};
-pub use status::Status;

@@ -8,7 +8,7 @@ use memchr::memchr;
 use std::alloc::{AllocError, Global};
 use std::io::Write;
 use vt_can::{Line, LineFault};
-use vt_files::Program;
+use vt_cli::Program;
 use vt_recorded::{MARK, Reader, form_of, interface_in, is_of_interface};
 
 /// Reads the lines of a log: all of its frames, or those of one interface.

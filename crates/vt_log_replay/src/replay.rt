@@ -7,7 +7,7 @@ use crate::start::{LoadedSet, new_terminal, read_set};
 use std::alloc::{AllocError, Global};
 use std::io::{self, Write};
 use vt_can::{Line, LineFault};
-use vt_files::{Open, Program, read_file, read_names};
+use vt_cli::{Open, Program, read_file, read_names};
 use vt_findings_text::Names;
 use vt_log_words::{ReplayOptions, TerminalOptions};
 use vt_recorded::form_of;

@@ -1,11 +1,10 @@
 //! The terminal that replays a log, before its first line.
 
-use crate::status::Status;
 use std::alloc::Global;
 use std::io::{self, Error, ErrorKind, Write};
-use vt_files::{Open, read_file};
+use vt_cli::{Open, StartSet, Status, read_file};
 use vt_judge::judge;
-use vt_log_words::{StartSet, TerminalOptions};
+use vt_log_words::TerminalOptions;
 use vt_names::Name;
 use vt_server::Terminal;
 use vt_verify::Accepted;

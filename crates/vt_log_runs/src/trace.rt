@@ -2,8 +2,8 @@
 
 use std::alloc::Global;
 use std::io::{self, Write};
-use vt_files::Open;
-use vt_log_replay::{LogReader, Messages, Replay, Status, line_ends};
+use vt_cli::{Open, Status};
+use vt_log_replay::{LogReader, Messages, Replay, line_ends};
 use vt_log_words::ReplayOptions;
 use vt_server::Terminal;
 use vt_trace::Tracer;

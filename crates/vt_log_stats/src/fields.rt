@@ -3,8 +3,8 @@
 use serde_json::Value;
 use std::alloc::{AllocError, Global};
 use std::io::{self, Write};
+use vt_cli::JsonLine;
 use vt_findings_text::Names;
-use vt_json_lines::JsonLine;
 use vt_reach::{PoolObject, SetReach};
 use vt_traffic::{LongTransfer, Share, TrafficReport, Transfers};
 

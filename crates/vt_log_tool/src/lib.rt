@@ -8,5 +8,4 @@ mod operator;
 mod program;
 
 pub use program::run;
-pub use vt_files::{Files, Open, Program, Save};
-pub use vt_log_replay::{Messages, Status};
+pub use vt_log_replay::Messages;

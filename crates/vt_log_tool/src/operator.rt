@@ -5,9 +5,9 @@ use std::alloc::{AllocError, Global};
 use std::io::{self, Write};
 use vt_can::assigned::{TP_CM, TP_RTS, VT_TO_ECU};
 use vt_can::{Frame, Line, LineFault, parse_line};
-use vt_files::{Open, read_file};
+use vt_cli::{Open, Status, read_file};
 use vt_listen::{Broken, Listener};
-use vt_log_replay::{LineCursor, LogReader, Messages, Status, line_ends, tell_no_frame, text_of};
+use vt_log_replay::{LineCursor, LogReader, Messages, line_ends, tell_no_frame, text_of};
 use vt_log_words::OperatorOptions;
 use vt_recorded::{Reader, is_of_interface};
 

@@ -4,14 +4,14 @@ use crate::operator::run_operator;
 use std::alloc::Global;
 use std::convert::AsStr;
 use std::io::{self, Write};
-use vt_files::{Open, Save};
+use vt_cli::{Open, Save, Status, refuse};
 use vt_log_bench::run_test;
 use vt_log_compare::run_compare;
 use vt_log_pools::run_pools;
-use vt_log_replay::{Messages, Status};
+use vt_log_replay::Messages;
 use vt_log_runs::{run_draw, run_trace};
 use vt_log_stats::run_stats;
-use vt_log_words::{Options, UsageError};
+use vt_log_words::Options;
 
 /// Runs the program on the words of its command line, of which the first is its name. `errors` receives a sentence for a wrong
 /// command line and for each file that cannot be read or written. An error is returned if `out` cannot be written or memory is refused.
@@ -48,18 +48,4 @@ fn run_subcommand<F: Open + Save, W: Write, E: Messages>(
         Options::Stats(options) => run_stats(alloc, options, files, out, errors),
         Options::Test(options) => run_test(alloc, options, files, out, errors),
     }
-}
-
-fn refuse<W: Write, E: Write>(
-    refusal: &UsageError<'_>,
-    out: &mut W,
-    errors: &mut E,
-) -> io::Result<Status> {
-    if refusal.is_help() {
-        write!(out, "{refusal}")?;
-        out.flush()?;
-        return Ok(Status::Clean);
-    }
-    let _ = write!(errors, "{refusal}");
-    Ok(Status::NotJudged)
 }

@@ -1,6 +1,6 @@
 //! The arguments of the subcommands.
 
-use vt_command_line::{Allowed, Argument, Form};
+use vt_cli::{Allowed, Argument, Form};
 
 /// The formats of output.
 const FORMATS: &[&str] = &["text", "json"];

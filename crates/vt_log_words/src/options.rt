@@ -1,11 +1,12 @@
 //! The options that a command line gives.
 
-use crate::refusal::UsageError;
 use crate::subcommands::SEGYOLANT_LOG;
+use crate::wrong_option::WrongOption;
 use clap::ArgMatches;
 use hex::FromHex;
 use std::alloc::{AllocError, Global};
 use std::convert::AsStr;
+use vt_cli::{StartSet, UsageError, address, all_of, inputs_among};
 
 /// The options that a command line gives, by its subcommand.
 #[derive(Drop)]
@@ -125,31 +126,26 @@ pub struct TerminalOptions<'a> {
     pub set: Option<StartSet<'a>>,
 }
 
-/// A working set that is there from the start of a log.
-#[derive(Clone, Copy, PartialEq, Eq)]
-pub struct StartSet<'a> {
-    /// The file of its pool.
-    pub pool: &'a str,
-    /// Its address, at most 253, and not that of the terminal.
-    pub owner: u8,
-}
-
 /// The terminal's address, unless another is given.
 const OWN_ADDRESS: u8 = 0x26;
 
 /// How long an answer may take, in milliseconds, unless another time is given.
 const WAIT: u32 = 1500;
 
-/// The address of the pool's working set, unless another is given.
-const OWNER: u8 = 0x80;
+/// The subcommands, and where to read about them.
+const SUBCOMMANDS: &str =
+    "pools, operator, trace, compare, draw, stats or test; segyolant_log --help says what each does";
 
 impl<'a> Options<'a> {
     /// Reads the words of a command line, of which the first is the program's name.
-    pub fn parse<S: AsStr>(alloc: Global, words: &'a [S]) -> Result<Options<'a>, UsageError<'a>> {
+    pub fn parse<S: AsStr>(
+        alloc: Global,
+        words: &'a [S],
+    ) -> Result<Options<'a>, UsageError<WrongOption<'a>>> {
         let matches = SEGYOLANT_LOG.command(alloc)?.try_get_matches_from(words)?;
         // clap demands a subcommand; its contract does not say so.
         let Some((name, matches)) = matches.subcommand() else {
-            return Err(UsageError::NoSubcommand);
+            return Err(UsageError::NoSubcommand(SUBCOMMANDS));
         };
         let options = Options::of_subcommand(alloc, name, matches)?;
         if options.inputs() > 1 {
@@ -163,7 +159,7 @@ impl<'a> Options<'a> {
         alloc: Global,
         name: &str,
         matches: &ArgMatches<'a>,
-    ) -> Result<Options<'a>, UsageError<'a>> {
+    ) -> Result<Options<'a>, UsageError<WrongOption<'a>>> {
         Ok(match name {
             "operator" => Options::Operator(operator_options(matches)?),
             "trace" => Options::Trace(replay_options(alloc, matches)?),
@@ -173,7 +169,7 @@ impl<'a> Options<'a> {
             "test" => Options::Test(test_options(alloc, matches)?),
             "pools" => Options::Pools(pools_options(alloc, matches)?),
             // clap takes no other name; its contract does not say so.
-            _ => return Err(UsageError::NoSubcommand),
+            _ => return Err(UsageError::NoSubcommand(SUBCOMMANDS)),
         })
     }
 
@@ -212,11 +208,6 @@ impl TerminalOptions<'_> {
     }
 }
 
-/// How many of the paths are that of the standard input.
-fn inputs_among(paths: &[&str]) -> usize {
-    paths.iter().filter(|path| **path == "-").count()
-}
-
 fn pools_options<'a>(
     alloc: Global,
     matches: &ArgMatches<'a>,
@@ -230,7 +221,7 @@ fn pools_options<'a>(
     })
 }
 
-fn operator_options<'a>(matches: &ArgMatches<'a>) -> Result<OperatorOptions<'a>, UsageError<'a>> {
+fn operator_options<'a>(matches: &ArgMatches<'a>) -> Result<OperatorOptions<'a>, WrongOption<'a>> {
     Ok(OperatorOptions {
         log: log_of(matches),
         interface: matches.get_str("interface"),
@@ -241,7 +232,7 @@ fn operator_options<'a>(matches: &ArgMatches<'a>) -> Result<OperatorOptions<'a>,
 fn replay_options<'a>(
     alloc: Global,
     matches: &ArgMatches<'a>,
-) -> Result<ReplayOptions<'a>, UsageError<'a>> {
+) -> Result<ReplayOptions<'a>, UsageError<WrongOption<'a>>> {
     let names = all_of(alloc, matches, "names")?;
     Ok(ReplayOptions {
         log: log_of(matches),
@@ -254,7 +245,7 @@ fn replay_options<'a>(
 fn compare_options<'a>(
     alloc: Global,
     matches: &ArgMatches<'a>,
-) -> Result<CompareOptions<'a>, UsageError<'a>> {
+) -> Result<CompareOptions<'a>, UsageError<WrongOption<'a>>> {
     let replay = replay_options(alloc, matches)?;
     Ok(CompareOptions {
         replay,
@@ -266,7 +257,7 @@ fn compare_options<'a>(
 fn draw_options<'a>(
     alloc: Global,
     matches: &ArgMatches<'a>,
-) -> Result<DrawOptions<'a>, UsageError<'a>> {
+) -> Result<DrawOptions<'a>, UsageError<WrongOption<'a>>> {
     let replay = replay_options(alloc, matches)?;
     Ok(DrawOptions {
         replay,
@@ -278,7 +269,7 @@ fn draw_options<'a>(
 fn stats_options<'a>(
     alloc: Global,
     matches: &ArgMatches<'a>,
-) -> Result<StatsOptions<'a>, UsageError<'a>> {
+) -> Result<StatsOptions<'a>, UsageError<WrongOption<'a>>> {
     let replay = replay_options(alloc, matches)?;
     Ok(StatsOptions {
         replay,
@@ -289,11 +280,11 @@ fn stats_options<'a>(
 fn test_options<'a>(
     alloc: Global,
     matches: &ArgMatches<'a>,
-) -> Result<TestOptions<'a>, UsageError<'a>> {
+) -> Result<TestOptions<'a>, UsageError<WrongOption<'a>>> {
     let logs = all_of(alloc, matches, "LOG")?;
     let blesses = matches.get_flag("bless");
     if blesses && inputs_among(logs.as_slice()) > 0 {
-        return Err(UsageError::BlessedInput);
+        return Err(UsageError::Wrong(WrongOption::BlessedInput));
     }
     Ok(TestOptions {
         logs,
@@ -302,7 +293,7 @@ fn test_options<'a>(
     })
 }
 
-fn terminal_options<'a>(matches: &ArgMatches<'a>) -> Result<TerminalOptions<'a>, UsageError<'a>> {
+fn terminal_options<'a>(matches: &ArgMatches<'a>) -> Result<TerminalOptions<'a>, WrongOption<'a>> {
     let own = own_of(matches)?;
     Ok(TerminalOptions {
         own,
@@ -312,35 +303,33 @@ fn terminal_options<'a>(matches: &ArgMatches<'a>) -> Result<TerminalOptions<'a>,
 }
 
 /// The NAME that the value of `--name` gives, if it is given.
-fn name_of<'a>(matches: &ArgMatches<'a>) -> Result<Option<u64>, UsageError<'a>> {
+fn name_of<'a>(matches: &ArgMatches<'a>) -> Result<Option<u64>, WrongOption<'a>> {
     match matches.get_str("name") {
         None => Ok(None),
         Some(value) => match <[u8; 8]>::from_hex(value) {
             Ok(bytes) => Ok(Some(u64::from_be_bytes(bytes))),
-            Err(_) => Err(UsageError::Name(value)),
+            Err(_) => Err(WrongOption::Name(value)),
         },
     }
 }
 
 /// The milliseconds that the value of `--wait` gives, or else the default.
-fn wait_of<'a>(matches: &ArgMatches<'a>) -> Result<u32, UsageError<'a>> {
+fn wait_of<'a>(matches: &ArgMatches<'a>) -> Result<u32, WrongOption<'a>> {
     match matches.get_str("wait") {
         None => Ok(WAIT),
-        Some(value) => value.parse::<u32>().map_err(|_| UsageError::Wait(value)),
+        Some(value) => value.parse::<u32>().map_err(|_| WrongOption::Wait(value)),
     }
 }
 
 /// The working set that `--pool` and `--owner` give.
-fn set_of<'a>(matches: &ArgMatches<'a>, own: u8) -> Result<Option<StartSet<'a>>, UsageError<'a>> {
+fn set_of<'a>(matches: &ArgMatches<'a>, own: u8) -> Result<Option<StartSet<'a>>, WrongOption<'a>> {
     match (matches.get_str("pool"), matches.get_str("owner")) {
         (None, None) => Ok(None),
-        (None, Some(_)) => Err(UsageError::OwnerAlone),
-        (Some(_), None) if own == OWNER => Err(UsageError::Owner("80")),
-        (Some(pool), None) => Ok(Some(StartSet { pool, owner: OWNER })),
-        (Some(pool), Some(value)) => match address(value) {
-            Some(owner) if owner != own => Ok(Some(StartSet { pool, owner })),
-            _ => Err(UsageError::Owner(value)),
-        },
+        (None, Some(_)) => Err(WrongOption::OwnerAlone),
+        (Some(pool), owner) => {
+            let set = StartSet::new(pool, owner, own).map_err(WrongOption::Owner)?;
+            Ok(Some(set))
+        }
     }
 }
 
@@ -357,27 +346,9 @@ fn format_of(matches: &ArgMatches<'_>) -> Format {
 }
 
 /// The address that the value of `--own` gives, or else the default.
-fn own_of<'a>(matches: &ArgMatches<'a>) -> Result<u8, UsageError<'a>> {
+fn own_of<'a>(matches: &ArgMatches<'a>) -> Result<u8, WrongOption<'a>> {
     match matches.get_str("own") {
         None => Ok(OWN_ADDRESS),
-        Some(value) => address(value).ok_or(UsageError::Own(value)),
-    }
-}
-
-/// The address that two hex digits write, if a node may have it.
-fn address(text: &str) -> Option<u8> {
-    let [address] = <[u8; 1]>::from_hex(text).ok()?;
-    (address <= 0xFD).then_some(address)
-}
-
-/// All values of an option.
-fn all_of<'a>(
-    alloc: Global,
-    matches: &ArgMatches<'a>,
-    option: &str,
-) -> Result<Vec<&'a str>, AllocError> {
-    match matches.get_strs(option) {
-        Some(values) => Vec::from_slice(alloc, values),
-        None => Ok(Vec::new(alloc)),
+        Some(value) => address(value).ok_or(WrongOption::Own(value)),
     }
 }

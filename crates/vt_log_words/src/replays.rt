@@ -3,7 +3,7 @@
 use crate::arguments::{
     FORMAT, INTERFACE, LOG, NAMES, OWN, OWNER, PICTURES_FOLDER, POOL, RECORDED_NAME, WAIT,
 };
-use vt_command_line::Subcommand;
+use vt_cli::Subcommand;
 
 /// The text of help after the options of `trace`.
 const AFTER_TRACE: &str = "\

@@ -4,7 +4,7 @@ use crate::arguments::{
     BLESS, FORMAT, INTERFACE, LOG, LOGS, NAME, NAMES, OWN, OWNER, POOL, POOLS_FOLDER,
 };
 use crate::replays::{COMPARE, DRAW, STATS, TRACE};
-use vt_command_line::{CommandLine, Subcommand};
+use vt_cli::{CommandLine, Subcommand};
 
 /// The text of help after the subcommands.
 const AFTER_HELP: &str = "\
@@ -54,7 +54,6 @@ Status: 0 each line prints what is expected of it, 1 some line prints something 
 /// The command line of `segyolant_log`.
 pub(crate) const SEGYOLANT_LOG: CommandLine<'static> = CommandLine {
     name: "segyolant_log",
-    version: "0.2.0",
     about: "Examines recorded logs of an ISOBUS: uploaded pools, messages in words, screens, and differences from this terminal",
     after_help: AFTER_HELP,
     subcommands: &[POOLS, OPERATOR, TRACE, COMPARE, DRAW, STATS, TEST],

@@ -1,7 +1,7 @@
-//! The statuses of the program.
+//! The statuses of runs.
 
 ghost use Rattle.std.specs.Prelude.{◌≡◌};
-ghost use Rattle.vt_log_replay.specs.Statuses.{status_code, worse};
+ghost use Rattle.vt_cli.specs.Statuses.{status_code, worse};
 
 /// The status with which a run ends.
 #[derive(Clone, Copy, PartialEq, Eq)]
@@ -10,7 +10,7 @@ pub enum Status {
     Clean,
     /// Something was found.
     Found,
-    /// Something was not judged: the command line, a file or memory prevented it.
+    /// Something was not judged: the command line, a file or memory prevented it, or the subcommand accepts no such pool.
     NotJudged,
 }
 

@@ -1,7 +1,7 @@
--- The exit statuses of the program.
+-- The statuses of runs.
 use Rattle.std.specs.Prelude.{ℕ}
-use Rattle.vt_log_replay.specs.declared.status.Status.{Status}
-use Rattle.vt_log_replay.specs.declared.status.Status.TheVariants.{Clean, Found, NotJudged}
+use Rattle.vt_cli.specs.declared.status.Status.{Status}
+use Rattle.vt_cli.specs.declared.status.Status.TheVariants.{Clean, Found, NotJudged}
 
 abbrev pub status_code : Status → ℕ
 status_code Clean = 0

@@ -3,8 +3,8 @@
 ghost use Rattle.std.specs.Prelude.{◌≡◌, [], MatchOption, OnErr, OnOk};
 ghost use Rattle.serde_json.specs.Data.{null, number, unsigned, put as with_member};
 ghost use Rattle.serde_json.specs.View.{members_view, view};
-ghost use Rattle.vt_json_lines.specs.Numbers.{number_or_null};
-ghost use Rattle.vt_json_lines.specs.Texts.{GainsText};
+ghost use Rattle.vt_cli.specs.Numbers.{number_or_null};
+ghost use Rattle.vt_cli.specs.Texts.{GainsText};
 
 use serde_json::{Map, Value};
 use std::alloc::{AllocError, Global};

@@ -4,12 +4,13 @@ use crate::argument::Argument;
 use clap::Command;
 use std::alloc::{AllocError, Global};
 
+/// The version of the programs.
+pub const VERSION: &str = "0.2.0";
+
 /// The command line of a program with subcommands, of which one has to be given.
 pub struct CommandLine<'a> {
     /// The name of the program.
     pub name: &'a str,
-    /// The version of the program.
-    pub version: &'a str,
     /// What the program is for, in a line of its help.
     pub about: &'a str,
     /// The text of the help after the subcommands.
@@ -35,7 +36,7 @@ impl<'a> CommandLine<'a> {
     /// error is returned if memory is refused.
     pub fn command(&self, alloc: Global) -> Result<Command<'a>, AllocError> {
         let mut command = Command::new(alloc, self.name)
-            .version(self.version)
+            .version(VERSION)
             .about(self.about)
             .after_help(self.after_help)
             .subcommand_required(true)

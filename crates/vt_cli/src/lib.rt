@@ -1,0 +1,41 @@
+//! What `segyolant` and `segyolant_log` have in common: command lines, files, lines of JSON, and how a run ends.
+//!
+//! - `CommandLine::command` makes the command for `clap` from a table of subcommands and arguments. `all_of`, `inputs_among`, `address`
+//!   and `StartSet::new` read the values of options.
+//! - A `UsageError` is a refusal of a command line, generic over the wrong options of a program, and `refuse` tells it. A `Status` is
+//!   how a run ended.
+//! - `Open` opens files by their paths, and `Save` writes files and makes folders. `Files` are those of the system. `read_file` and
+//!   `read_names` read whole files, `save_file` writes a file, and `make_folder` makes a folder. If one fails, it writes the name of
+//!   the `Program`, the path and the reason.
+//! - A `JsonLine` is an object of JSON that is built member by member and written as a line.
+//! - `words_of` collects the words of the process, and `exit_code` ends it: with them, `main` of a program is a page.
+//!
+//! It has no subcommand and no option of one program: those are in vt_inspector_words and vt_log_words. vt_replay and vt_live have
+//! statuses and command lines of their own.
+//!
+//! Come here to ask why both programs refuse a word, name a file that cannot be read, or end with a status as they do.
+#![tactic(auto)]
+
+mod argument;
+mod command_line;
+mod files;
+mod json_line;
+mod process;
+mod reading;
+mod refusal;
+mod start_set;
+mod status;
+mod values;
+mod writing;
+
+pub use argument::{Allowed, Argument, Form};
+pub use command_line::{CommandLine, Subcommand, VERSION};
+pub use files::{Files, Open, Opened, Program, Save};
+pub use json_line::JsonLine;
+pub use process::{exit_code, words_of};
+pub use reading::{read_file, read_names};
+pub use refusal::{UsageError, refuse};
+pub use start_set::StartSet;
+pub use status::Status;
+pub use values::{address, all_of, inputs_among};
+pub use writing::{make_folder, save_file};

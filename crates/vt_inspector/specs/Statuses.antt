@@ -1,9 +1,0 @@
--- The exit statuses of the program.
-use Rattle.std.specs.Prelude.{ℕ}
-use Rattle.vt_inspector.specs.declared.program.Status.{Status}
-use Rattle.vt_inspector.specs.declared.program.Status.TheVariants.{Clean, Found, NotJudged}
-
-abbrev pub status_code : Status → ℕ
-status_code Clean = 0
-status_code Found = 1
-status_code NotJudged = 2

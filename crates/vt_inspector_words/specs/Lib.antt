@@ -1,2 +1,0 @@
--- The specifications that the contracts of vt_inspector_words use.
-pub mod Refusals
