@@ -14,9 +14,9 @@ use vt_log_tool::run;
 /// The name of the program.
 const NAME: &str = "segyolant_log";
 
-fn main(rt: HostRuntime) -> io::Result<ExitCode> {
-    let status = run_words(&rt);
-    Ok(exit_code(&rt, NAME, status))
+fn main(rt: HostRuntime) -> ExitCode {
+    let run = run_words(&rt);
+    exit_code(&rt, NAME, run)
 }
 
 /// Runs the program on the words of the command line, with the streams of the system.
