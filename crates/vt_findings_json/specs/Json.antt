@@ -6,7 +6,7 @@ use Rattle.serde_json.specs.View.{items_of}
 use Rattle.vt_findings_text.specs.declared.item.Item.{Item}
 use Rattle.vt_findings_text.specs.declared.item.Item.TheVariants as items
 use Rattle.vt_findings_text.specs.declared.message.Message.{Message}
-use Rattle.vt_findings_text.specs.declared.message.Summary.{Summary}
+use Rattle.vt_findings_text.specs.declared.summary.Summary.{Summary}
 use Rattle.vt_findings_text.specs.declared.source.Source.{Source}
 use Rattle.vt_findings_text.specs.Severities.{severity_word}
 use Rattle.vt_findings_text.specs.Labels.{Labelled, label_at}

@@ -4,8 +4,12 @@
 //! - A `Source` is an inspected pool with its path and its names. `Source::message` returns the `Message` of an `Item`: the offset in the
 //!   file, the severity, the code, and a sentence with the cause.
 //! - A `Message` writes its line for people by `Display`, in colours by `ColouredLine`, and for GitHub by `GithubLine`.
+//! - `items_of` returns the errors and warnings of a pool in the order of their lines, without warnings that cannot be judged, and
+//!   `summary_of` their counts.
 //!
-//! docs/POOLS.md has the codes.
+//! It finds nothing itself: findings are those of vt_inspect, and warnings those of vt_needs. Lines of JSON are in vt_findings_json.
+//!
+//! Come here to ask what a line of `segyolant check` says, and which lines there are. docs/POOLS.md has the codes.
 #![tactic(auto)]
 
 mod codes;
@@ -13,12 +17,14 @@ mod colour;
 mod events;
 mod github;
 mod item;
+mod items;
 mod label;
 mod message;
 mod names;
 mod sentences;
 mod source;
 mod spot;
+mod summary;
 mod warning_sentences;
 
 pub use codes::{Code, code_of};
@@ -26,8 +32,10 @@ pub use colour::ColouredLine;
 pub use events::event_name;
 pub use github::GithubLine;
 pub use item::Item;
+pub use items::items_of;
 pub use label::Label;
-pub use message::{Message, Severity, Summary};
+pub use message::{Message, Severity};
 pub use names::Names;
 pub use source::Source;
 pub use spot::SpotText;
+pub use summary::{Summary, summary_of};

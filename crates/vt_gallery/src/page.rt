@@ -3,8 +3,7 @@
 use crate::html::Html;
 use std::alloc::{AllocError, Global};
 use std::fmt::Display;
-use vt_findings_text::{Item, Source};
-use vt_items::{items_of, summary_of};
+use vt_findings_text::{Item, Source, items_of, summary_of};
 use vt_needs::{TERMINAL_SIZES, warnings};
 use vt_objects::ObjectId;
 

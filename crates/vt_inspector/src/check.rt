@@ -5,10 +5,9 @@ use std::alloc::Global;
 use std::io::{self, Write};
 use vt_cli::{Open, Status, read_file, read_names};
 use vt_findings_json::{item_json, summary_json};
-use vt_findings_text::{GithubLine, Item, Names, Source, Summary};
+use vt_findings_text::{GithubLine, Item, Names, Source, Summary, items_of, summary_of};
 use vt_inspect::inspect;
 use vt_inspector_words::{CheckOptions, Format};
-use vt_items::{items_of, summary_of};
 use vt_needs::{TERMINAL_SIZES, warnings};
 
 /// The form of the lines.

@@ -1,7 +1,7 @@
 //! The errors and warnings of a pool.
 
+use crate::item::Item;
 use std::alloc::{AllocError, Global};
-use vt_findings_text::Item;
 use vt_inspect::{Finding, Inspection, Note};
 use vt_needs::Warning;
 use vt_objects::{Kind, ObjectId};
