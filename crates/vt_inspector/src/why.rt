@@ -1,11 +1,12 @@
 //! The subcommand `why`.
 
+use crate::costs::lines::write_breakdown;
+use crate::costs::parts::is_over;
 use crate::program::{Look, is_read, put_message};
 use std::alloc::Global;
 use std::io::{self, Write};
 use vt_cli::{Open, Status, read_file, read_names};
 use vt_costs::break_down;
-use vt_costs_text::{is_over, write_breakdown};
 use vt_findings_text::{Item, Source};
 use vt_inspect::{Finding, inspect};
 use vt_inspector_words::WhyOptions;

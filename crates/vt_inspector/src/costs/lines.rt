@@ -1,13 +1,13 @@
 //! The lines of a breakdown.
 
-use crate::parts::{end_line, write_event, write_listed, write_macro, write_steps};
-use crate::way::write_way;
+use crate::costs::parts::{end_line, write_event, write_listed, write_macro, write_steps};
+use crate::costs::way::write_way;
 use std::io::{self, Write};
 use vt_costs::{Breakdown, EventCost, MacroCost, Share};
 use vt_findings_text::Source;
 
 /// Writes the event with its macros, then each macro that it can run with the shares of its commands, and then the dearest way.
-pub fn write_breakdown<W: Write>(
+pub(crate) fn write_breakdown<W: Write>(
     source: &Source<'_>,
     breakdown: &Breakdown,
     out: &mut W,

@@ -1,7 +1,7 @@
 //! The dearest way: at each event its costliest macro, in this macro the costliest command, and after this command the costliest
 //! event. Among equals it is the first.
 
-use crate::parts::{end_line, write_event, write_macro, write_steps};
+use crate::costs::parts::{end_line, write_event, write_macro, write_steps};
 use std::io::{self, Write};
 use vt_costs::{Breakdown, MacroCost, Share};
 use vt_findings_text::Source;

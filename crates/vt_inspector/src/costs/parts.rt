@@ -10,7 +10,7 @@ use vt_objects::ObjectId;
 use vt_verify::TERMINAL_LIMITS;
 
 /// Whether so many steps are more than an event or a macro of an accepted pool can take.
-pub fn is_over(steps: u64) -> bool
+pub(crate) fn is_over(steps: u64) -> bool
     ensures { result ≡ nat_lt terminal.steps steps }
 {
     steps > u64::from(TERMINAL_LIMITS.steps)
