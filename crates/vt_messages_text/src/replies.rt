@@ -1,10 +1,10 @@
 //! The replies of terminals in words.
 
 use crate::error_bits::Outcome;
+use crate::objects::{Objects, id_of};
 use crate::told::ToldSentence;
 use std::fmt;
 use vt_can::assigned::{END_OF_POOL, GET_FONTS, GET_HARDWARE, GET_MEMORY, GET_SOFT_KEYS};
-use vt_commands_text::{Objects, id_of};
 use vt_frames_text::{PlainMessage, error_of, function_name};
 use vt_objects::ObjectId;
 use vt_server::Terminal;

@@ -1,5 +1,7 @@
 //! The messages of implements in words.
 
+use crate::commands::command::CommandSentence;
+use crate::objects::Objects;
 use byteorder::{ByteOrder, LittleEndian};
 use std::fmt;
 use vt_can::assigned::{END_OF_POOL, GET_FONTS, GET_HARDWARE, GET_MEMORY, GET_SOFT_KEYS, TRANSFER};
@@ -7,7 +9,6 @@ use vt_commands::Command;
 use vt_commands::function::{
     BUTTON_ACTIVATION, EXECUTE_MACRO, HIDE_SHOW, NUMERIC_VALUE, SOFT_KEY_ACTIVATION, STRING_VALUE,
 };
-use vt_commands_text::{CommandSentence, Objects};
 use vt_frames_text::{
     Count, DELETE_VERSION, GET_VERSIONS, HexBytes, LOAD_VERSION, MAINTENANCE, PlainMessage,
     QuotedText, STORE_VERSION, function_name,

@@ -1,5 +1,6 @@
 //! What a frame says.
 
+use crate::objects::Objects;
 use crate::replies::ReplySentence;
 use crate::requests::RequestSentence;
 use std::fmt;
@@ -8,7 +9,6 @@ use vt_can::assigned::{
     ADDRESS_CLAIMED, ECU_TO_VT, ETP_CM, ETP_DT, REQUEST, TP_CM, TP_DT, VT_TO_ECU,
     WORKING_SET_MASTER, WORKING_SET_MEMBER,
 };
-use vt_commands_text::Objects;
 use vt_findings_text::Names;
 use vt_frames_text::{
     ClaimSentence, Destination, EtpControl, GroupRequest, HexByte, HexBytes, MasterSentence,

@@ -1,10 +1,10 @@
 //! What terminals report unasked, in words: the operator's actions and the status.
 
+use crate::objects::{Objects, id_of};
 use byteorder::{ByteOrder, LittleEndian};
 use std::fmt;
 use vt_can::assigned::{NULL_ADDRESS, VT_STATUS};
 use vt_commands::function::{BUTTON_ACTIVATION, NUMERIC_VALUE, SOFT_KEY_ACTIVATION, STRING_VALUE};
-use vt_commands_text::{Objects, id_of};
 use vt_frames_text::{PlainMessage, QuotedText, SELECT_INPUT};
 use vt_objects::ObjectId;
 use vt_server::Terminal;

@@ -7,16 +7,16 @@ use vt_objects::{Kind, ObjectId, SortedStore};
 
 /// The objects of the working set to which a message belongs, with their names.
 #[derive(Clone, Copy, Drop)]
-pub struct Objects<'a> {
+pub(crate) struct Objects<'a> {
     /// The pool of the set, or `None` if it has none.
-    pub pool: Option<&'a Live<SortedStore>>,
+    pub(crate) pool: Option<&'a Live<SortedStore>>,
     /// The names of objects.
-    pub names: &'a Names,
+    pub(crate) names: &'a Names,
 }
 
 impl<'a> Objects<'a> {
     /// The object of an ID in words.
-    pub fn object(&self, id: ObjectId) -> ObjectText<'a> {
+    pub(crate) fn object(&self, id: ObjectId) -> ObjectText<'a> {
         ObjectText {
             label: Label {
                 id,
@@ -28,13 +28,13 @@ impl<'a> Objects<'a> {
     }
 
     /// The object of an ID in words, with other words for NULL.
-    pub fn object_or(&self, id: ObjectId, none: &'a str) -> ObjectText<'a> {
+    pub(crate) fn object_or(&self, id: ObjectId, none: &'a str) -> ObjectText<'a> {
         let ObjectText { label, .. } = self.object(id);
         ObjectText { label, none }
     }
 
     /// The kind of an object, or `None` if it is missing.
-    pub fn kind(&self, id: ObjectId) -> Option<Kind> {
+    pub(crate) fn kind(&self, id: ObjectId) -> Option<Kind> {
         let object = self.pool?.get(id)?;
         Some(object.kind())
     }
@@ -42,7 +42,7 @@ impl<'a> Objects<'a> {
 
 /// An object by its kind, its ID and its name, such as ``Container 100 `boom` ``; `object 100` if it is missing.
 #[derive(Clone, Copy, Drop)]
-pub struct ObjectText<'a> {
+pub(crate) struct ObjectText<'a> {
     label: Label<'a>,
     /// The words for NULL.
     none: &'a str,
@@ -58,6 +58,6 @@ impl fmt::Display for ObjectText<'_> {
 }
 
 /// The object ID in two bytes of a message.
-pub fn id_of(low: u8, high: u8) -> ObjectId {
+pub(crate) fn id_of(low: u8, high: u8) -> ObjectId {
     ObjectId::from_raw(u16::from_le_bytes([low, high]))
 }

@@ -1,6 +1,6 @@
-//! The commands of implements in words.
+//! A command in words.
 
-use crate::attributes::field_name;
+use crate::commands::attributes::field_name;
 use crate::objects::Objects;
 use std::fmt;
 use vt_commands::{Command, attribute};
@@ -12,11 +12,11 @@ const NO_STEP: i16 = 127;
 
 /// A command with its fields, such as ``Hide/Show Object: Container 100 `boom`, hide``. The object that the command changes is the first.
 #[derive(Clone, Copy, Drop)]
-pub struct CommandSentence<'a, 'b> {
+pub(crate) struct CommandSentence<'a, 'b> {
     /// The command.
-    pub command: &'b Command<'a>,
+    pub(crate) command: &'b Command<'a>,
     /// The objects of the working set that sends it.
-    pub objects: Objects<'b>,
+    pub(crate) objects: Objects<'b>,
 }
 
 impl fmt::Display for CommandSentence<'_, '_> {
