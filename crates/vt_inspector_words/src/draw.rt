@@ -4,7 +4,7 @@ use crate::options::area;
 use crate::wrong_option::WrongOption;
 use clap::ArgMatches;
 use std::alloc::Global;
-use vt_cli::{StartSet, UsageError, all_of};
+use vt_cli::{OWN_ADDRESS, StartSet, UsageError, all_of};
 use vt_needs::{Area, Sizes, TERMINAL_SIZES};
 use vt_objects::ObjectId;
 
@@ -53,9 +53,6 @@ pub enum Drawing<'a> {
         folder: &'a str,
     },
 }
-
-/// The address of the terminal that replays a log.
-const OWN_ADDRESS: u8 = 0x26;
 
 pub(crate) fn draw_options<'a>(
     alloc: Global,

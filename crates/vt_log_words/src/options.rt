@@ -6,7 +6,7 @@ use clap::ArgMatches;
 use hex::FromHex;
 use std::alloc::{AllocError, Global};
 use std::convert::AsStr;
-use vt_cli::{StartSet, UsageError, address, all_of, inputs_among};
+use vt_cli::{OWN_ADDRESS, StartSet, UsageError, address, all_of, inputs_among};
 
 /// The options that a command line gives, by its subcommand.
 #[derive(Drop)]
@@ -125,9 +125,6 @@ pub struct TerminalOptions<'a> {
     /// The working set that is there from the start.
     pub set: Option<StartSet<'a>>,
 }
-
-/// The terminal's address, unless another is given.
-const OWN_ADDRESS: u8 = 0x26;
 
 /// How long an answer may take, in milliseconds, unless another time is given.
 const WAIT: u32 = 1500;
