@@ -13,6 +13,9 @@ use Rattle.vt_service.specs.declared.members.Malformed.{Malformed}
 use Rattle.vt_service.specs.declared.members.Malformed.TheVariants as malformed
 use Rattle.vt_service.specs.declared.members.Member.{Member}
 use Rattle.vt_service.specs.declared.members.Member.TheVariants as members
+use Rattle.vt_service.specs.declared.profile.Fonts.{Fonts}
+use Rattle.vt_service.specs.declared.profile.Hardware.{Hardware}
+use Rattle.vt_service.specs.declared.profile.SoftKeys.{SoftKeys}
 use Rattle.vt_service.specs.declared.request.Kind.{Kind}
 use Rattle.vt_service.specs.declared.request.Kind.TheVariants as kinds
 use Rattle.vt_service.specs.declared.request.CommandKind.{CommandKind}
@@ -30,16 +33,19 @@ use Rattle.vt_service.specs.declared.request.Question.TheVariants as questions
 
 -- ---- names
 
+abbrev pub act_name : ActKind → List ℕ
+act_name Press = codes "press"
+act_name Release = codes "release"
+act_name Select = codes "select"
+act_name Number = codes "number"
+act_name Set = codes "set"
+
 abbrev pub command_name : CommandKind → List ℕ
 command_name Begin = codes "begin"
 command_name Preload = codes "preload"
 command_name FrameKind = codes "frame"
 command_name Tick = codes "tick"
-command_name (Act Press) = codes "press"
-command_name (Act Release) = codes "release"
-command_name (Act Select) = codes "select"
-command_name (Act Number) = codes "number"
-command_name (Act Set) = codes "set"
+command_name (Act kind) = act_name kind
 command_name Text = codes "text"
 command_name Claim = codes "claim"
 command_name Status = codes "status"
@@ -78,32 +84,46 @@ number_if_there (Some value) other found = found
 abbrev pub number_or : Data → Member → ℕ → Result ℕ Malformed
 number_or d member other = number_if_there (get (member_name member) d) other (number_in d member)
 
+-- the soft keys of a request: what it has, and else what another profile has
+unfoldable pub soft_keys_in : Data → Profile → Result SoftKeys Malformed
+soft_keys_in d other =
+    then (number_or d members.SoftKeyWidth other.soft_key_width) (λ width. then (number_or d members.SoftKeyHeight other.soft_key_height) (λ height.
+    then (number_or d members.VirtualSoftKeys other.virtual_soft_keys) (λ in_navigation.
+    then (number_or d members.PhysicalSoftKeys other.physical_soft_keys) (λ physical.
+    Ok (record { width = width; height = height; in_navigation = in_navigation; physical = physical })))))
+
+-- the fonts of a request: what it has, and else what another profile has
+unfoldable pub fonts_in : Data → Profile → Result Fonts Malformed
+fonts_in d other =
+    then (number_or d members.SmallFonts other.small_fonts) (λ small. then (number_or d members.LargeFonts other.large_fonts) (λ large.
+    then (number_or d members.FontStyles other.font_styles) (λ styles. Ok (record { small = small; large = large; styles = styles }))))
+
+-- the hardware of a request: what it has, and else what another profile has
+unfoldable pub hardware_in : Data → Profile → Result Hardware Malformed
+hardware_in d other =
+    then (number_or d members.BootTime other.boot_time) (λ boot. then (number_or d members.GraphicType other.graphic_type) (λ graphic.
+    then (number_or d members.Hardware other.hardware) (λ hardware. Ok (record { boot_time = boot; graphic_type = graphic; hardware = hardware }))))
+
 -- the profile of a request: what it has, and else what the standard profile has
 abbrev pub profile_in : Data → Result Profile Malformed
 profile_in d =
-    then (number_or d members.Memory standard.memory) (λ memory. then (number_or d members.SoftKeyWidth standard.soft_key_width) (λ key_width.
-    then (number_or d members.SoftKeyHeight standard.soft_key_height) (λ key_height.
-    then (number_or d members.VirtualSoftKeys standard.virtual_soft_keys) (λ virtual.
-    then (number_or d members.PhysicalSoftKeys standard.physical_soft_keys) (λ physical.
-    then (number_or d members.SmallFonts standard.small_fonts) (λ small. then (number_or d members.LargeFonts standard.large_fonts) (λ large.
-    then (number_or d members.FontStyles standard.font_styles) (λ styles. then (number_or d members.BootTime standard.boot_time) (λ boot.
-    then (number_or d members.GraphicType standard.graphic_type) (λ graphic. then (number_or d members.Hardware standard.hardware) (λ hardware.
-    then (number_or d members.Width standard.width) (λ width. then (number_or d members.Height standard.height) (λ height.
-    Ok (record {
+    then (number_or d members.Memory standard.memory) (λ memory. then (soft_keys_in d standard) (λ keys. then (fonts_in d standard) (λ fonts.
+    then (hardware_in d standard) (λ hardware. then (number_or d members.Width standard.width) (λ width.
+    then (number_or d members.Height standard.height) (λ height. Ok (record {
       memory = memory;
-      soft_key_width = key_width;
-      soft_key_height = key_height;
-      virtual_soft_keys = virtual;
-      physical_soft_keys = physical;
-      small_fonts = small;
-      large_fonts = large;
-      font_styles = styles;
-      boot_time = boot;
-      graphic_type = graphic;
-      hardware = hardware;
+      soft_key_width = keys.width;
+      soft_key_height = keys.height;
+      virtual_soft_keys = keys.in_navigation;
+      physical_soft_keys = keys.physical;
+      small_fonts = fonts.small;
+      large_fonts = fonts.large;
+      font_styles = fonts.styles;
+      boot_time = hardware.boot_time;
+      graphic_type = hardware.graphic_type;
+      hardware = hardware.hardware;
       width = width;
       height = height;
-    }))))))))))))))
+    })))))))
 
 -- the address of a set, and the ID of an object of it
 abbrev pub place_in : Data → Result (ℕ × ℕ) Malformed

@@ -1,9 +1,12 @@
 //! Reading of requests.
 
-ghost use Rattle.std.specs.Prelude.{◌≡◌, Ok, IfOk, IfErr, MatchOption};
+ghost use Rattle.std.specs.Prelude.{◌≡◌, ◌≢◌, Ok, IfOk, IfErr, MatchOption};
 ghost use Rattle.serde_json.specs.View.{view};
-ghost use Rattle.vt_service.specs.Requests.{IsNoCommand, IsRefused, Names, Reads, action_in, command_in, command_value, place_in, question_in};
+ghost use Rattle.vt_service.specs.Requests.{IsNoCommand, IsRefused, Names, Reads, act_name, action_in, command_in, command_name, command_value, place_in, question_in, question_name};
+ghost use Rattle.vt_service.specs.declared.request.ActKind.{ActKind};
+ghost use Rattle.vt_service.specs.declared.request.CommandKind.{CommandKind};
 ghost use Rattle.vt_service.specs.declared.request.Kind.{Kind};
+ghost use Rattle.vt_service.specs.declared.request.QuestionKind.{QuestionKind};
 
 use crate::members::{
     Malformed, Member, bytes_in, frame_in, name_in, number_8, number_16, number_32, number_in,
@@ -31,29 +34,58 @@ pub(crate) fn read(alloc: Global, request: &Value) -> Result<Request, Malformed>
 fn kind_in(request: &Value) -> Option<Kind>
     ensures { MatchOption result ((kind : Kind) → Names (view request.now) kind → ⊥) (λ kind. Names (view request.now) kind) }
 {
-    match request.get("do").and_then(Value::as_str)? {
-        "begin" => Some(Kind::Command(CommandKind::Begin)),
-        "preload" => Some(Kind::Command(CommandKind::Preload)),
-        "frame" => Some(Kind::Command(CommandKind::Frame)),
-        "tick" => Some(Kind::Command(CommandKind::Tick)),
-        "press" => Some(Kind::Command(CommandKind::Act(ActKind::Press))),
-        "release" => Some(Kind::Command(CommandKind::Act(ActKind::Release))),
-        "select" => Some(Kind::Command(CommandKind::Act(ActKind::Select))),
-        "number" => Some(Kind::Command(CommandKind::Act(ActKind::Number))),
-        "set" => Some(Kind::Command(CommandKind::Act(ActKind::Set))),
-        "text" => Some(Kind::Command(CommandKind::Text)),
-        "claim" => Some(Kind::Command(CommandKind::Claim)),
-        "status" => Some(Kind::Command(CommandKind::Status)),
-        "screen" => Some(Kind::Question(QuestionKind::Screen)),
-        "picture" => Some(Kind::Question(QuestionKind::Picture)),
-        "part" => Some(Kind::Question(QuestionKind::Part)),
-        "elements" => Some(Kind::Question(QuestionKind::Elements)),
-        "object" => Some(Kind::Question(QuestionKind::Object)),
-        "sets" => Some(Kind::Question(QuestionKind::Sets)),
-        "limits" => Some(Kind::Question(QuestionKind::Limits)),
-        "raw" => Some(Kind::Question(QuestionKind::Raw)),
-        "touch" => Some(Kind::Question(QuestionKind::Touch)),
-        "words" => Some(Kind::Question(QuestionKind::Words)),
+    let name = request.get("do").and_then(Value::as_str)?;
+    match command_named(name) {
+        Some(kind) => Some(Kind::Command(kind)),
+        None => question_named(name).map(Kind::Question),
+    }
+}
+
+/// The command of a name, if it is one.
+fn command_named(name: &str) -> Option<CommandKind>
+    ensures { MatchOption result ((kind : CommandKind) → name.now ≢ command_name kind) (λ kind. name.now ≡ command_name kind) }
+{
+    match name {
+        "begin" => Some(CommandKind::Begin),
+        "preload" => Some(CommandKind::Preload),
+        "frame" => Some(CommandKind::Frame),
+        "tick" => Some(CommandKind::Tick),
+        "text" => Some(CommandKind::Text),
+        "claim" => Some(CommandKind::Claim),
+        "status" => Some(CommandKind::Status),
+        _ => act_named(name).map(CommandKind::Act),
+    }
+}
+
+/// The action of the operator of a name, if it is one.
+fn act_named(name: &str) -> Option<ActKind>
+    ensures { MatchOption result ((kind : ActKind) → name.now ≢ act_name kind) (λ kind. name.now ≡ act_name kind) }
+{
+    match name {
+        "press" => Some(ActKind::Press),
+        "release" => Some(ActKind::Release),
+        "select" => Some(ActKind::Select),
+        "number" => Some(ActKind::Number),
+        "set" => Some(ActKind::Set),
+        _ => None,
+    }
+}
+
+/// The question of a name, if it is one.
+fn question_named(name: &str) -> Option<QuestionKind>
+    ensures { MatchOption result ((kind : QuestionKind) → name.now ≢ question_name kind) (λ kind. name.now ≡ question_name kind) }
+{
+    match name {
+        "screen" => Some(QuestionKind::Screen),
+        "picture" => Some(QuestionKind::Picture),
+        "part" => Some(QuestionKind::Part),
+        "elements" => Some(QuestionKind::Elements),
+        "object" => Some(QuestionKind::Object),
+        "sets" => Some(QuestionKind::Sets),
+        "limits" => Some(QuestionKind::Limits),
+        "raw" => Some(QuestionKind::Raw),
+        "touch" => Some(QuestionKind::Touch),
+        "words" => Some(QuestionKind::Words),
         _ => None,
     }
 }
