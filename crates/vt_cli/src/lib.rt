@@ -4,9 +4,9 @@
 //!   and `StartSet::new` read the values of options.
 //! - A `UsageError` is a refusal of a command line, generic over the wrong options of a program, and `refuse` tells it. A `Status` is
 //!   how a run ended.
-//! - `Open` opens files by their paths, and `Save` writes files and makes folders. `Files` are those of the system. `read_file` and
-//!   `read_names` read whole files, `save_file` writes a file, and `make_folder` makes a folder. If one fails, it writes the name of
-//!   the `Program`, the path and the reason.
+//! - `Open` opens files by their paths, and `Save` writes files and makes folders. `Files` are those of the system. `read_file`,
+//!   `read_pool_file` and `read_names` read whole files, `save_file` writes a file, and `make_folder` makes a folder. If one fails, it writes
+//!   the name of the `Program`, the path and the reason.
 //! - A `JsonLine` is an object of JSON that is built member by member and written as a line.
 //! - `words_of` collects the words of the process, and `exit_code` ends it: with them, `main` of a program is a page.
 //!
@@ -33,7 +33,7 @@ pub use command_line::{CommandLine, Subcommand, VERSION};
 pub use files::{Files, Open, Opened, Program, Save};
 pub use json_line::JsonLine;
 pub use process::{exit_code, words_of};
-pub use reading::{read_file, read_names};
+pub use reading::{read_file, read_names, read_pool_file};
 pub use refusal::{UsageError, refuse};
 pub use start_set::{OWN_ADDRESS, StartSet};
 pub use status::Status;

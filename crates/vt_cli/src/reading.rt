@@ -27,6 +27,31 @@ pub fn read_file<F: Open, E: Write>(
     }
 }
 
+/// The bytes of the file of an object pool. `None` if it cannot be read: then `errors` receives the reason. If the file is a text,
+/// `errors` receives a sentence that says so: each pool has a byte that no text has, the kind 0 of its Working Set.
+pub fn read_pool_file<F: Open, E: Write>(
+    alloc: Global,
+    path: &str,
+    files: &mut F,
+    errors: &mut E,
+) -> io::Result<Option<Vec<u8>>> {
+    let bytes = read_file(alloc, path, files, errors)?;
+    if bytes.as_ref().is_some_and(|bytes| is_text(bytes)) {
+        let _ = writeln!(
+            errors,
+            "{}: {path}: the file is a text; expected the bytes of an object pool, such as those of an .iop file",
+            files.name()
+        );
+    }
+    Ok(bytes)
+}
+
+/// Whether bytes are a text that is not empty: graphic characters and blanks, and bytes above 127.
+fn is_text(bytes: &[u8]) -> bool {
+    let is_of_text = |byte: &u8| matches!(byte, b'\t' | b'\n' | b'\r' | b' '..=b'~' | 0x80..);
+    !bytes.is_empty() && bytes.iter().all(is_of_text)
+}
+
 /// The names in files. `None` if one of them cannot be read: then `errors` receives the reason.
 pub fn read_names<F: Open, E: Write>(
     alloc: Global,

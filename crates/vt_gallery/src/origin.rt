@@ -3,7 +3,7 @@
 use crate::{GivenSet, StateFault, pool_left};
 use std::alloc::Global;
 use std::io::{self, Error, ErrorKind, Write};
-use vt_cli::{Open, StartSet, read_file};
+use vt_cli::{Open, StartSet, read_pool_file};
 use vt_inspector_words::Origin;
 use vt_logs::{ReplayFault, Stream};
 
@@ -22,12 +22,12 @@ pub(crate) fn read_origin<F: Open, E: Write>(
     errors: &mut E,
 ) -> io::Result<Option<Vec<u8>>> {
     match origin {
-        Origin::Pool(path) => read_file(alloc, path, files, errors),
+        Origin::Pool(path) => read_pool_file(alloc, path, files, errors),
         Origin::State { log, set: None } => read_state(alloc, log, None, files, errors),
         Origin::State {
             log,
             set: Some(set),
-        } => match read_file(alloc, set.pool, files, errors)? {
+        } => match read_pool_file(alloc, set.pool, files, errors)? {
             Some(pool) => {
                 let start = Start {
                     set,

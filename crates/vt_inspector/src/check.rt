@@ -3,7 +3,7 @@
 use crate::program::{Look, put_message};
 use std::alloc::Global;
 use std::io::{self, Write};
-use vt_cli::{Open, Status, read_file, read_names};
+use vt_cli::{Open, Status, read_names, read_pool_file};
 use vt_findings_json::{item_json, summary_json};
 use vt_findings_text::{GithubLine, Item, Names, Source, Summary, items_of, summary_of};
 use vt_inspect::inspect;
@@ -33,7 +33,7 @@ pub(crate) fn run_check<F: Open, W: Write, E: Write>(
     let lines = lines_of(options.format, look);
     let mut status = Status::Clean;
     for path in options.pools.iter() {
-        let found = match read_file(alloc, path, files, errors)? {
+        let found = match read_pool_file(alloc, path, files, errors)? {
             Some(bytes) => {
                 let bytes = bytes.as_slice();
                 check_pool(alloc, options, lines, path, bytes, &names, out)?

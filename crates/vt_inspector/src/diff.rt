@@ -4,7 +4,7 @@ use crate::program::is_read;
 use std::alloc::Global;
 use std::io::{self, Write};
 use vt_changes::changed_fields;
-use vt_cli::{Open, Status, read_file, read_names};
+use vt_cli::{Open, Status, read_names, read_pool_file};
 use vt_findings_text::Source;
 use vt_inspect::{Finding, Inspection, inspect};
 use vt_inspector_words::DiffOptions;
@@ -22,10 +22,10 @@ pub(crate) fn run_diff<F: Open, W: Write, E: Write>(
     let Some(names) = read_names(alloc, options.names.as_slice(), files, errors)? else {
         return Ok(Status::NotJudged);
     };
-    let Some(old_bytes) = read_file(alloc, options.old, files, errors)? else {
+    let Some(old_bytes) = read_pool_file(alloc, options.old, files, errors)? else {
         return Ok(Status::NotJudged);
     };
-    let Some(new_bytes) = read_file(alloc, options.new, files, errors)? else {
+    let Some(new_bytes) = read_pool_file(alloc, options.new, files, errors)? else {
         return Ok(Status::NotJudged);
     };
     let old = inspect(alloc, old_bytes.as_slice())?;

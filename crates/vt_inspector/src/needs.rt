@@ -3,7 +3,7 @@
 use crate::program::is_read;
 use std::alloc::Global;
 use std::io::{self, Error, ErrorKind, Write};
-use vt_cli::{Open, Status, read_file, read_names};
+use vt_cli::{Open, Status, read_names, read_pool_file};
 use vt_findings_text::{Source, event_name};
 use vt_inspect::{Inspection, inspect};
 use vt_inspector_words::NeedsOptions;
@@ -25,7 +25,7 @@ pub(crate) fn run_needs<F: Open, W: Write, E: Write>(
     let Some(names) = read_names(alloc, options.names.as_slice(), files, errors)? else {
         return Ok(Status::NotJudged);
     };
-    let Some(bytes) = read_file(alloc, options.pool, files, errors)? else {
+    let Some(bytes) = read_pool_file(alloc, options.pool, files, errors)? else {
         return Ok(Status::NotJudged);
     };
     let inspection = inspect(alloc, bytes.as_slice())?;

@@ -5,7 +5,7 @@ use crate::costs::parts::is_over;
 use crate::program::{Look, is_read, put_message};
 use std::alloc::Global;
 use std::io::{self, Write};
-use vt_cli::{Open, Status, read_file, read_names};
+use vt_cli::{Open, Status, read_names, read_pool_file};
 use vt_costs::break_down;
 use vt_findings_text::{Item, Source};
 use vt_inspect::{Finding, inspect};
@@ -24,7 +24,7 @@ pub(crate) fn run_why<F: Open, W: Write, E: Write>(
     let Some(names) = read_names(alloc, options.names.as_slice(), files, errors)? else {
         return Ok(Status::NotJudged);
     };
-    let Some(bytes) = read_file(alloc, options.pool, files, errors)? else {
+    let Some(bytes) = read_pool_file(alloc, options.pool, files, errors)? else {
         return Ok(Status::NotJudged);
     };
     let inspection = inspect(alloc, bytes.as_slice())?;

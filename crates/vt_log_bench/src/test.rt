@@ -6,10 +6,12 @@ ghost use Rattle.vt_log_bench.specs.Statuses.{status_of};
 use crate::{Blessed, Difference, bless, differences};
 use std::alloc::{AllocError, Global};
 use std::io::{self, Error, ErrorKind, Write};
+use vt_can::Line;
 use vt_cli::{Open, Program, Save, Status, read_file, save_file};
-use vt_log_replay::{LoadedSet, new_terminal, read_set};
+use vt_log_replay::{LoadedSet, new_terminal, read_set, tell_no_frame};
 use vt_log_words::{TerminalOptions, TestOptions};
 use vt_logs::ReplayFault;
+use vt_recorded::Reader;
 use vt_server::Terminal;
 
 /// The most bytes of a log.
@@ -66,6 +68,10 @@ impl Bench<'_> {
         if log.len() > MOST_BYTES {
             return not_replayed(path, ReplayFault::TooLong, files, errors);
         }
+        if is_unreadable(self.alloc, log)? {
+            tell_no_frame(path, log, None, files, errors);
+            return Ok(Status::NotJudged);
+        }
         let mut terminal = self.new_terminal()?;
         match differences(self.alloc, log, &mut terminal) {
             Ok(differences) => put_differences(self.alloc, path, differences.as_slice(), out),
@@ -98,6 +104,20 @@ impl Bench<'_> {
     }
 }
 
+/// Whether a log has faulty lines, and no line that is a frame or an action of the operator.
+fn is_unreadable(alloc: Global, log: &[u8]) -> Result<bool, AllocError> {
+    let mut reader = Reader::new(alloc);
+    let mut is_faulty = false;
+    for line in log.split(|byte| *byte == b'\n') {
+        match reader.read(line)? {
+            Ok(Line::Frame { .. } | Line::Operator(_)) => return Ok(false),
+            Ok(Line::Skipped(_) | Line::Comment) => {}
+            Err(_) => is_faulty = true,
+        }
+    }
+    Ok(is_faulty)
+}
+
 /// Writes a blessed log in place of the log, unless they are the same or no line can be read. Writes to `errors` how many lines are faulty.
 fn write_blessed<F: Save, W: Write, E: Write>(
     path: &str,
@@ -109,12 +129,14 @@ fn write_blessed<F: Save, W: Write, E: Write>(
 ) -> io::Result<Status> {
     let faults = blessed.faults;
     if faults > 0 {
+        let verb = if faults == 1 { "is" } else { "are" };
         let _ = writeln!(
             errors,
-            "{}: {path}: {faults} of its lines are faulty; trace shows each with its fault",
+            "{}: {path}: {faults} of its lines {verb} faulty; trace shows each with its fault",
             files.name()
         );
         if blessed.inputs == 0 {
+            tell_no_frame(path, log, None, files, errors);
             return Ok(Status::NotJudged);
         }
     }

@@ -92,7 +92,7 @@ impl Report<'_> {
         let status = self.tell_lines(log, &mut reader, &mut hearing, files, out, errors)?;
         reader.tell_lines(path, files, errors);
         if !reader.has_frames() {
-            tell_no_frame(path, log, files, errors);
+            tell_no_frame(path, log, self.interface, files, errors);
             return Ok(Status::NotJudged);
         }
         let found = self.tell_unended(&mut hearing, out)?;

@@ -9,7 +9,7 @@ use std::alloc::{AllocError, Global};
 use std::io::Write;
 use vt_can::{Line, LineFault};
 use vt_cli::Program;
-use vt_recorded::{MARK, Reader, form_of, interface_in, is_of_interface};
+use vt_recorded::{LineHint, Reader, interface_in, is_of_interface};
 
 /// Reads the lines of a log: all of its frames, or those of one interface.
 #[derive(Drop)]
@@ -33,8 +33,9 @@ impl<'a> LogReader<'a> {
                 other: Vec::new(alloc),
                 has_more: false,
                 index: 0,
+                lines: 0,
                 faults: 0,
-                form: None,
+                hint: None,
             },
         }
     }
@@ -45,6 +46,7 @@ impl<'a> LogReader<'a> {
     pub fn read<'b>(&'b mut self, line: &'b [u8]) -> Result<Result<Line<'b>, LineFault>, AllocError>
         ensures { IfOk result (λ reading. IsReadingFrom (wanted self.old) line.now (reading_of reading)) }
     {
+        self.remarks.lines = self.remarks.lines.saturating_add(1);
         if !is_of_interface(line, self.interface) {
             return Ok(Ok(Line::Comment));
         }
@@ -70,8 +72,8 @@ impl<'a> LogReader<'a> {
                 "{program}: {path}: {faults} of its lines {verb} faulty; trace shows each with its fault"
             );
         }
-        if let (true, Some(what)) = (self.has_frames(), self.remarks.form) {
-            let _ = writeln!(errors, "{program}: {path}: {what}");
+        if let (true, Some(hint)) = (self.has_frames(), self.remarks.hint) {
+            let _ = writeln!(errors, "{program}: {path}: {hint}");
         }
         self.remarks.tell_interfaces(program, path, errors);
     }
@@ -88,10 +90,12 @@ struct Remarks {
     other: Vec<u8>,
     /// Whether frames of a third one were read.
     has_more: bool,
+    /// The number of lines so far.
+    lines: u64,
     /// The number of lines with a fault.
     faults: u64,
-    /// What the text is if its first faulty line begins with a byte order mark.
-    form: Option<&'static str>,
+    /// The likely cause of the first fault.
+    hint: Option<LineHint>,
 }
 
 impl Remarks {
@@ -104,9 +108,9 @@ impl Remarks {
         match reading {
             Ok(Line::Frame { .. }) => self.note_frame(line),
             Ok(_) => Ok(()),
-            Err(_) => {
-                if self.faults == 0 && line.starts_with(MARK) {
-                    self.form = form_of(line);
+            Err(fault) => {
+                if self.faults == 0 {
+                    self.hint = LineHint::of(self.lines, *fault, line);
                 }
                 self.faults = self.faults.saturating_add(1);
                 Ok(())
@@ -159,7 +163,7 @@ impl Remarks {
         let [_, first @ .., _] = self.first.as_slice() else {
             return None;
         };
-        let is_printable = |name: &[u8]| name.iter().all(|byte| matches!(byte, b'!'..=b'~'));
+        let is_printable = |name: &[u8]| name.iter().all(u8::is_ascii_graphic);
         if !is_printable(first) || !is_printable(&self.other) {
             return None;
         }

@@ -10,7 +10,7 @@ use vt_can::{Line, LineFault};
 use vt_cli::{Open, Program, read_file, read_names};
 use vt_findings_text::Names;
 use vt_log_words::{ReplayOptions, TerminalOptions};
-use vt_recorded::form_of;
+use vt_recorded::LineHint;
 use vt_server::{Input, Terminal};
 
 /// A log with all that its replay needs.
@@ -72,7 +72,7 @@ impl<'a> Replay<'a> {
 
     /// Writes to `errors` that there is no frame to replay.
     pub fn tell_no_frame<F: Program, E: Write>(&self, files: &F, errors: &mut E) {
-        tell_no_frame(self.path, self.text(), files, errors);
+        tell_no_frame(self.path, self.text(), self.interface, files, errors);
     }
 
     /// Writes to `errors` how many of the lines were faulty, and that there are several interfaces, if there are.
@@ -123,14 +123,29 @@ impl<'a> Replay<'a> {
     }
 }
 
-/// Writes to `errors` that a log has no frame, and what the file is if it is no log of candump.
-pub fn tell_no_frame<F: Program, E: Write>(path: &str, log: &[u8], files: &F, errors: &mut E) {
+/// Writes to `errors` that a log has no frame, or none of one interface, and the likely cause.
+pub fn tell_no_frame<F: Program, E: Write>(
+    path: &str,
+    log: &[u8],
+    interface: Option<&str>,
+    files: &F,
+    errors: &mut E,
+) {
     let name = files.name();
-    let _ = match form_of(log) {
-        Some(what) => writeln!(errors, "{name}: {path}: {what}"),
-        None => writeln!(
+    let found = LineHint::first_in(log);
+    if let Some(what) = found.and_then(LineHint::form) {
+        let _ = writeln!(errors, "{name}: {path}: {what}");
+        return;
+    }
+    let _ = match (found, interface) {
+        (Some(hint), None) => writeln!(errors, "{name}: {path}: no frame could be read; {hint}"),
+        (None, None) => writeln!(
             errors,
-            "{name}: {path}: no frame could be read; expected a log such as candump -L writes, and with --interface one of its interfaces"
+            "{name}: {path}: no frame could be read; expected a log such as candump -L writes"
+        ),
+        (_, Some(interface)) => writeln!(
+            errors,
+            "{name}: {path}: no frame of {interface} could be read; expected --interface with an interface of the log"
         ),
     };
 }

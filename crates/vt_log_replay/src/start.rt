@@ -2,7 +2,7 @@
 
 use std::alloc::Global;
 use std::io::{self, Error, ErrorKind, Write};
-use vt_cli::{Open, StartSet, Status, read_file};
+use vt_cli::{Open, StartSet, Status, read_pool_file};
 use vt_judge::judge;
 use vt_log_words::TerminalOptions;
 use vt_names::Name;
@@ -32,7 +32,7 @@ pub fn read_set<F: Open, E: Write>(
     let Some(StartSet { pool: path, owner }) = set else {
         return Ok(Ok(None));
     };
-    let Some(bytes) = read_file(alloc, path, files, errors)? else {
+    let Some(bytes) = read_pool_file(alloc, path, files, errors)? else {
         return Ok(Err(Status::NotJudged));
     };
     match judge(alloc, &bytes) {

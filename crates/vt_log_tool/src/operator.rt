@@ -28,7 +28,7 @@ pub(crate) fn run_operator<F: Open, W: Write, E: Messages>(
     recording.hear_lines(log, &mut reader, errors)?;
     reader.tell_lines(options.log, files, errors);
     if !reader.has_frames() {
-        tell_no_frame(options.log, log, files, errors);
+        tell_no_frame(options.log, log, options.interface, files, errors);
         return Ok(Status::NotJudged);
     }
     let told = recording.told.as_slice();

@@ -18,7 +18,7 @@ mod streams;
 pub use counts::Counts;
 pub use fault::ReplayFault;
 pub use log::{replay, replay_with_notes};
-pub use notes::{FaultyLine, Hint, Notes, RefusedActions};
+pub use notes::{FaultyLine, Notes, RefusedActions};
 pub use output::refusal_name;
 pub use progress::Progress;
 pub use streams::{Sink, Source, Stream};

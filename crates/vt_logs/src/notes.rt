@@ -2,9 +2,8 @@
 
 ghost use Rattle.std.specs.Prelude.{◌≡◌, None, replicate};
 
-use std::fmt;
 use vt_can::LineFault;
-use vt_recorded::form_by;
+use vt_recorded::{Hint, hint_of};
 use vt_server::{OperatorFault, Output};
 
 /// The first faulty line of a log.
@@ -16,43 +15,6 @@ pub struct FaultyLine {
     pub fault: LineFault,
     /// A likely cause of the fault.
     pub hint: Option<Hint>,
-}
-
-/// A likely cause of a faulty line.
-#[derive(Clone, Copy, PartialEq, Eq)]
-pub enum Hint {
-    /// The line has bytes that are not text.
-    Binary,
-    /// The line has the form that `candump` prints without times.
-    Candump,
-    /// The log is a file of another recorder, or begins with a byte order mark.
-    Form(&'static str),
-    /// No blank follows the exclamation mark of an operator line.
-    Unspaced,
-}
-
-impl fmt::Display for Hint {
-    fn fmt<W: fmt::Write>(&self, f: &mut fmt::Formatter<W>) -> fmt::Result {
-        match self {
-            Hint::Binary => write!(
-                f,
-                "the line has bytes that are no text; an object pool is checked with --report"
-            ),
-            Hint::Candump => {
-                write!(
-                    f,
-                    "the line looks as candump prints it without times; candump -L and candump -ta print a log"
-                )
-            }
-            Hint::Form(what) => write!(f, "{what}"),
-            Hint::Unspaced => {
-                write!(
-                    f,
-                    "an operator line has a blank after its exclamation mark, as ! press 400"
-                )
-            }
-        }
-    }
 }
 
 /// The operator's actions of a replay that were refused for one reason.
@@ -128,24 +90,4 @@ impl Notes {
             }
         }
     }
-}
-
-/// The likely cause of a faulty line.
-fn hint_of(number: u64, fault: LineFault, line: &[u8]) -> Option<Hint> {
-    if let Some(what) = form_by(number, line) {
-        return Some(Hint::Form(what));
-    }
-    if line.iter().any(|byte| !is_text(*byte)) {
-        return Some(Hint::Binary);
-    }
-    match fault {
-        LineFault::Time if line.starts_with(b"!") => Some(Hint::Unspaced),
-        LineFault::Time if line.contains(&b'[') && line.contains(&b']') => Some(Hint::Candump),
-        _ => None,
-    }
-}
-
-/// Whether a byte is text: 20 hex or above, a tab, a carriage return or an escape.
-fn is_text(byte: u8) -> bool {
-    byte >= b' ' || matches!(byte, b'\t' | b'\r' | 0x1B)
 }

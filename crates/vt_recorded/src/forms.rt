@@ -1,7 +1,7 @@
 //! Files that are no log of candump, and how to convert them into a log.
 
 /// The byte order mark of a text in UTF-8.
-pub const MARK: &[u8] = b"\xEF\xBB\xBF";
+const MARK: &[u8] = b"\xEF\xBB\xBF";
 
 const VECTOR_TEXT: &str =
     "this is a Vector log (.asc); convert it: python3 -m can.logconvert my.asc my.log";
@@ -45,7 +45,7 @@ pub fn form_of(file: &[u8]) -> Option<&'static str> {
 
 /// What a file is and how to convert it into a log, by the first line that could not be read and its number, from 1. `None` if the
 /// line does not show it.
-pub fn form_by(number: u64, line: &[u8]) -> Option<&'static str> {
+pub(crate) fn form_by(number: u64, line: &[u8]) -> Option<&'static str> {
     match number {
         1 => form_of(line),
         2 if line.starts_with(b"\r\r") => form_of(PCAPNG),

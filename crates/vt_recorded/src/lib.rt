@@ -3,19 +3,22 @@
 //! - `Reader` reads a line as `vt_can::parse_line` does. If the line does not have that form, it reads the frame in the line's plain form:
 //!   single spaces around the interface, whose name `candump` may pad, and joined bytes in place of `18EEFF80   [8]  01 02`.
 //! - `interface_in` is the name of the interface in a line, and `is_of_interface` chooses the lines of one.
-//! - `form_of` says what a file of another recorder is, and how to convert it into a log.
+//! - `form_of` says what a file of another recorder is, and how to convert it into a log. A `Hint`
+//!   is the likely cause of a line's fault, and a `LineHint` says at which line.
 //! - `laws` has a theorem about the definitions in specs/: the reading of a line is unique.
 //!
 //! docs/PROFILE.md, "Lines of other recorders", has the forms.
 #![tactic(auto)]
 
 mod forms;
+mod hints;
 mod interfaces;
 pub mod laws;
 mod plain;
 mod reader;
 mod words;
 
-pub use forms::{MARK, form_by, form_of};
+pub use forms::form_of;
+pub use hints::{Hint, LineHint, hint_of};
 pub use interfaces::{interface_in, is_of_interface};
 pub use reader::Reader;
