@@ -130,16 +130,23 @@ inside_or_at : (k n : ℕ) (b : Bool) → nat_lt k n ≡ b → k < n + 1 → (k 
 inside_or_at k n true is below = inl (grind (arith, is))
 inside_or_at k n false is below = inr (grind (arith, is, below))
 
+-- a found place: not before another, and one of the line
+abbrev IsPlaceFrom : List (List ℕ) → List ℕ → ℕ → Option ℕ → Type 0
+IsPlaceFrom lines line k found = (last : ℕ) × (found ≡ Some last) × (k ≤ last) × (last < length lines) × (get_or lines last [] ≡ line)
+
 gains_by_case : (line q : List ℕ) (lines : List (List ℕ)) (k : ℕ) (b : Bool) (old new : Option ℕ) → bytes_eq line q ≡ b → new ≡ cond b (Some (length lines)) old
     → k < length (lines ++ line ∷ []) → get_or (lines ++ line ∷ []) k [] ≡ q
-    → (k < length lines → get_or lines k [] ≡ q → (last : ℕ) × (old ≡ Some last) × (k ≤ last)) → (last : ℕ) × (new ≡ Some last) × (k ≤ last)
+    → (k < length lines → get_or lines k [] ≡ q → IsPlaceFrom lines q k old) → IsPlaceFrom (lines ++ line ∷ []) q k new
 gains_by_case line q lines k true old new same is below at before =
     let len : length (lines ++ line ∷ []) ≡ length lines + 1 = length-append lines (line ∷ []) in
-    (length lines, is, omega (arith, below, len))
+    (length lines, is, omega (arith, below, len), omega (arith, len), get_or-append_seam lines line [] [] ∙ (bytes_eq-Decides line q).0 same)
 gains_by_case line q lines k false old new other is below at before =
     let len : length (lines ++ line ∷ []) ≡ length lines + 1 = length-append lines (line ∷ []) in
     elim (inside_or_at k (length lines) (nat_lt k (length lines)) refl (omega (arith, below, len))) [
-      | inl inside ↦ let earlier = before inside (sym (get_or_append_left lines (line ∷ []) [] k inside) ∙ at) in (earlier.0, is ∙ earlier.1, earlier.2)
+      | inl inside ↦
+          let earlier = before inside (sym (get_or_append_left lines (line ∷ []) [] k inside) ∙ at) in
+          let within : earlier.0 < length lines = earlier.3 in
+          (earlier.0, is ∙ earlier.1, earlier.2, omega (arith, within, len), get_or_append_left lines (line ∷ []) [] earlier.0 within ∙ earlier.4)
       | inr here ↦
           let same : line ≡ q = sym (get_or-append_seam lines line [] []) ∙ ap (λ (n : ℕ). get_or (lines ++ line ∷ []) n []) (sym here) ∙ at in
           let true_too : bytes_eq line q ≡ true = (bytes_eq-Decides line q).1 same in
@@ -162,3 +169,9 @@ gains_place lines i d old new inside known inserted =
   where
     map_line_next : (lines : List (Bor (List ℕ))) (i : ℕ) (d : Bor (List ℕ)) → i < length lines → map line_of (take (i + 1) lines) ≡ map line_of (take i lines) ++ (get_or lines i d).now ∷ []
     map_line_next lines i d below = ap (map line_of) (take_more lines i d below) ∙ map-append line_of (take i lines) (get_or lines i d ∷ [])
+
+-- At the end of the lines each of them is.
+pub all_placed : (lines : List (Bor (List ℕ))) (i : ℕ) (places : BTreeMap (Bor (List ℕ)) ℕ) → i ≡ length lines → AreLastPlaces (map line_of (take i lines)) places
+    → AreLastPlaces (map line_of lines) places
+all_placed lines i places end known =
+    subst (λ (ls : List (Bor (List ℕ))). AreLastPlaces (map line_of ls) places) (ap (λ (n : ℕ). take n lines) end ∙ take-length lines) known

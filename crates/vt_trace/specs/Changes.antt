@@ -56,8 +56,8 @@ AreScreenChanges old new text = AreChanges (lines_in old) (lines_in new) text
 abbrev pub IsNext : List ℕ → List (List ℕ) → ℕ → Type 0
 IsNext line lines before = (behind : List (List ℕ)) × (lines ≡ take before lines ++ line ∷ behind) × (is_member bytes_eq (take before lines) line ≡ false)
 
--- A map has each line, at a place that is not before any of its places.
+-- A map finds each line at the last of its places.
 abbrev pub AreLastPlaces : List (List ℕ) → BTreeMap (Bor (List ℕ)) ℕ → Type 0
 AreLastPlaces lines map =
     (line : List ℕ) (place : ℕ) → place < length lines → get_or lines place [] ≡ line
-    → (last : ℕ) × (get_by (λ (key : Bor (List ℕ)). slice_cmp nat_cmp line key.now) map ≡ Some last) × (place ≤ last)
+    → (last : ℕ) × (get_by (λ (key : Bor (List ℕ)). slice_cmp nat_cmp line key.now) map ≡ Some last) × (place ≤ last) × (last < length lines) × (get_or lines last [] ≡ line)
