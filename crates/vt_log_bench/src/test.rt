@@ -11,7 +11,7 @@ use vt_cli::{Open, Program, Save, Status, read_file, save_file};
 use vt_log_replay::{LoadedSet, new_terminal, read_set, tell_no_frame};
 use vt_log_words::{TerminalOptions, TestOptions};
 use vt_logs::ReplayFault;
-use vt_recorded::Reader;
+use vt_recorded::{LineHint, Reader};
 use vt_server::Terminal;
 
 /// The most bytes of a log.
@@ -73,13 +73,19 @@ impl Bench<'_> {
             return Ok(Status::NotJudged);
         }
         let mut terminal = self.new_terminal()?;
-        match differences(self.alloc, log, &mut terminal) {
-            Ok(differences) => put_differences(self.alloc, path, differences.as_slice(), out),
-            Err(fault) => not_replayed(path, fault, files, errors),
+        let differences = match differences(self.alloc, log, &mut terminal) {
+            Ok(differences) => differences,
+            Err(fault) => return not_replayed(path, fault, files, errors),
+        };
+        let status = put_differences(self.alloc, path, differences.as_slice(), out)?;
+        if let (Status::Found, Some(hint)) = (status, LineHint::first_in(log)) {
+            let _ = writeln!(errors, "{}: {path}: {hint}", files.name());
         }
+        Ok(status)
     }
 
-    /// Writes a log anew, with the expectations that it meets, unless it has them already or no line of it can be read.
+    /// Writes a log anew, with the expectations that it meets. It stays if it has them already, if it is a file of another form, or if it
+    /// has neither a frame nor an action of the operator and no working set is there from the start.
     fn bless<F: Save, W: Write, E: Write>(
         &self,
         path: &str,
@@ -91,8 +97,17 @@ impl Bench<'_> {
         if log.len() > MOST_BYTES {
             return not_replayed(path, ReplayFault::TooLong, files, errors);
         }
+        let form = LineHint::first_in(log).and_then(LineHint::form);
+        if form.is_some() || is_unreadable(self.alloc, log)? {
+            tell_no_frame(path, log, None, files, errors);
+            return Ok(Status::NotJudged);
+        }
         let mut terminal = self.new_terminal()?;
         match bless(self.alloc, log, &mut terminal) {
+            Ok(blessed) if blessed.inputs == 0 && self.set.is_none() => {
+                tell_no_frame(path, log, None, files, errors);
+                Ok(Status::NotJudged)
+            }
             Ok(blessed) => write_blessed(path, log, &blessed, files, out, errors),
             Err(fault) => not_replayed(path, fault, files, errors),
         }
@@ -118,7 +133,7 @@ fn is_unreadable(alloc: Global, log: &[u8]) -> Result<bool, AllocError> {
     Ok(is_faulty)
 }
 
-/// Writes a blessed log in place of the log, unless they are the same or no line can be read. Writes to `errors` how many lines are faulty.
+/// Writes a blessed log in place of the log, unless they are the same. Writes to `errors` how many lines are faulty.
 fn write_blessed<F: Save, W: Write, E: Write>(
     path: &str,
     log: &[u8],
@@ -135,10 +150,6 @@ fn write_blessed<F: Save, W: Write, E: Write>(
             "{}: {path}: {faults} of its lines {verb} faulty; trace shows each with its fault",
             files.name()
         );
-        if blessed.inputs == 0 {
-            tell_no_frame(path, log, None, files, errors);
-            return Ok(Status::NotJudged);
-        }
     }
     if blessed.text.as_slice() == log {
         writeln!(out, "{path}: as it was")?;
