@@ -1,11 +1,13 @@
 //! Where the objects that are drawn come from.
 
 use crate::{GivenSet, StateFault, pool_left};
-use std::alloc::Global;
+use std::alloc::{AllocError, Global};
 use std::io::{self, Error, ErrorKind, Write};
-use vt_cli::{Open, StartSet, read_pool_file};
+use vt_can::Line;
+use vt_cli::{Open, StartSet, read_file, read_pool_file};
 use vt_inspector_words::Origin;
-use vt_logs::{ReplayFault, Stream};
+use vt_logs::ReplayFault;
+use vt_recorded::{LineHint, Reader};
 
 /// The file whose objects are drawn: the pool, or the log.
 pub(crate) fn path_of<'a>(origin: Origin<'a>) -> &'a str {
@@ -55,26 +57,63 @@ fn read_state<F: Open, E: Write>(
     files: &mut F,
     errors: &mut E,
 ) -> io::Result<Option<Vec<u8>>> {
-    let mut log = match files.open(path) {
-        Ok(log) => Stream::new(log),
-        Err(error) => return not_read(path, error, errors),
+    let Some(log) = read_file(alloc, path, files, errors)? else {
+        return Ok(None);
     };
+    if !tell_lines(alloc, path, &log, errors)? {
+        return Ok(None);
+    }
     let set = start.map(|start| GivenSet {
         pool: start.bytes,
         owner: start.set.owner,
     });
-    match pool_left(alloc, set, &mut log) {
+    match pool_left(alloc, set, &mut log.as_slice()) {
         Ok(bytes) => Ok(Some(bytes)),
         Err(StateFault::Memory) => Err(Error::from(ErrorKind::OutOfMemory)),
-        Err(fault) => match log.into_failure() {
-            Some(error) => not_read(path, error, errors),
-            None => {
-                let (path, cure) = cure_of(fault, path, start);
-                let _ = writeln!(errors, "segyolant: {path}: {fault}{cure}");
-                Ok(None)
-            }
-        },
+        Err(fault) => {
+            let (path, cure) = cure_of(fault, path, start);
+            let _ = writeln!(errors, "segyolant: {path}: {fault}{cure}");
+            Ok(None)
+        }
     }
+}
+
+/// Reads the lines of a log. Writes to `errors` how many are faulty, and the likely cause of the first fault. Returns false if there are
+/// faulty lines, and no line that is a frame or an action of the operator.
+fn tell_lines<E: Write>(
+    alloc: Global,
+    path: &str,
+    log: &[u8],
+    errors: &mut E,
+) -> Result<bool, AllocError> {
+    let mut reader = Reader::new(alloc);
+    let mut has_input = false;
+    let mut faults = 0_u64;
+    for line in log.split(|byte| *byte == b'\n') {
+        match reader.read(line)? {
+            Ok(Line::Frame { .. } | Line::Operator(_)) => has_input = true,
+            Ok(Line::Skipped(_) | Line::Comment) => {}
+            Err(_) => faults = faults.saturating_add(1),
+        }
+    }
+    if faults == 0 {
+        return Ok(true);
+    }
+    let verb = if faults == 1 { "is" } else { "are" };
+    let _ = writeln!(
+        errors,
+        "segyolant: {path}: {faults} of its lines {verb} faulty; segyolant_log trace shows each with its fault"
+    );
+    if let Some(hint) = LineHint::first_in(log) {
+        let _ = writeln!(errors, "segyolant: {path}: {hint}");
+    }
+    if !has_input {
+        let _ = writeln!(
+            errors,
+            "segyolant: {path}: no line could be read; expected a log such as candump -L writes"
+        );
+    }
+    Ok(has_input)
 }
 
 /// The file that a fault is about, and what may be done about it.
@@ -98,13 +137,4 @@ fn cure_of<'a>(
         }
         _ => (log, ""),
     }
-}
-
-/// Writes to `errors` that a file cannot be read. A refused allocation stays an error.
-fn not_read<E: Write>(path: &str, error: Error, errors: &mut E) -> io::Result<Option<Vec<u8>>> {
-    if error.kind() == ErrorKind::OutOfMemory {
-        return Err(error);
-    }
-    let _ = writeln!(errors, "segyolant: {path}: {error}");
-    Ok(None)
 }
