@@ -2,7 +2,9 @@
 from __future__ import annotations
 
 import asyncio
+import contextlib
 import importlib.util
+import io
 import json
 import socket
 import sys
@@ -18,6 +20,7 @@ from unittest import mock
 from segyolant import Terminal, names_of
 from segyolant.desk import acts
 from segyolant.desk.audience import MOST_LINES, Audience, Page
+from segyolant.desk.__main__ import main
 from segyolant.desk.clock import Clock, PlayClock
 from segyolant.desk.desk import Desk
 from segyolant.desk.lines import Hear, InternalLine, LogLine
@@ -479,6 +482,24 @@ class OnPythonCan(WithDesk):
                 else:
                     self.assertEqual(await self.until(answer), line.frame, f'{path.name}:{line.number}')
         self.assertIsNone(answer())
+
+
+@unittest.skipUnless(HAS_AIOHTTP, f'{sys.executable} has no aiohttp: {APT}')
+class CommandLine(unittest.TestCase):
+    def said(self, *words: str) -> tuple[int, str]:
+        with contextlib.redirect_stderr(io.StringIO()) as errors:
+            status = main(['--port', '0', *words])
+        return status, errors.getvalue()
+
+    def test_a_refused_pool_is_named_with_its_file(self) -> None:
+        path = EXAMPLES / 'many-faults.iop'
+        self.assertEqual(self.said('--pool', f'80={path}'), (
+            2, f'segyolant.desk: {path}: the terminal refuses this pool; segyolant check {path} says why\n'))
+
+    def test_a_folder_is_no_file(self) -> None:
+        with self.assertRaises(SystemExit), contextlib.redirect_stderr(io.StringIO()) as errors:
+            main(['--pool', f'80={EXAMPLES}'])
+        self.assertIn(f'{EXAMPLES} is a folder; expected a file', errors.getvalue())
 
 
 @unittest.skipUnless(HAS_AIOHTTP, f'{sys.executable} has no aiohttp: {APT}')

@@ -8,7 +8,7 @@ import sys
 import webbrowser
 from typing import TYPE_CHECKING
 
-from ..errors import SegyolantError
+from ..errors import NoPool, SegyolantError
 from ..naming import by_id
 from ..names import names_of
 from ..sprayer import NAMES, Sprayer, sprayer_file
@@ -33,6 +33,10 @@ def main(words: list[str] | None = None) -> int:
         return 2
     try:
         asyncio.run(run(chosen))
+    except NoPool as error:
+        path = dict(chosen.pool).get(error.request.get('address'))
+        print(f'segyolant.desk: {path}: the terminal refuses this pool; segyolant check {path} says why', file=sys.stderr)
+        return 2
     except (SegyolantError, OSError) as error:
         print(f'segyolant.desk: {error}', file=sys.stderr)
         return 2

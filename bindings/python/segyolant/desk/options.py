@@ -44,6 +44,8 @@ def _bus(text: str) -> tuple[str, str | None]:
 
 
 def _file(text: str) -> Path:
+    if Path(text).is_dir():
+        raise argparse.ArgumentTypeError(f'{text} is a folder; expected a file')
     if not Path(text).is_file():
         raise argparse.ArgumentTypeError(f'there is no file {text}')
     return Path(text)
