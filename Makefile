@@ -6,7 +6,7 @@ POOL ?= examples/sprayer.iop
 .PHONY: run picture pictures quick help test prove examples wrong-bodies build bench bench-hostile bench-counts refuse-memory test-c shared \
 	libs-aarch64 install dist reference test-python wheel desk test-desk
 
-# Replays a log by the quick build of vt_replay, which proves nothing. Two minutes at first, a second later.
+# Replays a log by the quick build of vt_replay, which proves nothing. Some three minutes at first, a second later.
 run:
 	@python3 scripts/quick.py --run vt_replay $(ARGS)
 
