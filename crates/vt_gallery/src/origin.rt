@@ -89,11 +89,19 @@ fn tell_lines<E: Write>(
     let mut reader = Reader::new(alloc);
     let mut has_input = false;
     let mut faults = 0_u64;
+    let mut number = 0_u64;
+    let mut hint = None;
     for line in log.split(|byte| *byte == b'\n') {
+        number = number.saturating_add(1);
         match reader.read(line)? {
             Ok(Line::Frame { .. } | Line::Operator(_)) => has_input = true,
             Ok(Line::Skipped(_) | Line::Comment) => {}
-            Err(_) => faults = faults.saturating_add(1),
+            Err(fault) => {
+                if faults == 0 {
+                    hint = LineHint::of(number, fault, line);
+                }
+                faults = faults.saturating_add(1);
+            }
         }
     }
     if faults == 0 {
@@ -104,7 +112,7 @@ fn tell_lines<E: Write>(
         errors,
         "segyolant: {path}: {faults} of its lines {verb} faulty; segyolant_log trace shows each with its fault"
     );
-    if let Some(hint) = LineHint::first_in(log) {
+    if let Some(hint) = hint {
         let _ = writeln!(errors, "segyolant: {path}: {hint}");
     }
     if !has_input {

@@ -78,8 +78,10 @@ impl Bench<'_> {
             Err(fault) => return not_replayed(path, fault, files, errors),
         };
         let status = put_differences(self.alloc, path, differences.as_slice(), out)?;
-        if let (Status::Found, Some(hint)) = (status, LineHint::first_in(log)) {
-            let _ = writeln!(errors, "{}: {path}: {hint}", files.name());
+        if status == Status::Found {
+            if let Some(hint) = first_hint(self.alloc, log)? {
+                let _ = writeln!(errors, "{}: {path}: {hint}", files.name());
+            }
         }
         Ok(status)
     }
@@ -131,6 +133,19 @@ fn is_unreadable(alloc: Global, log: &[u8]) -> Result<bool, AllocError> {
         }
     }
     Ok(is_faulty)
+}
+
+/// The likely cause of the first fault in a log. `None` if no line is faulty, or the line does not show the cause.
+fn first_hint(alloc: Global, log: &[u8]) -> Result<Option<LineHint>, AllocError> {
+    let mut reader = Reader::new(alloc);
+    let mut number = 0_u64;
+    for line in log.split(|byte| *byte == b'\n') {
+        number = number.saturating_add(1);
+        if let Err(fault) = reader.read(line)? {
+            return Ok(LineHint::of(number, fault, line));
+        }
+    }
+    Ok(None)
 }
 
 /// Writes a blessed log in place of the log, unless they are the same. Writes to `errors` how many lines are faulty.
