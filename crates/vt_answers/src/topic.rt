@@ -6,7 +6,7 @@ ghost use Rattle.vt_answers.specs.Topics as topics;
 use byteorder::{ByteOrder, LittleEndian};
 use vt_can::Frame;
 use vt_can::assigned::VT_TO_ECU;
-use vt_commands::function;
+use vt_commands::CommandRow;
 
 /// What a message of a terminal is about.
 #[derive(Clone, Copy, PartialEq, Eq)]
@@ -40,34 +40,7 @@ pub(crate) fn topic_of(frame: &Frame) -> Option<Topic>
 fn object_in(function: u8, bytes: &[u8]) -> Option<u16>
     ensures { result ≡ topics.object_in function bytes.now }
 {
-    let place = object_place(function)?;
+    let place = CommandRow::of(function)?.object_at?;
     let id = bytes.get(place..place + 2)?;
     Some(LittleEndian::read_u16(id))
-}
-
-/// The place of the object in the replies to a function.
-fn object_place(function: u8) -> Option<usize>
-    ensures { result ≡ topics.object_place function }
-{
-    match function {
-        function::CHANGE_STRING_VALUE => Some(3),
-        function::HIDE_SHOW
-        | function::ENABLE_DISABLE
-        | function::CHANGE_CHILD_LOCATION
-        | function::CHANGE_SIZE
-        | function::CHANGE_BACKGROUND_COLOUR
-        | function::CHANGE_NUMERIC_VALUE
-        | function::CHANGE_END_POINT
-        | function::CHANGE_FONT_ATTRIBUTES
-        | function::CHANGE_LINE_ATTRIBUTES
-        | function::CHANGE_FILL_ATTRIBUTES
-        | function::CHANGE_ACTIVE_MASK
-        | function::CHANGE_SOFT_KEY_MASK
-        | function::CHANGE_ATTRIBUTE
-        | function::CHANGE_PRIORITY
-        | function::CHANGE_LIST_ITEM
-        | function::CHANGE_CHILD_POSITION
-        | function::EXECUTE_MACRO => Some(1),
-        _ => None,
-    }
 }

@@ -1,2 +1,3 @@
+mod EachRow
 mod Naming
 pub mod OneSplit

@@ -4,6 +4,9 @@ use Rattle.std.specs.Int.{w16, cast_signed}
 use Rattle.byteorder.specs.Endian.{little_number}
 use Rattle.vt_commands.specs.declared.command.Command.{Command}
 use Rattle.vt_commands.specs.declared.command.Command.TheVariants.{HideShow, EnableDisable, ControlAudio, SetVolume, ChangeChildLocation, ChangeSize, ChangeBackgroundColour, ChangeNumericValue, ChangeEndPoint, ChangeFontAttributes, ChangeLineAttributes, ChangeFillAttributes, ChangeActiveMask, ChangeSoftKeyMask, ChangeAttribute, ChangePriority, ChangeListItem, DeletePool, ChangeStringValue, ChangeChildPosition, ExecuteMacro}
+use Rattle.vt_commands.specs.declared.event.Event.TheVariants as events
+use Rattle.vt_commands.specs.declared.row.Raises.{Raises}
+use Rattle.vt_commands.specs.declared.row.Raises.TheVariants.{Nothing, One, ByState, ActiveMask}
 use Rattle.vt_commands.specs.Functions.{function_of, HIDE_SHOW, ENABLE_DISABLE, CONTROL_AUDIO, SET_VOLUME, CHANGE_CHILD_LOCATION, CHANGE_SIZE, CHANGE_BACKGROUND_COLOUR, CHANGE_NUMERIC_VALUE, CHANGE_END_POINT, CHANGE_FONT_ATTRIBUTES, CHANGE_LINE_ATTRIBUTES, CHANGE_FILL_ATTRIBUTES, CHANGE_ACTIVE_MASK, CHANGE_SOFT_KEY_MASK, CHANGE_ATTRIBUTE, CHANGE_PRIORITY, CHANGE_LIST_ITEM, DELETE_POOL, CHANGE_STRING_VALUE, CHANGE_CHILD_POSITION, EXECUTE_MACRO}
 
 -- the byte at an offset, and the numbers of two and four bytes at an offset
@@ -19,39 +22,81 @@ signed_word bytes place = cast_signed w16 (word bytes place)
 abbrev pub long : List ℕ → ℕ → ℕ
 long bytes place = little_number 4 (drop place bytes)
 
--- A row of the table: the function of a command, its least number of bytes, and its decoder.
+-- What the table says of the reply to a command: the index of the object, if the reply names one, and that of the error byte, the
+-- events that the command raises if it is done, and the bits of the error byte that refuse it.
+pub record Columns : Type 0 where
+  pub object_at : Option ℕ
+  pub error_at : ℕ
+  pub raises : Raises
+  pub bits : List ℕ
+
+-- A row of the table: the function of a command, its least number of bytes, its decoder, and the columns of its reply.
 pub record CommandRow : Type 0 where
   pub function : ℕ
   pub least : ℕ
   pub command : List ℕ → Command
+  pub columns : Columns
 
-abbrev row : ℕ → ℕ → (List ℕ → Command) → CommandRow
-row function least command = record { function = function; least = least; command = command }
+abbrev row : ℕ → ℕ → (List ℕ → Command) → Columns → CommandRow
+row function least command columns = record { function = function; least = least; command = command; columns = columns }
+
+abbrev about : Option ℕ → ℕ → Raises → List ℕ → Columns
+about object_at error_at raises bits = record { object_at = object_at; error_at = error_at; raises = raises; bits = bits }
 
 abbrev pub rows : List CommandRow
 rows =
     row HIDE_SHOW 8 (λ b. HideShow (word b 1) (byte b 3))
+    (about (Some 1) 4 (ByState events.Hide events.Show) (1 ∷ 2 ∷ []))
     ∷ row ENABLE_DISABLE 8 (λ b. EnableDisable (word b 1) (byte b 3))
+    (about (Some 1) 4 (ByState events.Disable events.Enable) (1 ∷ 2 ∷ []))
     ∷ row CONTROL_AUDIO 8 (λ b. ControlAudio (byte b 1) (word b 2) (word b 4) (word b 6))
+    (about None 1 Nothing [])
     ∷ row SET_VOLUME 8 (λ b. SetVolume (byte b 1))
+    (about None 1 Nothing (4 ∷ []))
     ∷ row CHANGE_CHILD_LOCATION 8 (λ b. ChangeChildLocation (word b 1) (word b 3) (byte b 5) (byte b 6))
+    (about (Some 1) 5 (One events.ChildLocation) (0 ∷ 1 ∷ 4 ∷ []))
     ∷ row CHANGE_SIZE 8 (λ b. ChangeSize (word b 1) (word b 3) (word b 5))
+    (about (Some 1) 3 (One events.Size) (0 ∷ []))
     ∷ row CHANGE_BACKGROUND_COLOUR 8 (λ b. ChangeBackgroundColour (word b 1) (byte b 3))
+    (about (Some 1) 4 (One events.BackgroundColour) (0 ∷ []))
     ∷ row CHANGE_NUMERIC_VALUE 8 (λ b. ChangeNumericValue (word b 1) (long b 4))
+    (about (Some 1) 3 (One events.Value) (0 ∷ 1 ∷ []))
     ∷ row CHANGE_END_POINT 8 (λ b. ChangeEndPoint (word b 1) (word b 3) (word b 5) (byte b 7))
+    (about (Some 1) 3 (One events.EndPoint) (0 ∷ 1 ∷ []))
     ∷ row CHANGE_FONT_ATTRIBUTES 8 (λ b. ChangeFontAttributes (word b 1) (byte b 3) (byte b 4) (byte b 5) (byte b 6))
+    (about (Some 1) 3 (One events.Font) (0 ∷ []))
     ∷ row CHANGE_LINE_ATTRIBUTES 8 (λ b. ChangeLineAttributes (word b 1) (byte b 3) (byte b 4) (word b 5))
+    (about (Some 1) 3 (One events.Line) (0 ∷ []))
     ∷ row CHANGE_FILL_ATTRIBUTES 8 (λ b. ChangeFillAttributes (word b 1) (byte b 3) (byte b 4) (word b 5))
+    (about (Some 1) 3 (One events.Fill) (0 ∷ 3 ∷ []))
     ∷ row CHANGE_ACTIVE_MASK 8 (λ b. ChangeActiveMask (word b 1) (word b 3))
+    (about (Some 1) 3 ActiveMask (0 ∷ 1 ∷ []))
     ∷ row CHANGE_SOFT_KEY_MASK 8 (λ b. ChangeSoftKeyMask (byte b 1) (word b 2) (word b 4))
+    (about (Some 1) 5 (One events.SoftKeyMask) (0 ∷ 1 ∷ []))
     ∷ row CHANGE_ATTRIBUTE 8 (λ b. ChangeAttribute (word b 1) (byte b 3) (long b 4))
+    (about (Some 1) 4 (One events.Attribute) (0 ∷ 1 ∷ 2 ∷ []))
     ∷ row CHANGE_PRIORITY 8 (λ b. ChangePriority (word b 1) (byte b 3))
+    (about (Some 1) 4 (One events.Priority) (0 ∷ 1 ∷ []))
     ∷ row CHANGE_LIST_ITEM 8 (λ b. ChangeListItem (word b 1) (byte b 3) (word b 4))
+    (about (Some 1) 6 Nothing (0 ∷ 1 ∷ 2 ∷ []))
     ∷ row DELETE_POOL 8 (λ b. DeletePool)
+    (about None 1 Nothing [])
     ∷ row CHANGE_STRING_VALUE 5 (λ b. ChangeStringValue (word b 1) (word b 3) (take (word b 3) (drop 5 b)))
+    (about (Some 3) 5 (One events.Value) (1 ∷ 2 ∷ []))
     ∷ row CHANGE_CHILD_POSITION 9 (λ b. ChangeChildPosition (word b 1) (word b 3) (signed_word b 5) (signed_word b 7))
+    (about (Some 1) 5 (One events.ChildPosition) (0 ∷ 1 ∷ []))
     ∷ row EXECUTE_MACRO 8 (λ b. ExecuteMacro (word b 1))
+    (about (Some 1) 3 (One events.RunByName) (0 ∷ 1 ∷ 2 ∷ []))
     ∷ []
+
+-- the columns of the first row with a function
+abbrev pub columns_among : List CommandRow → ℕ → Option Columns
+columns_among [] function = None
+columns_among (r ∷ rs) function = if function == r.function then Some r.columns else columns_among rs function
+
+-- What the table says of the reply to a function, if a command has it.
+abbrev pub columns_at : ℕ → Option Columns
+columns_at function = columns_among rows function
 
 -- the first row with the function of the bytes decodes them, if they are long enough
 abbrev pub command_among : List CommandRow → List ℕ → Option Command

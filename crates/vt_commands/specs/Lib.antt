@@ -3,4 +3,5 @@ pub mod Commands
 pub mod Events
 pub mod Functions
 pub mod Pieces
+pub mod Rows
 pub mod Targets

@@ -4,6 +4,7 @@
 //! - `Command` is read from its bytes; `split_command` splits the first command off the bytes of a macro.
 //! - `targets` returns each `Target` in a command, `attribute` the `Attribute` with a number, and `row_events` each `Event` that a
 //!   command raises, as a `Raised`.
+//! - A `CommandRow` says of a command what its reply has where, what it raises, and why it may be refused.
 //! - `function` has the functions of commands, and of the messages that report the operator's actions to an implement.
 //! - `laws` has the theorems about the definitions.
 //!
@@ -17,6 +18,7 @@ pub mod function;
 pub mod laws;
 mod pieces;
 mod raising;
+mod row;
 mod target;
 
 pub use attributes::attribute;
@@ -24,4 +26,5 @@ pub use command::Command;
 pub use event::Event;
 pub use pieces::split_command;
 pub use raising::{Raised, row_events};
+pub use row::{CommandRow, Raises};
 pub use target::{Target, targets};

@@ -1,23 +1,17 @@
 -- Where the replies of a terminal have their error byte (docs/PROFILE.md, "Commands: all rows", "End of Object Pool (12)").
-use Rattle.std.specs.Prelude.{◌==◌, ◌||◌, ℕ, if◌then◌else◌, Option, None, Some, List, [], ◌∷◌}
+use Rattle.std.specs.Prelude.{◌==◌, ℕ, if◌then◌else◌, Option, None, Some, List, [], ◌∷◌}
 use Rattle.std.specs.List.{slice_get}
 use Rattle.vt_can.specs.Assigned.{END_OF_POOL}
-use Rattle.vt_commands.specs.Functions as functions
+use Rattle.vt_commands.specs.Commands.{Columns, columns_at}
+
+-- the index of the error byte in the reply of a function that may be a command's
+abbrev pub error_place_in : Option Columns → ℕ → Option ℕ
+error_place_in (Some columns) function = Some columns.error_at
+error_place_in None function = if function == END_OF_POOL then Some 1 else None
 
 -- the index of the error byte in the reply of a function
 abbrev pub error_place : ℕ → Option ℕ
-error_place f =
-    if f == functions.CONTROL_AUDIO || f == functions.SET_VOLUME || f == functions.DELETE_POOL
-    || f == END_OF_POOL then Some 1
-    else if f == functions.CHANGE_SIZE || f == functions.CHANGE_NUMERIC_VALUE || f == functions.CHANGE_END_POINT
-    || f == functions.CHANGE_FONT_ATTRIBUTES || f == functions.CHANGE_LINE_ATTRIBUTES || f == functions.CHANGE_FILL_ATTRIBUTES
-    || f == functions.CHANGE_ACTIVE_MASK || f == functions.EXECUTE_MACRO then Some 3
-    else if f == functions.HIDE_SHOW || f == functions.ENABLE_DISABLE || f == functions.CHANGE_BACKGROUND_COLOUR
-    || f == functions.CHANGE_ATTRIBUTE || f == functions.CHANGE_PRIORITY then Some 4
-    else if f == functions.CHANGE_CHILD_LOCATION || f == functions.CHANGE_SOFT_KEY_MASK || f == functions.CHANGE_STRING_VALUE
-    || f == functions.CHANGE_CHILD_POSITION then Some 5
-    else if f == functions.CHANGE_LIST_ITEM then Some 6
-    else None
+error_place function = error_place_in (columns_at function) function
 
 -- the error byte at its place
 abbrev pub error_at : List ℕ → Option ℕ → Option ℕ

@@ -9,14 +9,8 @@ use crate::pool_requests::{DELETE_VERSION, GET_VERSIONS, LOAD_VERSION, STORE_VER
 use vt_can::assigned::{
     END_OF_POOL, GET_FONTS, GET_HARDWARE, GET_MEMORY, GET_SOFT_KEYS, TRANSFER, VT_STATUS,
 };
-use vt_commands::function::{
-    BUTTON_ACTIVATION, CHANGE_ACTIVE_MASK, CHANGE_ATTRIBUTE, CHANGE_BACKGROUND_COLOUR,
-    CHANGE_CHILD_LOCATION, CHANGE_CHILD_POSITION, CHANGE_END_POINT, CHANGE_FILL_ATTRIBUTES,
-    CHANGE_FONT_ATTRIBUTES, CHANGE_LINE_ATTRIBUTES, CHANGE_LIST_ITEM, CHANGE_NUMERIC_VALUE,
-    CHANGE_PRIORITY, CHANGE_SIZE, CHANGE_SOFT_KEY_MASK, CHANGE_STRING_VALUE, CONTROL_AUDIO,
-    DELETE_POOL, ENABLE_DISABLE, EXECUTE_MACRO, HIDE_SHOW, NUMERIC_VALUE, SET_VOLUME,
-    SOFT_KEY_ACTIVATION, STRING_VALUE,
-};
+use vt_commands::CommandRow;
+use vt_commands::function::{BUTTON_ACTIVATION, NUMERIC_VALUE, SOFT_KEY_ACTIVATION, STRING_VALUE};
 
 /// VT Select Input Object: the operator has selected an input, or left it.
 pub const SELECT_INPUT: u8 = 0x03;
@@ -26,37 +20,9 @@ pub const MAINTENANCE: u8 = 0xFF;
 
 /// The name of the function of a message to or from a terminal, such as `Hide/Show Object`. `None` if it is not known.
 pub fn function_name(function: u8) -> Option<&'static str> {
-    match command_name(function) {
-        Some(name) => Some(name),
+    match CommandRow::of(function) {
+        Some(row) => Some(row.name),
         None => other_name(function),
-    }
-}
-
-/// The name of a command's function.
-fn command_name(function: u8) -> Option<&'static str> {
-    match function {
-        HIDE_SHOW => Some("Hide/Show Object"),
-        ENABLE_DISABLE => Some("Enable/Disable Object"),
-        CONTROL_AUDIO => Some("Control Audio Signal"),
-        SET_VOLUME => Some("Set Audio Volume"),
-        CHANGE_CHILD_LOCATION => Some("Change Child Location"),
-        CHANGE_SIZE => Some("Change Size"),
-        CHANGE_BACKGROUND_COLOUR => Some("Change Background Colour"),
-        CHANGE_NUMERIC_VALUE => Some("Change Numeric Value"),
-        CHANGE_END_POINT => Some("Change End Point"),
-        CHANGE_FONT_ATTRIBUTES => Some("Change Font Attributes"),
-        CHANGE_LINE_ATTRIBUTES => Some("Change Line Attributes"),
-        CHANGE_FILL_ATTRIBUTES => Some("Change Fill Attributes"),
-        CHANGE_ACTIVE_MASK => Some("Change Active Mask"),
-        CHANGE_SOFT_KEY_MASK => Some("Change Soft Key Mask"),
-        CHANGE_ATTRIBUTE => Some("Change Attribute"),
-        CHANGE_PRIORITY => Some("Change Priority"),
-        CHANGE_LIST_ITEM => Some("Change List Item"),
-        DELETE_POOL => Some("Delete Object Pool"),
-        CHANGE_STRING_VALUE => Some("Change String Value"),
-        CHANGE_CHILD_POSITION => Some("Change Child Position"),
-        EXECUTE_MACRO => Some("Execute Macro"),
-        _ => None,
     }
 }
 
@@ -90,7 +56,10 @@ pub fn error_of(message: &[u8]) -> Option<u8>
     // Of a terminal's reply to a command, it is the error byte of the command.
     ensures command { (command : Command) (error : ℕ) → message.now ≡ command_reply command error → result ≡ Some error }
 {
-    let place = error_place(*message.first()?)?;
+    let [function, ..] = message else {
+        return None;
+    };
+    let place = error_place(*function)?;
     message.get(place).copied()
 }
 
@@ -98,26 +67,9 @@ pub fn error_of(message: &[u8]) -> Option<u8>
 fn error_place(function: u8) -> Option<usize>
     ensures { result ≡ error_place function }
 {
-    match function {
-        CONTROL_AUDIO | SET_VOLUME | DELETE_POOL | END_OF_POOL => Some(1),
-        CHANGE_SIZE
-        | CHANGE_NUMERIC_VALUE
-        | CHANGE_END_POINT
-        | CHANGE_FONT_ATTRIBUTES
-        | CHANGE_LINE_ATTRIBUTES
-        | CHANGE_FILL_ATTRIBUTES
-        | CHANGE_ACTIVE_MASK
-        | EXECUTE_MACRO => Some(3),
-        HIDE_SHOW
-        | ENABLE_DISABLE
-        | CHANGE_BACKGROUND_COLOUR
-        | CHANGE_ATTRIBUTE
-        | CHANGE_PRIORITY => Some(4),
-        CHANGE_CHILD_LOCATION
-        | CHANGE_SOFT_KEY_MASK
-        | CHANGE_STRING_VALUE
-        | CHANGE_CHILD_POSITION => Some(5),
-        CHANGE_LIST_ITEM => Some(6),
-        _ => None,
+    match CommandRow::of(function) {
+        Some(row) => Some(row.error_at),
+        None if function == END_OF_POOL => Some(1),
+        None => None,
     }
 }

@@ -4,6 +4,7 @@ pub mod Destinations
 pub mod Happenings
 pub mod Headline
 pub mod ReceivedClaims
+pub mod RepliesInRows
 pub mod Responses
 pub mod RunsOfSteps
 pub mod SetLists

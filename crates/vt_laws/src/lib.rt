@@ -12,6 +12,7 @@ ghost use Rattle.vt_laws.specs.Destinations.{SentAreAddressed};
 ghost use Rattle.vt_laws.specs.Happenings.{EachTakesItsOwn, OwnHappeningsDecide, SetsHoldTheirAddress};
 ghost use Rattle.vt_server.specs.state.StateInvariants.{IsOrderly};
 ghost use Rattle.vt_laws.specs.Headline.{NeverSticks};
+ghost use Rattle.vt_laws.specs.RepliesInRows.{RepliesFitTheirRows};
 ghost use Rattle.vt_laws.specs.RunsOfSteps.{OthersKeepObjects, RunsAreOfSteps};
 ghost use Rattle.vt_laws.specs.SetLists.{SetsAfterSteps};
 ghost use Rattle.vt_laws.specs.ShownSets.{ShownAreChosen};
@@ -161,3 +162,8 @@ pub fn holders_are_of_runs()
 {
     vt_names::laws::holders_are_least();
 }
+
+/// Each reply to a command has its error byte and its object where the row of the command says.
+pub fn replies_fit_their_rows()
+    ensures { RepliesFitTheirRows }
+{}

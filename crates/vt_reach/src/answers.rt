@@ -2,7 +2,7 @@
 
 use vt_can::Frame;
 use vt_can::assigned::{END_OF_POOL, VT_TO_ECU};
-use vt_commands::function;
+use vt_commands::{CommandRow, Raises};
 use vt_frames_text::error_of;
 use vt_objects::{Event, ObjectId, Raised};
 
@@ -36,48 +36,38 @@ impl Answer {
         }
         let address = frame.id.destination()?;
         let bytes = frame.bytes.as_slice();
-        let [function, rest @ ..] = bytes else {
-            return None;
-        };
-        let rest = <[u8; 7]>::try_from(rest).ok()?;
-        let answer = match (*function, error_of(bytes)?) {
+        let bytes = <[u8; 8]>::try_from(bytes).ok()?;
+        let [function, ..] = bytes;
+        let answer = match (function, error_of(&bytes)?) {
             (END_OF_POOL, 0) => Answer::Pool,
             (END_OF_POOL, _) => return None,
-            (function, 0) => Answer::Done(effect_of(function, rest)),
+            (_, 0) => Answer::Done(effect_of(&bytes)),
             (_, _) => Answer::Refused,
         };
         Some((address, answer))
     }
 }
 
-/// The effect of a command that is done, by the function of its reply and the seven bytes behind it.
-fn effect_of(function: u8, rest: [u8; 7]) -> Effect {
-    let id = id_at(rest[0], rest[1]);
-    match function {
-        function::HIDE_SHOW => by_state(id, rest[2], Event::Hide, Event::Show),
-        function::ENABLE_DISABLE => by_state(id, rest[2], Event::Disable, Event::Enable),
-        function::CHANGE_CHILD_LOCATION => on(id, Event::ChildLocation),
-        function::CHANGE_SIZE => on(id, Event::Size),
-        function::CHANGE_BACKGROUND_COLOUR => on(id, Event::BackgroundColour),
-        function::CHANGE_NUMERIC_VALUE => on(id, Event::Value),
-        function::CHANGE_END_POINT => on(id, Event::EndPoint),
-        function::CHANGE_FONT_ATTRIBUTES => on(id, Event::Font),
-        function::CHANGE_LINE_ATTRIBUTES => on(id, Event::Line),
-        function::CHANGE_FILL_ATTRIBUTES => on(id, Event::Fill),
-        function::CHANGE_ACTIVE_MASK => Effect::ActiveMask(id),
-        function::CHANGE_SOFT_KEY_MASK => on(id, Event::SoftKeyMask),
-        function::CHANGE_ATTRIBUTE => on(id, Event::Attribute),
-        function::CHANGE_PRIORITY => on(id, Event::Priority),
-        function::CHANGE_STRING_VALUE => on(id_at(rest[2], rest[3]), Event::Value),
-        function::CHANGE_CHILD_POSITION => on(id, Event::ChildPosition),
-        function::EXECUTE_MACRO => on(id, Event::RunByName),
-        _ => Effect::Quiet,
+/// The effect of a command that is done, by its reply.
+fn effect_of(reply: &[u8; 8]) -> Effect {
+    let Some((row, id)) = row_and_object(reply) else {
+        return Effect::Quiet;
+    };
+    match row.raises {
+        Raises::Nothing => Effect::Quiet,
+        Raises::One(event) => on(id, event),
+        Raises::ByState(off, on_event) => by_state(id, reply[3], off, on_event),
+        Raises::ActiveMask => Effect::ActiveMask(id),
     }
 }
 
-/// The ID in two bytes.
-fn id_at(low: u8, high: u8) -> ObjectId {
-    ObjectId::from_raw(u16::from_le_bytes([low, high]))
+/// The row of a command and the object that its reply names, or `None` if it names none.
+fn row_and_object(reply: &[u8]) -> Option<(CommandRow, ObjectId)> {
+    let row = CommandRow::of(*reply.first()?)?;
+    let [low, high, ..] = reply.get(row.object_at?..)? else {
+        return None;
+    };
+    Some((row, ObjectId::from_raw(u16::from_le_bytes([*low, *high]))))
 }
 
 /// An event of an object.

@@ -1,0 +1,234 @@
+//! The table of commands: the name of each, its reply, its events, and why it may be refused.
+
+ghost use Rattle.std.specs.Prelude.{◌≡◌, option_map};
+ghost use Rattle.vt_commands.specs.Commands.{columns_at};
+ghost use Rattle.vt_commands.specs.Rows.{columns};
+
+use crate::event::Event;
+use crate::function;
+
+/// A row of the table of commands (ISO 11783-6, the section of each command; docs/PROFILE.md, "Commands: all rows").
+#[derive(Clone, Copy, PartialEq, Eq)]
+pub struct CommandRow {
+    /// The name of the command.
+    pub name: &'static str,
+    /// The index of the object's ID in the reply. `None` if the reply names no object.
+    pub object_at: Option<usize>,
+    /// The index of the error byte in the reply.
+    pub error_at: usize,
+    /// The events that the command raises if it is done.
+    pub raises: Raises,
+    /// Why the command may be refused: bits of the error byte, each with the cause that sets it.
+    pub refusals: &'static [(u8, &'static str)],
+}
+
+/// The events that a command raises if it is done.
+#[derive(Clone, Copy, PartialEq, Eq)]
+pub enum Raises {
+    /// No event.
+    Nothing,
+    /// An event of the object that the command changes.
+    One(Event),
+    /// The first event for state 0, and the second for state 1.
+    ByState(Event, Event),
+    /// The events of a change to another active mask: ActiveMask of the working set, and Show of the mask.
+    ActiveMask,
+}
+
+const OBJECT: &str = "the object is not there or of another kind";
+
+const STATE: &str = "the state is neither 0 nor 1";
+
+const PARENT: &str = "the parent is not there or of another kind, or does not have the child";
+
+const CHILD: &str = "the child is not there";
+
+impl CommandRow {
+    /// The row of the command with a function. `None` if no command has that function.
+    pub fn of(function: u8) -> Option<CommandRow>
+        ensures { option_map columns result ≡ columns_at function }
+    {
+        let row = match function {
+            function::HIDE_SHOW => CommandRow {
+                name: "Hide/Show Object",
+                object_at: Some(1),
+                error_at: 4,
+                raises: Raises::ByState(Event::Hide, Event::Show),
+                refusals: &[(1, OBJECT), (2, STATE)],
+            },
+            function::ENABLE_DISABLE => CommandRow {
+                name: "Enable/Disable Object",
+                object_at: Some(1),
+                error_at: 4,
+                raises: Raises::ByState(Event::Disable, Event::Enable),
+                refusals: &[(1, OBJECT), (2, STATE)],
+            },
+            function::CONTROL_AUDIO => CommandRow {
+                name: "Control Audio Signal",
+                object_at: None,
+                error_at: 1,
+                raises: Raises::Nothing,
+                refusals: &[],
+            },
+            function::SET_VOLUME => CommandRow {
+                name: "Set Audio Volume",
+                object_at: None,
+                error_at: 1,
+                raises: Raises::Nothing,
+                refusals: &[(4, "the volume is over 100")],
+            },
+            function::CHANGE_CHILD_LOCATION => CommandRow {
+                name: "Change Child Location",
+                object_at: Some(1),
+                error_at: 5,
+                raises: Raises::One(Event::ChildLocation),
+                refusals: &[
+                    (0, PARENT),
+                    (1, CHILD),
+                    (4, "a position leaves 16 signed bits"),
+                ],
+            },
+            function::CHANGE_SIZE => CommandRow {
+                name: "Change Size",
+                object_at: Some(1),
+                error_at: 3,
+                raises: Raises::One(Event::Size),
+                refusals: &[(0, OBJECT)],
+            },
+            function::CHANGE_BACKGROUND_COLOUR => CommandRow {
+                name: "Change Background Colour",
+                object_at: Some(1),
+                error_at: 4,
+                raises: Raises::One(Event::BackgroundColour),
+                refusals: &[(0, OBJECT)],
+            },
+            function::CHANGE_NUMERIC_VALUE => CommandRow {
+                name: "Change Numeric Value",
+                object_at: Some(1),
+                error_at: 3,
+                raises: Raises::One(Event::Value),
+                refusals: &[(0, OBJECT), (1, "the value is not accepted")],
+            },
+            function::CHANGE_END_POINT => CommandRow {
+                name: "Change End Point",
+                object_at: Some(1),
+                error_at: 3,
+                raises: Raises::One(Event::EndPoint),
+                refusals: &[(0, OBJECT), (1, "the direction is neither 0 nor 1")],
+            },
+            function::CHANGE_FONT_ATTRIBUTES => CommandRow {
+                name: "Change Font Attributes",
+                object_at: Some(1),
+                error_at: 3,
+                raises: Raises::One(Event::Font),
+                refusals: &[(0, OBJECT)],
+            },
+            function::CHANGE_LINE_ATTRIBUTES => CommandRow {
+                name: "Change Line Attributes",
+                object_at: Some(1),
+                error_at: 3,
+                raises: Raises::One(Event::Line),
+                refusals: &[(0, OBJECT)],
+            },
+            function::CHANGE_FILL_ATTRIBUTES => CommandRow {
+                name: "Change Fill Attributes",
+                object_at: Some(1),
+                error_at: 3,
+                raises: Raises::One(Event::Fill),
+                refusals: &[(0, OBJECT), (3, "the pattern is no Picture Graphic")],
+            },
+            function::CHANGE_ACTIVE_MASK => CommandRow {
+                name: "Change Active Mask",
+                object_at: Some(1),
+                error_at: 3,
+                raises: Raises::ActiveMask,
+                refusals: &[
+                    (0, "the working set is not there or of another kind"),
+                    (1, "the mask is not there or of another kind"),
+                ],
+            },
+            function::CHANGE_SOFT_KEY_MASK => CommandRow {
+                name: "Change Soft Key Mask",
+                object_at: Some(1),
+                error_at: 5,
+                raises: Raises::One(Event::SoftKeyMask),
+                refusals: &[
+                    (
+                        0,
+                        "the mask is not there or not of the kind that the type names",
+                    ),
+                    (1, "the keys are no Soft Key Mask"),
+                ],
+            },
+            function::CHANGE_ATTRIBUTE => CommandRow {
+                name: "Change Attribute",
+                object_at: Some(1),
+                error_at: 4,
+                raises: Raises::One(Event::Attribute),
+                refusals: &[
+                    (0, OBJECT),
+                    (1, "the kind has no attribute of that number"),
+                    (2, "the value is refused"),
+                ],
+            },
+            function::CHANGE_PRIORITY => CommandRow {
+                name: "Change Priority",
+                object_at: Some(1),
+                error_at: 4,
+                raises: Raises::One(Event::Priority),
+                refusals: &[(0, OBJECT), (1, "the priority is over 2")],
+            },
+            function::CHANGE_LIST_ITEM => CommandRow {
+                name: "Change List Item",
+                object_at: Some(1),
+                error_at: 6,
+                raises: Raises::Nothing,
+                refusals: &[
+                    (0, OBJECT),
+                    (1, "the index is not below the number of items"),
+                    (2, "the item is not accepted"),
+                ],
+            },
+            function::DELETE_POOL => CommandRow {
+                name: "Delete Object Pool",
+                object_at: None,
+                error_at: 1,
+                raises: Raises::Nothing,
+                refusals: &[],
+            },
+            function::CHANGE_STRING_VALUE => CommandRow {
+                name: "Change String Value",
+                object_at: Some(3),
+                error_at: 5,
+                raises: Raises::One(Event::Value),
+                refusals: &[
+                    (1, OBJECT),
+                    (
+                        2,
+                        "the length is over that of the object, or over that of the text",
+                    ),
+                ],
+            },
+            function::CHANGE_CHILD_POSITION => CommandRow {
+                name: "Change Child Position",
+                object_at: Some(1),
+                error_at: 5,
+                raises: Raises::One(Event::ChildPosition),
+                refusals: &[(0, PARENT), (1, CHILD)],
+            },
+            function::EXECUTE_MACRO => CommandRow {
+                name: "Execute Macro",
+                object_at: Some(1),
+                error_at: 3,
+                raises: Raises::One(Event::RunByName),
+                refusals: &[
+                    (0, "the object is not there"),
+                    (1, "the object is no Macro"),
+                    (2, "the ID of the Macro is above 255"),
+                ],
+            },
+            _ => return None,
+        };
+        Some(row)
+    }
+}
