@@ -10,7 +10,7 @@ use Rattle.vt_can.specs.transport.Sessions.{is_overdue}
 use Rattle.vt_names.specs.Claims.{Claimed, holder_of}
 use Rattle.vt_names.specs.Registry.{Set, set_at}
 use Rattle.vt_stores.specs.Stores.{ObjectMap}
-use Rattle.vt_node.specs.Bus.{notice_of, frame_notice}
+use Rattle.vt_node.specs.Bus.{meaning_of, frame_meaning}
 use Rattle.vt_server.specs.shown.ShownSet.{shown_now, ACTIVATE, DEACTIVATE}
 use Rattle.vt_server.specs.Judgements.{AreJudgedRight}
 use Rattle.vt_server.specs.frame.TimeoutActs.{at_time, lapsed}
@@ -55,7 +55,7 @@ response_while address p SendingExpired = by_act address p SendingExpires
 response_while address p FellSilent = by_act address p FallsSilent
 response_while address p Lost = without_effect (record p { lost = true; holder = None })
 response_while address p (HolderIs name) = by_act address (with_holder p name) Rebinds
-response_while address p (FrameHeard frame verdict) = by_act address p (Hears (frame_notice p.terminal frame) frame verdict)
+response_while address p (FrameHeard frame verdict) = by_act address p (Hears (frame_meaning p.terminal frame) frame verdict)
 response_while address p (Operated action shown) = by_act address p (Operates action shown)
 response_while address p (EventRaised event) = by_act address p (Raises event)
 response_while address p (Preloaded contents) = by_act address p (Preloads contents)
@@ -95,11 +95,11 @@ lapses address s =
 
 -- whether the terminal loses its address by a frame
 abbrev pub loses : State → Frame → Bool
-loses s frame = is_lost_by (answer_to s (source_of frame) (notice_of s.claims.own s.claims.name frame))
+loses s frame = is_lost_by (answer_to s (source_of frame) (meaning_of s.claims.own s.claims.name frame))
 
 -- the address claims after a frame by which the own address is not lost
 abbrev pub claims_after : State → Frame → Claimed
-claims_after s frame = receive_claim s (source_of frame) (notice_of s.claims.own s.claims.name frame)
+claims_after s frame = receive_claim s (source_of frame) (meaning_of s.claims.own s.claims.name frame)
 
 abbrev pub holder_change : ℕ → Claimed → Claimed → List Happening
 holder_change address old new =
@@ -118,7 +118,7 @@ heard_happenings address s frame verdict =
 
 -- the state after a frame, before the shown set is chosen
 abbrev pub after_frame : State → Frame → Verdict → State
-after_frame s frame verdict = acted s (source_of frame) (notice_of s.claims.own s.claims.name frame) frame verdict
+after_frame s frame verdict = acted s (source_of frame) (meaning_of s.claims.own s.claims.name frame) frame verdict
 
 abbrev pub after_action_at : State → ActionValue → Bool → State
 after_action_at s action shown = after_acts (selecting s action) (at_shown s.shown (Operates action shown))

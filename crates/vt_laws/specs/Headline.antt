@@ -24,7 +24,7 @@ use Rattle.vt_macros.specs.Runs.{EndInTurn, Ends, IsReady}
 use Rattle.vt_shown.specs.ShownElements.{soft_key_mask_of}
 use Rattle.vt_layout.specs.Drawings.{IsChained, Sticks, at_path, key_entries, mask_entries, origin, passed}
 use Rattle.vt_layout.specs.LookUps.{FindsAll}
-use Rattle.vt_node.specs.Bus.{notice_of}
+use Rattle.vt_node.specs.Bus.{meaning_of}
 use Rattle.vt_server.specs.shown.ShownSet.{choosing, shown_now, events_of_change}
 use Rattle.vt_server.specs.Judgements.{AreJudgedRight, ends_transfer}
 use Rattle.vt_server.specs.frame.TimeoutActs.{at_time, lapsed}
@@ -69,8 +69,8 @@ accepted_with ends verdict last = if ends then accepted_by verdict last else las
 
 -- the pool accepted by an act: an accepted upload that ends, or a preloaded pool
 abbrev pub accepted_at : ℕ → ℕ → AddressView → Act → Option ObjectMap → Option ObjectMap
-accepted_at now address p (Hears notice frame verdict) last =
-    accepted_with (ends_transfer p.set (came now p.terminal address p.place notice frame).message) verdict last
+accepted_at now address p (Hears meaning frame verdict) last =
+    accepted_with (ends_transfer p.set (came now p.terminal address p.place meaning frame).message) verdict last
 accepted_at now address p (Preloads contents) last = Some contents
 accepted_at now address p _ last = last
 
@@ -80,15 +80,15 @@ accepted_by_acts s (h ∷ acts) pools =
     accepted_by_acts (after_act s h.0 h.1) acts (with_at h.0 (accepted_at s.now h.0 (part h.0 s) h.1 (pools h.0)) pools)
 
 abbrev pub accepted_in_hearing : State → ℕ → FrameMeaning → Frame → Verdict → Pools → Pools
-accepted_in_hearing s source notice frame verdict pools =
-    if is_lost_by (answer_to s source notice) then pools
-    else accepted_by_acts (before s source notice) (acts s source notice frame verdict) pools
+accepted_in_hearing s source meaning frame verdict pools =
+    if is_lost_by (answer_to s source meaning) then pools
+    else accepted_by_acts (before s source meaning) (acts s source meaning frame verdict) pools
 
 -- An action of the operator accepts no pool, and a frame after the loss of the address accepts none.
 abbrev pub accepted_after : State → JudgedInput → Pools → Pools
 accepted_after s (FrameAt time frame verdict) pools =
     if s.lost then pools
-    else accepted_in_hearing (lapsed (at_time s time)) (source_of frame) (notice_of s.claims.own s.claims.name frame) frame verdict pools
+    else accepted_in_hearing (lapsed (at_time s time)) (source_of frame) (meaning_of s.claims.own s.claims.name frame) frame verdict pools
 accepted_after s (ActionAt action shown) pools = pools
 
 abbrev pub accepted_after_all : State → List JudgedInput → Pools → Pools
@@ -145,7 +145,7 @@ runs_of_event address (Some state) event = record {
 } ∷ []
 
 abbrev pub runs_at : ℕ → ℕ → AddressView → Act → List Run
-runs_at now address p (Hears notice frame verdict) = runs_of_message address p.set p.place.content.pool (came now p.terminal address p.place notice frame).message
+runs_at now address p (Hears meaning frame verdict) = runs_of_message address p.set p.place.content.pool (came now p.terminal address p.place meaning frame).message
 runs_at now address p (Operates action shown) = runs_of_operator address p.place.sending p.place.content.pool (λ state. action_on state shown action)
 runs_at now address p (Raises event) = runs_of_event address p.place.content.pool event
 runs_at now address p _ = []
@@ -159,9 +159,9 @@ abbrev pub runs_of_shown_update : State → List Run
 runs_of_shown_update s = runs_of_acts (choosing s) (events_of_change s.shown (shown_now s))
 
 abbrev pub runs_of_hearing : State → ℕ → FrameMeaning → Frame → Verdict → List Run
-runs_of_hearing s source notice frame verdict =
-    if is_lost_by (answer_to s source notice) then []
-    else runs_of_acts (before s source notice) (acts s source notice frame verdict) ++ runs_of_shown_update (acted s source notice frame verdict)
+runs_of_hearing s source meaning frame verdict =
+    if is_lost_by (answer_to s source meaning) then []
+    else runs_of_acts (before s source meaning) (acts s source meaning frame verdict) ++ runs_of_shown_update (acted s source meaning frame verdict)
 
 abbrev pub runs_of_operating : State → List (ℕ × Act) → List Run
 runs_of_operating s happens = runs_of_acts s happens ++ runs_of_shown_update (after_acts s happens)
@@ -169,7 +169,7 @@ runs_of_operating s happens = runs_of_acts s happens ++ runs_of_shown_update (af
 -- the runs of an input: of its command or action, and of a change of the shown set
 abbrev pub runs : State → JudgedInput → List Run
 runs s (FrameAt time frame verdict) =
-    if s.lost then [] else runs_of_hearing (lapsed (at_time s time)) (source_of frame) (notice_of s.claims.own s.claims.name frame) frame verdict
+    if s.lost then [] else runs_of_hearing (lapsed (at_time s time)) (source_of frame) (meaning_of s.claims.own s.claims.name frame) frame verdict
 runs s (ActionAt action shown) =
     if s.lost then [] else runs_of_operating (selecting s action) (at_shown s.shown (Operates action shown))
 

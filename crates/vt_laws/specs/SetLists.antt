@@ -3,7 +3,7 @@ use Rattle.std.specs.Prelude.{◌≡◌, ◌≢◌, ℕ, ◌==◌, Bool, not, if
 use Rattle.vt_can.specs.frames.Frame.{source_of}
 use Rattle.vt_names.specs.Registry.{Set, set_at, registering, joining}
 use Rattle.vt_stores.specs.Stores.{ObjectMap}
-use Rattle.vt_node.specs.Bus.{notice_of}
+use Rattle.vt_node.specs.Bus.{meaning_of}
 use Rattle.vt_laws.specs.Happenings.{loses, SetsAreHeld}
 use Rattle.vt_server.specs.state.StateInvariants.{IsOrderly}
 use Rattle.vt_server.specs.frame.TimeoutActs.{at_time, set_is_silent}
@@ -38,7 +38,7 @@ sets_after t source _ sets = sets
 abbrev pub sets_by : State → State → JudgedInput → List Set
 sets_by s t (FrameAt time frame verdict) =
     if s.lost then s.sets else if loses s frame then heard_sets s time
-    else sets_after t (source_of frame) (notice_of s.claims.own s.claims.name frame) (heard_sets s time)
+    else sets_after t (source_of frame) (meaning_of s.claims.own s.claims.name frame) (heard_sets s time)
 sets_by s t (ActionAt action shown) = s.sets
 
 -- ---- the states for which the law holds

@@ -3,7 +3,7 @@ use Rattle.std.specs.Prelude.{◌≡◌, ◌<◌, ◌^◌, ℕ, max, false, [], 
 use Rattle.vt_can.specs.declared.frames.frame.Frame.{Frame}
 use Rattle.vt_can.specs.frames.Frame.{source_of}
 use Rattle.vt_stores.specs.Stores.{ObjectMap}
-use Rattle.vt_node.specs.Bus.{notice_of}
+use Rattle.vt_node.specs.Bus.{meaning_of}
 use Rattle.vt_node.specs.declared.bus.FrameMeaning.TheVariants.{Nothing}
 use Rattle.vt_server.specs.frame.Deadlines.{IsDue, echo}
 use Rattle.vt_server.specs.frame.TimeoutActs.{at_time, lapsed, sent_by_lapses}
@@ -21,10 +21,10 @@ ticking s time = let t = at_time s time in record {
 -- An echo does what a tick does, and the frame of a tick is one.
 pub record EchoesAreTicks : Type 0 where
   pub echoes : (s : State) (time : ℕ) (frame : Frame) (verdict : Verdict) → s.lost ≡ false
-      → source_of frame ≡ s.claims.own → notice_of s.claims.own s.claims.name frame ≡ Nothing
+      → source_of frame ≡ s.claims.own → meaning_of s.claims.own s.claims.name frame ≡ Nothing
       → step s (FrameAt time frame verdict) ≡ ticking s time
   pub source : (own : ℕ) → own < 2 ^ 8 → source_of (echo own) ≡ own
-  pub notice : (own name : ℕ) → own < 2 ^ 8 → notice_of own name (echo own) ≡ Nothing
+  pub meaning : (own name : ℕ) → own < 2 ^ 8 → meaning_of own name (echo own) ≡ Nothing
 
 -- A tick at which nothing is due sends nothing, and changes the time alone.
 abbrev pub OthersAreIdle : Type 0

@@ -19,8 +19,8 @@ asks_for_claim bytes = starts_with nat_eq bytes (0x00 ∷ 0xEE ∷ 0x00 ∷ [])
 
 -- The meaning of a frame, by its parameter group and destination. Frames of claims and sets that are too short are
 -- ignored; frames of the transport protocols are tested by the receivers.
-abbrev pub group_notice : ℕ → ℕ → Option ℕ → List ℕ → FrameMeaning
-group_notice own pgn destination bytes =
+abbrev pub group_meaning : ℕ → ℕ → Option ℕ → List ℕ → FrameMeaning
+group_meaning own pgn destination bytes =
     if pgn == ADDRESS_CLAIMED then (if is_to GLOBAL_ADDRESS destination && nat_le 8 (length bytes) then Claim (name_in bytes) else Nothing)
     else if pgn == REQUEST then
     (if (is_to own destination || is_to GLOBAL_ADDRESS destination) && asks_for_claim bytes then ClaimRequest else Nothing)
@@ -31,13 +31,13 @@ group_notice own pgn destination bytes =
     else if pgn == ETP_CM || pgn == ETP_DT then Etp
     else Nothing
 
-abbrev pub frame_notice : ℕ → Frame → FrameMeaning
-frame_notice own frame = let p = parts_of frame.id in group_notice own (pgn_of p) (destination_of p) frame.bytes.items
+abbrev pub frame_meaning : ℕ → Frame → FrameMeaning
+frame_meaning own frame = let p = parts_of frame.id in group_meaning own (pgn_of p) (destination_of p) frame.bytes.items
 
 -- A frame from the terminal's own address is ignored as an echo, except for a claim by another NAME.
 abbrev pub unless_echo : ℕ → FrameMeaning → FrameMeaning
 unless_echo name (Claim other) = if other == name then Nothing else Claim other
 unless_echo name _ = Nothing
 
-abbrev pub notice_of : ℕ → ℕ → Frame → FrameMeaning
-notice_of own name frame = if source_of frame == own then unless_echo name (frame_notice own frame) else frame_notice own frame
+abbrev pub meaning_of : ℕ → ℕ → Frame → FrameMeaning
+meaning_of own name frame = if source_of frame == own then unless_echo name (frame_meaning own frame) else frame_meaning own frame

@@ -3,7 +3,7 @@
 ghost use Rattle.std.specs.Prelude.{◌≡◌, ◌≤◌, length};
 ghost use Rattle.byteorder.specs.Endian.{little_number};
 ghost use Rattle.vt_node.specs.declared.bus.FrameMeaning.TheVariants as declared;
-ghost use Rattle.vt_node.specs.Bus.{frame_notice, notice_of, unless_echo};
+ghost use Rattle.vt_node.specs.Bus.{frame_meaning, meaning_of, unless_echo};
 
 use byteorder::{ByteOrder, LittleEndian};
 use vt_can::Frame;
@@ -35,21 +35,21 @@ pub enum FrameMeaning {
 }
 
 /// Returns the meaning of a frame for the terminal with this address and NAME. docs/PROFILE.md, "Echoes".
-pub fn notice_of(own: u8, name: Name, frame: &Frame) -> FrameMeaning
-    ensures { result ≡ notice_of own name frame.now }
+pub fn meaning_of(own: u8, name: Name, frame: &Frame) -> FrameMeaning
+    ensures { result ≡ meaning_of own name frame.now }
 {
-    let notice = frame_notice(own, frame);
+    let meaning = frame_meaning(own, frame);
     if frame.id.source() != own {
-        return notice;
+        return meaning;
     }
-    unless_echo(name, notice)
+    unless_echo(name, meaning)
 }
 
-// Ignores a notice from the own address as an echo, except for a claim by another NAME.
-fn unless_echo(name: Name, notice: FrameMeaning) -> FrameMeaning
-    ensures { result ≡ unless_echo name notice }
+// Ignores a frame from the own address as an echo, except for a claim by another NAME.
+fn unless_echo(name: Name, meaning: FrameMeaning) -> FrameMeaning
+    ensures { result ≡ unless_echo name meaning }
 {
-    match notice {
+    match meaning {
         FrameMeaning::Claim(other) => unless_own(name, other),
         _ => FrameMeaning::Nothing,
     }
@@ -64,8 +64,8 @@ fn unless_own(name: Name, other: Name) -> FrameMeaning
     FrameMeaning::Claim(other)
 }
 
-fn frame_notice(own: u8, frame: &Frame) -> FrameMeaning
-    ensures { result ≡ frame_notice own frame.now }
+fn frame_meaning(own: u8, frame: &Frame) -> FrameMeaning
+    ensures { result ≡ frame_meaning own frame.now }
 {
     let bytes = frame.bytes.as_slice();
     let destination = frame.id.destination();

@@ -1,7 +1,7 @@
 //! The terminal as a node of the bus: what frames mean, claims, transport sessions, and working sets with their times (ISO
 //! 11783-3, -5, -6).
 //!
-//! - `notice_of` returns the `FrameMeaning` of a frame.
+//! - `meaning_of` returns the `FrameMeaning` of a frame.
 //! - `Node` has the claims received, the two receivers and the sender. `WatchedRegistry` has the sets, and finds one that is
 //!   silent.
 //! - `message_to`, `claim_from` and `technical_reply` make messages, and a `Profile` has the technical data of a terminal.
@@ -16,7 +16,7 @@ mod profile;
 mod watch;
 mod watched;
 
-pub use bus::{FrameMeaning, notice_of};
+pub use bus::{FrameMeaning, meaning_of};
 pub use messages::{claim_from, echo, message_to, technical_reply};
 pub use node::Node;
 pub use profile::{Profile, VERSION};

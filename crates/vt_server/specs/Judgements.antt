@@ -8,7 +8,7 @@ use Rattle.vt_can.specs.lines.Actions.{action_value}
 use Rattle.vt_names.specs.Registry.{Set}
 use Rattle.vt_machine.specs.SetStates.{active_in}
 use Rattle.vt_shown.specs.ShownElements.{IsShown}
-use Rattle.vt_node.specs.Bus.{notice_of}
+use Rattle.vt_node.specs.Bus.{meaning_of}
 use Rattle.vt_server.specs.message.MessageEffects.{ends_pool}
 use Rattle.vt_server.specs.frame.TimeoutActs.{at_time, lapsed}
 use Rattle.vt_server.specs.operator.ActionEffects.{object_acted_on}
@@ -28,8 +28,8 @@ ends_transfer _ _ = false
 
 -- If a frame ends an upload, the verdict on it is right.
 abbrev pub IsJudged : ℕ → ℕ → AddressView → FrameMeaning → Frame → Verdict → Type 0
-IsJudged now address p notice frame verdict =
-    ends_transfer p.set (came now p.terminal address p.place notice frame).message ≡ true → IsVerdict p.place.content verdict
+IsJudged now address p meaning frame verdict =
+    ends_transfer p.set (came now p.terminal address p.place meaning frame).message ≡ true → IsVerdict p.place.content verdict
 
 -- whether the object of an action is shown in the shown set
 abbrev pub IsSeen : State → Option ℕ → Bool → Type 0
@@ -41,7 +41,7 @@ abbrev pub IsJudgedRight : State → JudgedInput → Type 0
 IsJudgedRight s (FrameAt time frame verdict) =
     s.lost ≡ false
     → IsJudged (lapsed (at_time s time)).now (source_of frame) (part (source_of frame) (lapsed (at_time s time)))
-    (notice_of s.claims.own s.claims.name frame) frame verdict
+    (meaning_of s.claims.own s.claims.name frame) frame verdict
 IsJudgedRight s (ActionAt action shown) = s.lost ≡ false → IsSeen s (object_acted_on action) shown
 
 abbrev pub AreJudgedRight : State → List JudgedInput → Type 0

@@ -8,7 +8,7 @@ use Rattle.vt_can.specs.lines.Actions.{ActionValue, Set}
 use Rattle.vt_names.specs.Claims.{Claimed, heard, address_of, answer}
 use Rattle.vt_names.specs.declared.claims.ClaimMeaning.{ClaimMeaning}
 use Rattle.vt_names.specs.declared.claims.ClaimMeaning.TheVariants as claims
-use Rattle.vt_node.specs.Bus.{notice_of}
+use Rattle.vt_node.specs.Bus.{meaning_of}
 use Rattle.vt_server.specs.shown.ShownSet.{choosing, shown_now, events_of_change, display, status}
 use Rattle.vt_server.specs.frame.TimeoutActs.{at_time, lapsed, sent_by_lapses}
 use Rattle.vt_node.specs.Messages.{claim_from}
@@ -41,7 +41,7 @@ receive_claim s source _ = s.claims
 
 -- the state with the claim recorded, before any act at an address
 abbrev pub before : State → ℕ → FrameMeaning → State
-before s source notice = record s { claims = receive_claim s source notice }
+before s source meaning = record s { claims = receive_claim s source meaning }
 
 -- the act of an address whose holder has changed
 abbrev pub rebind_acts : Option ℕ → State → ℕ → List (ℕ × Act)
@@ -71,11 +71,11 @@ changes s source _ = []
 
 -- The terminal ignores frames from its own address.
 abbrev pub heard_at_source : ℕ → ℕ → FrameMeaning → Frame → Verdict → List (ℕ × Act)
-heard_at_source own source notice frame verdict = if source == own then [] else (source, Hears notice frame verdict) ∷ []
+heard_at_source own source meaning frame verdict = if source == own then [] else (source, Hears meaning frame verdict) ∷ []
 
 -- the acts of a frame in order: the changes of holders, then the frame at its source
 abbrev pub acts : State → ℕ → FrameMeaning → Frame → Verdict → List (ℕ × Act)
-acts s source notice frame verdict = changes s source notice ++ heard_at_source s.claims.own source notice frame verdict
+acts s source meaning frame verdict = changes s source meaning ++ heard_at_source s.claims.own source meaning frame verdict
 
 abbrev pub answer_to : State → ℕ → FrameMeaning → ClaimMeaning
 answer_to s source (Claim name) = answer s.claims source name
@@ -93,8 +93,8 @@ is_defended _ claims.Defend = true
 is_defended _ _ = false
 
 abbrev pub defence : State → ℕ → FrameMeaning → List Sent
-defence s source notice =
-    if is_defended notice (answer_to s source notice) then ToAll (claim_from s.claims.own s.claims.name) ∷ [] else []
+defence s source meaning =
+    if is_defended meaning (answer_to s source meaning) then ToAll (claim_from s.claims.own s.claims.name) ∷ [] else []
 
 -- ---- the end of a step
 
@@ -117,22 +117,22 @@ losing s = record {
 }
 
 abbrev pub acted : State → ℕ → FrameMeaning → Frame → Verdict → State
-acted s source notice frame verdict = after_acts (before s source notice) (acts s source notice frame verdict)
+acted s source meaning frame verdict = after_acts (before s source meaning) (acts s source meaning frame verdict)
 
 abbrev pub sent_by_frame : State → ℕ → FrameMeaning → Frame → Verdict → List Sent
-sent_by_frame s source notice frame verdict =
-    defence s source notice ++ sent_by_acts (before s source notice) (acts s source notice frame verdict)
+sent_by_frame s source meaning frame verdict =
+    defence s source meaning ++ sent_by_acts (before s source meaning) (acts s source meaning frame verdict)
 
 -- the step of a frame, from the state before the input and the state after timeouts and closings
 abbrev pub acting : State → State → ℕ → FrameMeaning → Frame → Verdict → Step
-acting old s source notice frame verdict = let t = acted s source notice frame verdict in record {
+acting old s source meaning frame verdict = let t = acted s source meaning frame verdict in record {
   after = with_shown_updated t;
-  sent = sent_by_frame s source notice frame verdict ++ sent_by_shown_update old t;
+  sent = sent_by_frame s source meaning frame verdict ++ sent_by_shown_update old t;
 }
 
 abbrev pub hearing : State → State → ℕ → FrameMeaning → Frame → Verdict → Step
-hearing old s source notice frame verdict =
-    if is_lost_by (answer_to s source notice) then losing s else acting old s source notice frame verdict
+hearing old s source meaning frame verdict =
+    if is_lost_by (answer_to s source meaning) then losing s else acting old s source meaning frame verdict
 
 abbrev pub behind_lapses : State → Step → Step
 behind_lapses s step = record step { sent = sent_by_lapses s ++ step.sent }
@@ -140,7 +140,7 @@ behind_lapses s step = record step { sent = sent_by_lapses s ++ step.sent }
 abbrev pub step_frame : State → ℕ → Frame → Verdict → Step
 step_frame s time frame verdict =
     let t = at_time s time in
-    behind_lapses t (hearing s (lapsed t) (source_of frame) (notice_of s.claims.own s.claims.name frame) frame verdict)
+    behind_lapses t (hearing s (lapsed t) (source_of frame) (meaning_of s.claims.own s.claims.name frame) frame verdict)
 
 -- ---- an action of the operator
 

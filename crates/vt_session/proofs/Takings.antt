@@ -4,7 +4,7 @@ use Rattle.vt_can.specs.declared.frames.frame.Frame.{Frame as CanFrame}
 use Rattle.vt_can.specs.frames.Frame.{source_of}
 use Rattle.vt_names.specs.Claims.{Claimed}
 use Rattle.vt_names.specs.Registry.{Set, set_at}
-use Rattle.vt_node.specs.Bus.{notice_of}
+use Rattle.vt_node.specs.Bus.{meaning_of}
 use Rattle.vt_node.specs.declared.bus.FrameMeaning.{FrameMeaning}
 use Rattle.vt_node.specs.declared.bus.FrameMeaning.TheVariants.{Nothing}
 use Rattle.vt_host_events.specs.declared.observer.Observer.{Observer}
@@ -110,8 +110,8 @@ pub tick_ends_none : EchoesAreTicks → (s : State) (time : ℕ) (told : Option 
 tick_ends_none law s time told fits kept ends =
     let t = lapsed (at_time s time) in
     let frame = echo s.claims.own in
-    let nothing : notice_of t.claims.own t.claims.name frame ≡ Nothing =
-    ap (λ (k : Claimed). notice_of k.own k.name frame) (claims-lapsed (at_time s time)) ∙ law.notice s.claims.own s.claims.name fits in
+    let nothing : meaning_of t.claims.own t.claims.name frame ≡ Nothing =
+    ap (λ (k : Claimed). meaning_of k.own k.name frame) (claims-lapsed (at_time s time)) ∙ law.meaning s.claims.own s.claims.name fits in
     let none = ap (λ (n : FrameMeaning). (came t.now t.claims.own (source_of frame) (t.places (source_of frame)) n frame).message) nothing in
     none_ends (set_at (source_of frame) t.sets) (IsEndOf (t.places (source_of frame)).content told)
     (ap (λ (m : Option (List ℕ)). ends_transfer (set_at (source_of frame) t.sets) m) (sym none) ∙ ends)

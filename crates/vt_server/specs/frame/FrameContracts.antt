@@ -17,7 +17,7 @@ use Rattle.vt_server.specs.message.MessageEffects.{TRANSFER, END_OF_POOL, asked}
 use Rattle.vt_server.specs.frame.HoldersBeforeClaim.{AreFormer}
 use Rattle.vt_node.specs.Messages.{technical_reply}
 use Rattle.vt_server.specs.Outputs.{outputs_of, frames_of}
-use Rattle.vt_server.specs.state.AddressViews.{AddressView, after_message, after_notice}
+use Rattle.vt_server.specs.state.AddressViews.{AddressView, after_message, after_meaning}
 use Rattle.vt_server.specs.state.AddressStates.{SetPool, AddressState, with_content}
 use Rattle.vt_server.specs.frame.SessionEffects.{came}
 use Rattle.vt_server.specs.States.{state_of}
@@ -29,7 +29,7 @@ use Rattle.vt_server.specs.message.Verdicts.{Verdict, IsVerdict}
 use Rattle.vt_server.specs.state.PoolTables.{content_of, spare_of}
 use Rattle.vt_server.specs.declared.frame.claim.FormerHolders.{FormerHolders}
 use Rattle.vt_node.specs.declared.bus.FrameMeaning.{FrameMeaning}
-use Rattle.vt_node.specs.declared.bus.FrameMeaning.TheVariants as notices
+use Rattle.vt_node.specs.declared.bus.FrameMeaning.TheVariants as meanings
 use Rattle.vt_server.specs.declared.frame.step.PreparedFrame.{PreparedFrame}
 use Rattle.vt_server.specs.declared.frame.step.PreparedFrame.TheVariants as readies
 use Rattle.vt_server.specs.declared.upload_end.UploadEnd.{UploadEnd}
@@ -73,16 +73,16 @@ FitsCompleted content spare (Some bytes) upload = FitsMessage content spare byte
 
 -- The work done in advance is right for a frame of this meaning. A message of one frame is there already.
 abbrev pub FitsMeaning : FrameMeaning → SetPool → ℕ → Option (List ℕ) → PreparedMessage → Type 0
-FitsMeaning notices.Message content spare (Some bytes) upload = FitsOneFrame content spare bytes upload
-FitsMeaning notice content spare message upload = FitsCompleted content spare message upload
+FitsMeaning meanings.Message content spare (Some bytes) upload = FitsOneFrame content spare bytes upload
+FitsMeaning meaning content spare message upload = FitsCompleted content spare message upload
 
 -- ---- reserved capacity
 
 -- Capacity is reserved for the session or the set that a frame may begin.
-pub record HasCapacity (t : Terminal) (notice : FrameMeaning) (frame : Frame) : Type 0 where
-  pub tp : notice ≡ notices.Tp → HasCapacityFor tp.protocol (tp_frame t.node.claims.own frame) t.node.tp_spare
-  pub etp : notice ≡ notices.Etp → HasCapacityFor etp.protocol (etp_frame t.node.claims.own frame) t.node.etp_spare
-  pub sets : (count : ℕ) → notice ≡ notices.Master count → 0 < t.registry.capacity
+pub record HasCapacity (t : Terminal) (meaning : FrameMeaning) (frame : Frame) : Type 0 where
+  pub tp : meaning ≡ meanings.Tp → HasCapacityFor tp.protocol (tp_frame t.node.claims.own frame) t.node.tp_spare
+  pub etp : meaning ≡ meanings.Etp → HasCapacityFor etp.protocol (etp_frame t.node.claims.own frame) t.node.etp_spare
+  pub sets : (count : ℕ) → meaning ≡ meanings.Master count → 0 < t.registry.capacity
 
 -- The capacity reserved for sessions and sets is unchanged.
 pub record CapacityStays (old new : Terminal) : Type 0 where
@@ -95,39 +95,39 @@ timely now place = record place { tp = alive TP_TIMEOUT now place.tp; etp = aliv
 
 -- the bytes of the message that a frame completes, by the state of its source address
 abbrev pub message_by : Terminal → ℕ → AddressState → FrameMeaning → Frame → Option (List ℕ)
-message_by t now place notice frame = (came now t.node.claims.own (source_of frame) place notice frame).message
+message_by t now place meaning frame = (came now t.node.claims.own (source_of frame) place meaning frame).message
 
 abbrev pub IsNoClaim : FrameMeaning → Type 0
-IsNoClaim notice = (name : ℕ) → notice ≢ notices.Claim name
+IsNoClaim meaning = (name : ℕ) → meaning ≢ meanings.Claim name
 
 -- ---- the work done in advance for a frame
 
 -- The work done in advance is right for a frame. The parameter HasUpload says which uploads are right.
 abbrev pub FitsFrame : State → Terminal → FrameMeaning → Frame → (PreparedMessage → Type 0) → PreparedFrame → Type 0
-FitsFrame s t notice frame HasUpload readies.Loses = (state_of t ≡ s) × (is_lost_by (answer_to s (source_of frame) notice) ≡ true)
-FitsFrame s t notice frame HasUpload (readies.Claimed former) =
-    (name : ℕ) × (notice ≡ notices.Claim name) × (is_lost_by (answer_to s (source_of frame) notice) ≡ false)
-    × AreFormer s (source_of frame) name former × (former.is_defended ≡ is_defended notice (answer_to s (source_of frame) notice))
-    × (state_of t ≡ steps.before s (source_of frame) notice)
-FitsFrame s t notice frame HasUpload (readies.Prepared upload) =
-    (state_of t ≡ s) × IsNoClaim notice × HasCapacity t notice frame × HasUpload upload
+FitsFrame s t meaning frame HasUpload readies.Loses = (state_of t ≡ s) × (is_lost_by (answer_to s (source_of frame) meaning) ≡ true)
+FitsFrame s t meaning frame HasUpload (readies.Claimed former) =
+    (name : ℕ) × (meaning ≡ meanings.Claim name) × (is_lost_by (answer_to s (source_of frame) meaning) ≡ false)
+    × AreFormer s (source_of frame) name former × (former.is_defended ≡ is_defended meaning (answer_to s (source_of frame) meaning))
+    × (state_of t ≡ steps.before s (source_of frame) meaning)
+FitsFrame s t meaning frame HasUpload (readies.Prepared upload) =
+    (state_of t ≡ s) × IsNoClaim meaning × HasCapacity t meaning frame × HasUpload upload
 
 -- The work done in advance is right before the timeouts and closings of the frame's time.
 abbrev pub FitsBeforeTimeouts : State → Terminal → ℕ → FrameMeaning → Frame → PreparedFrame → Type 0
-FitsBeforeTimeouts s t now notice frame ready =
-    FitsFrame s t notice frame
-    (FitsMeaning notice (content_of t.contents (source_of frame)) (spare_of t.contents (source_of frame))
-    (message_by t now (timely now ((state_of t).places (source_of frame))) notice frame)) ready
+FitsBeforeTimeouts s t now meaning frame ready =
+    FitsFrame s t meaning frame
+    (FitsMeaning meaning (content_of t.contents (source_of frame)) (spare_of t.contents (source_of frame))
+    (message_by t now (timely now ((state_of t).places (source_of frame))) meaning frame)) ready
 
 -- The upload is right after the timeouts and closings, if the source still has a set.
 abbrev pub HasUpload : Terminal → FrameMeaning → Frame → PreparedMessage → Type 0
-HasUpload t notice frame upload =
+HasUpload t meaning frame upload =
     is_some (set_at (source_of frame) t.registry.sets) ≡ true
-    → FitsMeaning notice (content_of t.contents (source_of frame)) (spare_of t.contents (source_of frame))
-    (message_by t t.time ((state_of t).places (source_of frame)) notice frame) upload
+    → FitsMeaning meaning (content_of t.contents (source_of frame)) (spare_of t.contents (source_of frame))
+    (message_by t t.time ((state_of t).places (source_of frame)) meaning frame) upload
 
 abbrev pub FitsAfterTimeouts : State → Terminal → FrameMeaning → Frame → PreparedFrame → Type 0
-FitsAfterTimeouts s t notice frame ready = FitsFrame s t notice frame (HasUpload t notice frame) ready
+FitsAfterTimeouts s t meaning frame ready = FitsFrame s t meaning frame (HasUpload t meaning frame) ready
 
 -- how an upload ends by the work done in advance
 abbrev pub end_prepared : PreparedFrame → Option UploadEnd
@@ -165,32 +165,32 @@ pub record IsReplyTo (s : State) (source : ℕ) (bytes : List ℕ) (reply : Opti
   pub reply_is : reply ≡ (asked (s.places source).content bytes (technical_reply s.profile bytes)).reply
 
 -- A frame has the effect of its meaning at its source address.
-pub record TakesNotice (s : State) (notice : FrameMeaning) (frame : Frame) (t : State) (before after : List Output) : Type 0 where
+pub record AppliesMeaning (s : State) (meaning : FrameMeaning) (frame : Frame) (t : State) (before after : List Output) : Type 0 where
   pub verdict : Verdict
-  pub judged : IsJudged s.now (source_of frame) (part (source_of frame) s) notice frame verdict
-  pub state : t ≡ put (source_of frame) (after_notice s.now (source_of frame) (part (source_of frame) s) notice frame verdict) s
-  pub sent : after ≡ before ++ frames_of (after_notice s.now (source_of frame) (part (source_of frame) s) notice frame verdict).frames
+  pub judged : IsJudged s.now (source_of frame) (part (source_of frame) s) meaning frame verdict
+  pub state : t ≡ put (source_of frame) (after_meaning s.now (source_of frame) (part (source_of frame) s) meaning frame verdict) s
+  pub sent : after ≡ before ++ frames_of (after_meaning s.now (source_of frame) (part (source_of frame) s) meaning frame verdict).frames
 
 -- A recorded claim has its effect: the terminal defends its address, sets are closed, and the claim counts as a frame of its
 -- source.
 abbrev pub TakesClaim : FormerHolders → ℕ → State → State → List Output → List Output → Type 0
 TakesClaim former source u t before after =
     (s : State) (name : ℕ) (frame : Frame) (verdict : Verdict) → source ≡ source_of frame → AreFormer s source name former
-    → former.is_defended ≡ is_defended (notices.Claim name) (answer_to s source (notices.Claim name))
-    → u ≡ steps.before s source (notices.Claim name)
-    → (t ≡ acted s source (notices.Claim name) frame verdict)
-    × (after ≡ before ++ outputs_of (sent_by_frame s source (notices.Claim name) frame verdict))
+    → former.is_defended ≡ is_defended (meanings.Claim name) (answer_to s source (meanings.Claim name))
+    → u ≡ steps.before s source (meanings.Claim name)
+    → (t ≡ acted s source (meanings.Claim name) frame verdict)
+    × (after ≡ before ++ outputs_of (sent_by_frame s source (meanings.Claim name) frame verdict))
 
 -- A frame other than a claim, from the terminal or another node, has its effect.
-pub record TakesFrame (s : State) (notice : FrameMeaning) (frame : Frame) (t : State) (before after : List Output) : Type 0 where
+pub record TakesFrame (s : State) (meaning : FrameMeaning) (frame : Frame) (t : State) (before after : List Output) : Type 0 where
   pub verdict : Verdict
-  pub judged : IsJudged s.now (source_of frame) (part (source_of frame) s) notice frame verdict
-  pub state : t ≡ acted s (source_of frame) notice frame verdict
-  pub sent : after ≡ before ++ outputs_of (sent_by_frame s (source_of frame) notice frame verdict)
+  pub judged : IsJudged s.now (source_of frame) (part (source_of frame) s) meaning frame verdict
+  pub state : t ≡ acted s (source_of frame) meaning frame verdict
+  pub sent : after ≡ before ++ outputs_of (sent_by_frame s (source_of frame) meaning frame verdict)
 
 -- A frame has its effect after the timeouts and closings of its time.
-pub record FinishesFrame (old s : State) (notice : FrameMeaning) (frame : Frame) (t : State) (before after : List Output) : Type 0 where
+pub record FinishesFrame (old s : State) (meaning : FrameMeaning) (frame : Frame) (t : State) (before after : List Output) : Type 0 where
   pub verdict : Verdict
-  pub judged : IsJudged s.now (source_of frame) (part (source_of frame) s) notice frame verdict
-  pub state : t ≡ (hearing old s (source_of frame) notice frame verdict).after
-  pub sent : after ≡ before ++ outputs_of (hearing old s (source_of frame) notice frame verdict).sent
+  pub judged : IsJudged s.now (source_of frame) (part (source_of frame) s) meaning frame verdict
+  pub state : t ≡ (hearing old s (source_of frame) meaning frame verdict).after
+  pub sent : after ≡ before ++ outputs_of (hearing old s (source_of frame) meaning frame verdict).sent

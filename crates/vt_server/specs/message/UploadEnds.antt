@@ -6,7 +6,7 @@ use Rattle.vt_names.specs.Registry.{set_at}
 use Rattle.vt_kinds.specs.Ids.{null_id}
 use Rattle.vt_verify.specs.declared.refusal.Refusal.{Refusal}
 use Rattle.vt_verify.specs.declared.refusal.Refusal.TheVariants as refusals
-use Rattle.vt_node.specs.Bus.{notice_of}
+use Rattle.vt_node.specs.Bus.{meaning_of}
 use Rattle.vt_server.specs.frame.SessionEffects.{came}
 use Rattle.vt_server.specs.frame.TimeoutActs.{at_time, lapsed}
 use Rattle.vt_server.specs.Judgements.{ends_transfer}
@@ -54,7 +54,7 @@ end_by (Refuses refusal) = ends.Refused (broken_rule refusal)
 abbrev pub ends_upload : State → Frame → Bool
 ends_upload s frame =
     ends_transfer (set_at (source_of frame) s.sets)
-    (came s.now s.claims.own (source_of frame) (s.places (source_of frame)) (notice_of s.claims.own s.claims.name frame) frame).message
+    (came s.now s.claims.own (source_of frame) (s.places (source_of frame)) (meaning_of s.claims.own s.claims.name frame) frame).message
 
 -- The end that is told is that of a right verdict on an upload.
 pub record IsEndOf (content : SetPool) (told : Option UploadEnd) : Type 0 where

@@ -115,11 +115,11 @@ with_frames_first frames after = record after { frames = frames ++ after.frames 
 abbrev pub after_came : ℕ → AddressView → Verdict → Came → AddressOutcome
 after_came address p verdict c = with_frames_first c.frames (after_message address (record p { place = c.place }) verdict p.set c.message)
 
-abbrev pub after_notice : ℕ → ℕ → AddressView → FrameMeaning → Frame → Verdict → AddressOutcome
-after_notice now address p (Claim name) frame verdict = after_claim_heard p p.set
-after_notice now address p (Master count) frame verdict = after_master address p p.holder count
-after_notice now address p (Member name) frame verdict = after_member p p.set name
-after_notice now address p notice frame verdict = after_came address p verdict (came now p.terminal address p.place notice frame)
+abbrev pub after_meaning : ℕ → ℕ → AddressView → FrameMeaning → Frame → Verdict → AddressOutcome
+after_meaning now address p (Claim name) frame verdict = after_claim_heard p p.set
+after_meaning now address p (Master count) frame verdict = after_master address p p.holder count
+after_meaning now address p (Member name) frame verdict = after_member p p.set name
+after_meaning now address p meaning frame verdict = after_came address p verdict (came now p.terminal address p.place meaning frame)
 
 -- ---- the operator
 
@@ -151,7 +151,7 @@ raised_on state event =
 -- ---- the outcome of a happening
 
 abbrev pub outcome : ℕ → ℕ → AddressView → Act → AddressOutcome
-outcome now address p (Hears notice frame verdict) = after_notice now address (record p { place = heard_at now p.place }) notice frame verdict
+outcome now address p (Hears meaning frame verdict) = after_meaning now address (record p { place = heard_at now p.place }) meaning frame verdict
 outcome now address p Rebinds = after_change p p.set
 outcome now address p (Preloads contents) = record {
   set = Some (preloaded address);

@@ -10,7 +10,7 @@ ghost use Rattle.vt_server.specs.States.{state_of};
 ghost use Rattle.vt_server.specs.frame.HoldersBeforeClaim.{AreFormer};
 ghost use Rattle.vt_server.specs.Steps as steps;
 ghost use Rattle.vt_server.specs.Terminals as spec;
-ghost use Rattle.vt_node.specs.declared.bus.FrameMeaning.TheVariants as notices;
+ghost use Rattle.vt_node.specs.declared.bus.FrameMeaning.TheVariants as meanings;
 
 use crate::OutOfMemory;
 use crate::output::{Output, send};
@@ -61,7 +61,7 @@ impl Terminal {
         name: Name,
         is_defended: bool,
     ) -> Result<FormerHolders, OutOfMemory>
-        ensures ok { OnOk result (state_of self.new ≡ steps.before (state_of self.old) source (notices.Claim name)) }
+        ensures ok { OnOk result (state_of self.new ≡ steps.before (state_of self.old) source (meanings.Claim name)) }
         ensures former { IfOk result (AreFormer (state_of self.old) source name) }
         ensures defended { IfOk result (λ former. former.is_defended ≡ is_defended) }
         ensures err { OnErr result (state_of self.new ≡ state_of self.old) }

@@ -2,10 +2,10 @@
 
 ghost use Rattle.std.specs.Prelude.{◌≡◌, ◌++◌, ◌<◌, ℕ, List, false, true, IsOk, IfOk, OnOk, OnErr};
 ghost use Rattle.vt_can.specs.frames.Frame.{source_of};
-ghost use Rattle.vt_node.specs.Bus.{notice_of};
+ghost use Rattle.vt_node.specs.Bus.{meaning_of};
 ghost use Rattle.vt_server.specs.shown.ShownSet.{display};
 ghost use Rattle.vt_server.specs.shown.DisplayValues.{display_value};
-ghost use Rattle.vt_server.specs.frame.FrameContracts.{FitsBeforeTimeouts, FitsAfterTimeouts, IsNoClaim, HasCapacity, HasUpload, FinishesFrame, TakesFrame, TakesNotice, end_prepared};
+ghost use Rattle.vt_server.specs.frame.FrameContracts.{FitsBeforeTimeouts, FitsAfterTimeouts, IsNoClaim, HasCapacity, HasUpload, FinishesFrame, TakesFrame, AppliesMeaning, end_prepared};
 ghost use Rattle.vt_server.specs.Outputs.{outputs_of, HasSpare};
 ghost use Rattle.vt_server.specs.state.AddressViews as parts;
 ghost use Rattle.vt_server.specs.shown.Screens.{KeepsScreen, ShowsWhatIsLeft, TellsChanges, redraws};
@@ -13,7 +13,7 @@ ghost use Rattle.vt_server.specs.States.{state_of, TakesInput};
 ghost use Rattle.vt_server.specs.message.UploadEnds.{TellsEnd, upload_end};
 ghost use Rattle.vt_server.specs.Steps as steps;
 ghost use Rattle.vt_server.specs.Terminals as spec;
-ghost use Rattle.vt_node.specs.declared.bus.FrameMeaning.TheVariants as notices;
+ghost use Rattle.vt_node.specs.declared.bus.FrameMeaning.TheVariants as meanings;
 ghost use Rattle.vt_server.specs.declared.input.Input.TheVariants as inputs;
 
 use crate::OutOfMemory;
@@ -26,7 +26,7 @@ use crate::upload_end::UploadEnd;
 use vt_can::Frame;
 use vt_can::assigned::NULL_ADDRESS;
 use vt_names::ClaimMeaning;
-use vt_node::{FrameMeaning, claim_from, notice_of};
+use vt_node::{FrameMeaning, claim_from, meaning_of};
 
 /// Capacity for the outputs of one input: 768 aborts, a reply, 255 packets, a reply and a status. At most 1,024 are ever sent.
 pub(crate) const MOST_OUTPUTS: usize = 1026;
@@ -65,12 +65,12 @@ impl Terminal {
         }
         outputs.reserve(MOST_OUTPUTS)?;
         let now = self.time.max(time);
-        let notice = notice_of(self.node.own(), self.node.name(), frame);
-        let ready = self.prepare(now, &notice, frame)?;
+        let meaning = meaning_of(self.node.own(), self.node.name(), frame);
+        let ready = self.prepare(now, &meaning, frame)?;
         let end = end_of(&ready);
         let before = self.display();
         self.lapse(now, outputs);
-        self.finish(&notice, frame, ready, &before, outputs);
+        self.finish(&meaning, frame, ready, &before, outputs);
         self.upload_end = end;
         Ok(())
     }
@@ -79,20 +79,20 @@ impl Terminal {
     fn prepare(
         &mut self,
         now: u64,
-        notice: &FrameMeaning,
+        meaning: &FrameMeaning,
         frame: &Frame,
     ) -> Result<PreparedFrame, OutOfMemory>
-        requires { notice.now ≡ notice_of (state_of self.old).claims.own (state_of self.old).claims.name frame.now }
-        ensures ok { IfOk result (FitsBeforeTimeouts (state_of self.old) self.new now notice.now frame.now) }
+        requires { meaning.now ≡ meaning_of (state_of self.old).claims.own (state_of self.old).claims.name frame.now }
+        ensures ok { IfOk result (FitsBeforeTimeouts (state_of self.old) self.new now meaning.now frame.now) }
         ensures err { OnErr result (state_of self.new ≡ state_of self.old) }
         ensures redraws { redraws self.new ≡ redraws self.old }
     {
         let source = frame.id.source();
-        match *notice {
+        match *meaning {
             FrameMeaning::Claim(name) => match self.node.answer(source, name) {
                 ClaimMeaning::Lost => Ok(PreparedFrame::Loses),
-                meaning => {
-                    let former = self.record(source, name, meaning == ClaimMeaning::Defend)?;
+                verdict => {
+                    let former = self.record(source, name, verdict == ClaimMeaning::Defend)?;
                     Ok(PreparedFrame::Claimed(former))
                 }
             },
@@ -121,16 +121,16 @@ impl Terminal {
     /// Handles a frame after the timeouts and closings of its time.
     fn finish(
         &mut self,
-        notice: &FrameMeaning,
+        meaning: &FrameMeaning,
         frame: &Frame,
         ready: PreparedFrame,
         before: &ShownMasks,
         outputs: &mut Vec<Output>,
     )
         requires capacity { HasSpare 258 outputs.old }
-        requires ready { (s : spec.State) × FitsAfterTimeouts s self.old notice.now frame.now ready }
-        ensures hears { (old s : spec.State) → display_value before.now ≡ display old → FitsAfterTimeouts s self.old notice.now frame.now ready
-            → FinishesFrame old s notice.now frame.now (state_of self.new) outputs.old.items outputs.new.items }
+        requires ready { (s : spec.State) × FitsAfterTimeouts s self.old meaning.now frame.now ready }
+        ensures hears { (old s : spec.State) → display_value before.now ≡ display old → FitsAfterTimeouts s self.old meaning.now frame.now ready
+            → FinishesFrame old s meaning.now frame.now (state_of self.new) outputs.old.items outputs.new.items }
         ensures tells { redraws self.new ≡ false → ShowsWhatIsLeft (state_of self.old) (state_of self.new) }
     {
         match ready {
@@ -146,7 +146,7 @@ impl Terminal {
             }
             PreparedFrame::Prepared(upload) => {
                 self.redraws = false;
-                self.take(notice, frame, upload, outputs);
+                self.take(meaning, frame, upload, outputs);
                 self.update_shown(before, outputs);
             }
         }
@@ -168,20 +168,20 @@ impl Terminal {
     /// Handles a frame other than a claim.
     fn take(
         &mut self,
-        notice: &FrameMeaning,
+        meaning: &FrameMeaning,
         frame: &Frame,
         upload: PreparedMessage,
         outputs: &mut Vec<Output>,
     )
         requires capacity { HasSpare 258 outputs.old }
-        requires no_claim { IsNoClaim notice.now }
-        requires reserved { HasCapacity self.old notice.now frame.now }
-        requires upload { HasUpload self.old notice.now frame.now upload }
-        ensures takes { TakesFrame (state_of self.old) notice.now frame.now (state_of self.new) outputs.old.items outputs.new.items }
+        requires no_claim { IsNoClaim meaning.now }
+        requires reserved { HasCapacity self.old meaning.now frame.now }
+        requires upload { HasUpload self.old meaning.now frame.now upload }
+        ensures takes { TakesFrame (state_of self.old) meaning.now frame.now (state_of self.new) outputs.old.items outputs.new.items }
         ensures tells { TellsChanges self.old self.new }
         ensures capacity { HasSpare 1 outputs.new }
     {
-        if matches!(*notice, FrameMeaning::ClaimRequest) {
+        if matches!(*meaning, FrameMeaning::ClaimRequest) {
             self.answer_request(frame, outputs);
             return;
         }
@@ -190,13 +190,13 @@ impl Terminal {
             return;
         }
         self.registry.note_frame(source, self.time);
-        self.take_notice(notice, frame, upload, outputs);
+        self.apply_meaning(meaning, frame, upload, outputs);
     }
 
     /// Answers a request for the terminal's address claim.
     fn answer_request(&mut self, frame: &Frame, outputs: &mut Vec<Output>)
         requires capacity { HasSpare 2 outputs.old }
-        ensures takes { TakesFrame (state_of self.old) notices.ClaimRequest frame.now (state_of self.new) outputs.old.items outputs.new.items }
+        ensures takes { TakesFrame (state_of self.old) meanings.ClaimRequest frame.now (state_of self.new) outputs.old.items outputs.new.items }
         ensures tells { TellsChanges self.old self.new }
         ensures capacity { HasSpare 1 outputs.new }
     {
@@ -209,23 +209,23 @@ impl Terminal {
     }
 
     /// Handles a frame of another node by its meaning.
-    fn take_notice(
+    fn apply_meaning(
         &mut self,
-        notice: &FrameMeaning,
+        meaning: &FrameMeaning,
         frame: &Frame,
         upload: PreparedMessage,
         outputs: &mut Vec<Output>,
     )
         requires capacity { HasSpare 258 outputs.old }
-        requires no_claim { IsNoClaim notice.now }
-        requires reserved { HasCapacity self.old notice.now frame.now }
-        requires upload { HasUpload self.old notice.now frame.now upload }
-        ensures takes { TakesNotice (state_of self.old) notice.now frame.now (state_of self.new) outputs.old.items outputs.new.items }
+        requires no_claim { IsNoClaim meaning.now }
+        requires reserved { HasCapacity self.old meaning.now frame.now }
+        requires upload { HasUpload self.old meaning.now frame.now upload }
+        ensures takes { AppliesMeaning (state_of self.old) meaning.now frame.now (state_of self.new) outputs.old.items outputs.new.items }
         ensures tells { TellsChanges self.old self.new }
         ensures capacity { HasSpare 1 outputs.new }
     {
         let source = frame.id.source();
-        match *notice {
+        match *meaning {
             FrameMeaning::Master { count } => self.register(source, count),
             FrameMeaning::Member(name) => {
                 let _refused = self.registry.member(source, name);

@@ -9,7 +9,7 @@ ghost use Rattle.vt_transport.specs.Protocol as tp;
 ghost use Rattle.vt_transport.specs.Wire.{tp_frame};
 ghost use Rattle.vt_extended.specs.Protocol as etp;
 ghost use Rattle.vt_extended.specs.Wire.{etp_frame};
-ghost use Rattle.vt_server.specs.frame.FrameContracts.{FitsCompleted, FitsOneFrame, HandlesMessage, BeginsWithByte, TakesNotice, Handles, message_by};
+ghost use Rattle.vt_server.specs.frame.FrameContracts.{FitsCompleted, FitsOneFrame, HandlesMessage, BeginsWithByte, AppliesMeaning, Handles, message_by};
 ghost use Rattle.vt_server.specs.message.MessageEffects.{TRANSFER};
 ghost use Rattle.vt_server.specs.Outputs.{HasSpare};
 ghost use Rattle.vt_node.specs.ReceiverResults.{frames_in, message_in};
@@ -18,7 +18,7 @@ ghost use Rattle.vt_server.specs.shown.Screens.{TellsChanges};
 ghost use Rattle.vt_server.specs.States.{state_of};
 ghost use Rattle.vt_server.specs.Terminals as spec;
 ghost use Rattle.vt_server.specs.state.PoolTables.{content_of, spare_of};
-ghost use Rattle.vt_node.specs.declared.bus.FrameMeaning.TheVariants as notices;
+ghost use Rattle.vt_node.specs.declared.bus.FrameMeaning.TheVariants as meanings;
 
 use crate::message::upload::PreparedMessage;
 use crate::output::{Output, send_all, send_reply};
@@ -37,7 +37,7 @@ impl Terminal {
         requires capacity { HasSpare 2 outputs.old }
         requires ready { is_some (set_at (source_of frame.now) (state_of self.old).sets) ≡ true
             → FitsOneFrame (content_of self.old.contents (source_of frame.now)) (spare_of self.old.contents (source_of frame.now)) frame.now.bytes.items upload }
-        ensures takes { TakesNotice (state_of self.old) notices.Message frame.now (state_of self.new) outputs.old.items outputs.new.items }
+        ensures takes { AppliesMeaning (state_of self.old) meanings.Message frame.now (state_of self.new) outputs.old.items outputs.new.items }
         ensures tells { TellsChanges self.old self.new }
         ensures capacity { HasSpare 1 outputs.new }
     {
@@ -56,8 +56,8 @@ impl Terminal {
         requires session { HasCapacityFor tp.protocol (tp_frame self.old.node.claims.own frame.now) self.old.node.tp_spare }
         requires ready { is_some (set_at (source_of frame.now) (state_of self.old).sets) ≡ true
             → FitsCompleted (content_of self.old.contents (source_of frame.now)) (spare_of self.old.contents (source_of frame.now))
-            (message_by self.old self.old.time ((state_of self.old).places (source_of frame.now)) notices.Tp frame.now) upload }
-        ensures takes { TakesNotice (state_of self.old) notices.Tp frame.now (state_of self.new) outputs.old.items outputs.new.items }
+            (message_by self.old self.old.time ((state_of self.old).places (source_of frame.now)) meanings.Tp frame.now) upload }
+        ensures takes { AppliesMeaning (state_of self.old) meanings.Tp frame.now (state_of self.new) outputs.old.items outputs.new.items }
         ensures tells { TellsChanges self.old self.new }
         ensures capacity { HasSpare 1 outputs.new }
     {
@@ -84,9 +84,9 @@ impl Terminal {
         requires session { HasCapacityFor tp.protocol (tp_frame self.old.node.claims.own frame.now) self.old.node.tp_spare }
         requires ready { is_some (set_at (source_of frame.now) (state_of self.old).sets) ≡ true
             → FitsCompleted (content_of self.old.contents (source_of frame.now)) (spare_of self.old.contents (source_of frame.now))
-            (message_by self.old self.old.time ((state_of self.old).places (source_of frame.now)) notices.Tp frame.now) upload }
+            (message_by self.old self.old.time ((state_of self.old).places (source_of frame.now)) meanings.Tp frame.now) upload }
         ensures tells { TellsChanges self.old self.new }
-        ensures takes { TakesNotice (state_of self.old) notices.Tp frame.now (state_of self.new) outputs.old.items outputs.new.items }
+        ensures takes { AppliesMeaning (state_of self.old) meanings.Tp frame.now (state_of self.new) outputs.old.items outputs.new.items }
         ensures capacity { HasSpare 1 outputs.new }
     {
         let source = frame.id.source();
@@ -108,8 +108,8 @@ impl Terminal {
         requires session { HasCapacityFor etp.protocol (etp_frame self.old.node.claims.own frame.now) self.old.node.etp_spare }
         requires ready { is_some (set_at (source_of frame.now) (state_of self.old).sets) ≡ true
             → FitsCompleted (content_of self.old.contents (source_of frame.now)) (spare_of self.old.contents (source_of frame.now))
-            (message_by self.old self.old.time ((state_of self.old).places (source_of frame.now)) notices.Etp frame.now) upload }
-        ensures takes { TakesNotice (state_of self.old) notices.Etp frame.now (state_of self.new) outputs.old.items outputs.new.items }
+            (message_by self.old self.old.time ((state_of self.old).places (source_of frame.now)) meanings.Etp frame.now) upload }
+        ensures takes { AppliesMeaning (state_of self.old) meanings.Etp frame.now (state_of self.new) outputs.old.items outputs.new.items }
         ensures tells { TellsChanges self.old self.new }
         ensures capacity { HasSpare 1 outputs.new }
     {

@@ -8,7 +8,7 @@ use Rattle.vt_can.specs.lines.Actions.{ActionValue, Press, Release, Select, Numb
 use Rattle.vt_can.specs.lines.Actions as actions
 use Rattle.vt_machine.specs.SetStates.{SetState, active_in}
 use Rattle.vt_shown.specs.ShownElements.{IsShown}
-use Rattle.vt_node.specs.Bus.{notice_of}
+use Rattle.vt_node.specs.Bus.{meaning_of}
 use Rattle.vt_laws.specs.UniqueSteps.{StepsAreOne}
 use Rattle.vt_server.specs.Judgements.{IsJudged, IsSeen, IsJudgedRight, AreJudgedRight, IsEventOf, AreEventsOf}
 use Rattle.vt_server.specs.frame.TimeoutActs.{at_time, lapsed}
@@ -152,7 +152,7 @@ module _ (judging : Judging) where
       t = lapsed (at_time s time)
 
       n : FrameMeaning
-      n = notice_of s.claims.own s.claims.name f
+      n = meaning_of s.claims.own s.claims.name f
 
       Is : Verdict → Type 0
       Is verdict = IsJudged t.now (source_of f) (part (source_of f) t) n f verdict

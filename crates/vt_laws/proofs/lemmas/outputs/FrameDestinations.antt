@@ -9,7 +9,7 @@ use Rattle.vt_can.specs.lines.Actions.{ActionValue}
 use Rattle.vt_can.specs.transport.Sessions.{is_overdue}
 use Rattle.vt_names.specs.Claims.{Claimed}
 use Rattle.vt_names.specs.Registry.{Set}
-use Rattle.vt_node.specs.Bus.{notice_of}
+use Rattle.vt_node.specs.Bus.{meaning_of}
 use Rattle.vt_server.specs.shown.ShownSet.{choosing, shown_now, events_of_change, display, status, same_display, ShownMasks, status_frame}
 use Rattle.vt_server.specs.frame.TimeoutActs.{at_time, lapsed, sent_by_lapses, tp_due, etp_due, sending_due, after_tp_timeouts, after_etp_timeouts}
 use Rattle.vt_node.specs.Messages.{claim_from}
@@ -180,7 +180,7 @@ module _ (law : PartsAreIdentifiers) where
     frame-sends s time f verdict is =
         let t = at_time s time in
         let u = lapsed t in
-        let n = notice_of s.claims.own s.claims.name f in
+        let n = meaning_of s.claims.own s.claims.name f in
         addressed-append own (sent_by_lapses t) _ (lapses-send t is)
         (by-loss n (ap (λ (c : Claimed). c.own) (claims-lapsed t) ∙ is) (is_lost_by (answer_to u (source_of f) n)))
       where

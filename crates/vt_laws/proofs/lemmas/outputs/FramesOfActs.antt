@@ -15,7 +15,7 @@ use Rattle.vt_names.specs.Registry.{Set}
 use Rattle.vt_server.specs.message.MessageEffects.{handled}
 use Rattle.vt_node.specs.Messages.{message_to}
 use Rattle.vt_server.specs.operator.ActionEffects.{action_on, is_long, is_busy, filled, message_frames}
-use Rattle.vt_server.specs.state.AddressViews.{AddressView, AddressOutcome, Act, Hears, Rebinds, Preloads, TpExpires, EtpExpires, SendingExpires, FallsSilent, Operates, Raises, unchanged, without_set, after_change, after_claim_heard, after_master, after_member, after_message, after_notice, after_action, after_operator, outcome}
+use Rattle.vt_server.specs.state.AddressViews.{AddressView, AddressOutcome, Act, Hears, Rebinds, Preloads, TpExpires, EtpExpires, SendingExpires, FallsSilent, Operates, Raises, unchanged, without_set, after_change, after_claim_heard, after_master, after_member, after_message, after_meaning, after_action, after_operator, outcome}
 use Rattle.vt_server.specs.state.AddressStates.{AddressState, heard_at}
 use Rattle.vt_node.specs.ReceiverResults.{taken}
 use Rattle.vt_server.specs.frame.SessionEffects.{came}
@@ -65,15 +65,15 @@ carried-replies now a p n frame verdict =
     replies-append p.terminal a c.frames (after_message a (record p { place = c.place }) verdict p.set c.message).frames
     (came-replies now p.terminal a p.place n frame) (message-replies a (record p { place = c.place }) verdict p.set c.message)
 
-notice-replies : (now a : ℕ) (p : AddressView) (n : FrameMeaning) (frame : Frame) (verdict : Verdict) → AreReplies p.terminal a (after_notice now a p n frame verdict).frames
-notice-replies now a p (Claim name) frame verdict = claim-replies p.terminal a p p.set
-notice-replies now a p ClaimRequest frame verdict = carried-replies now a p ClaimRequest frame verdict
-notice-replies now a p (Master count) frame verdict = master-replies p.terminal a p p.holder count
-notice-replies now a p (Member name) frame verdict = member-replies p.terminal a p p.set name
-notice-replies now a p Message frame verdict = carried-replies now a p Message frame verdict
-notice-replies now a p Tp frame verdict = carried-replies now a p Tp frame verdict
-notice-replies now a p Etp frame verdict = carried-replies now a p Etp frame verdict
-notice-replies now a p Nothing frame verdict = carried-replies now a p Nothing frame verdict
+meaning-replies : (now a : ℕ) (p : AddressView) (n : FrameMeaning) (frame : Frame) (verdict : Verdict) → AreReplies p.terminal a (after_meaning now a p n frame verdict).frames
+meaning-replies now a p (Claim name) frame verdict = claim-replies p.terminal a p p.set
+meaning-replies now a p ClaimRequest frame verdict = carried-replies now a p ClaimRequest frame verdict
+meaning-replies now a p (Master count) frame verdict = master-replies p.terminal a p p.holder count
+meaning-replies now a p (Member name) frame verdict = member-replies p.terminal a p p.set name
+meaning-replies now a p Message frame verdict = carried-replies now a p Message frame verdict
+meaning-replies now a p Tp frame verdict = carried-replies now a p Tp frame verdict
+meaning-replies now a p Etp frame verdict = carried-replies now a p Etp frame verdict
+meaning-replies now a p Nothing frame verdict = carried-replies now a p Nothing frame verdict
 
 either-replies : (own a : ℕ) (b : Bool) (x y : AddressOutcome) → AreReplies own a x.frames → AreReplies own a y.frames → AreReplies own a (cond b x y).frames
 either-replies own a true x y first second = first
@@ -102,7 +102,7 @@ operator-replies now a p action shown None = tt
 operator-replies now a p action shown (Some state) = action-replies now a p (action_on state shown action)
 
 pub outcome-replies : (now a : ℕ) (p : AddressView) (h : Act) → AreReplies p.terminal a (outcome now a p h).frames
-outcome-replies now a p (Hears n frame verdict) = notice-replies now a (record p { place = heard_at now p.place }) n frame verdict
+outcome-replies now a p (Hears n frame verdict) = meaning-replies now a (record p { place = heard_at now p.place }) n frame verdict
 outcome-replies now a p Rebinds = change-replies p.terminal a p p.set
 outcome-replies now a p (Preloads contents) = tt
 outcome-replies now a p TpExpires = option-replies p.terminal a (λ timed. tp.protocol.reply_frame p.terminal a (tp.protocol.timeout_reply timed.session)) (λ timed. inr (inl refl)) p.place.tp

@@ -17,13 +17,13 @@ use Rattle.vt_extended.specs.Protocol as etp
 use Rattle.vt_machine.specs.SetStates.{SetState}
 use Rattle.vt_machine.specs.OperatorActions as operating
 use Rattle.vt_names.specs.Registry.{Set}
-use Rattle.vt_node.specs.Bus.{notice_of}
+use Rattle.vt_node.specs.Bus.{meaning_of}
 use Rattle.vt_server.specs.shown.ShownSet.{choosing, shown_now, events_of_change, display, status, same_display, ShownMasks, status_frame}
 use Rattle.vt_server.specs.message.MessageEffects.{handled}
 use Rattle.vt_server.specs.frame.TimeoutActs.{at_time, lapsed, sent_by_lapses, tp_due, etp_due, sending_due, after_tp_timeouts, after_etp_timeouts}
 use Rattle.vt_node.specs.Messages.{message_to, claim_from}
 use Rattle.vt_server.specs.operator.ActionEffects.{action_on, is_long, is_busy, filled, message_frames, sending_after, ran}
-use Rattle.vt_server.specs.state.AddressViews.{AddressView, AddressOutcome, Act, Hears, TpExpires, EtpExpires, SendingExpires, Operates, unchanged, without_set, after_change, after_claim_heard, after_master, after_member, after_message, with_frames_first, after_notice, refused_by, with_place, after_action, after_operator, outcome}
+use Rattle.vt_server.specs.state.AddressViews.{AddressView, AddressOutcome, Act, Hears, TpExpires, EtpExpires, SendingExpires, Operates, unchanged, without_set, after_change, after_claim_heard, after_master, after_member, after_message, with_frames_first, after_meaning, refused_by, with_place, after_action, after_operator, outcome}
 use Rattle.vt_server.specs.state.AddressStates.{AddressState, heard_at, with_pool}
 use Rattle.vt_node.specs.ReceiverResults.{taken}
 use Rattle.vt_laws.specs.Destinations.{HasByte}
@@ -126,15 +126,15 @@ module _ (now a : ℕ) (p : AddressView) (frame : Frame) (verdict : Verdict) (sm
       let both = length-append c.frames after.frames in
       frames-few a 255 (record after { frames = c.frames ++ after.frames }) (message-refused a (record p { place = c.place }) verdict p.set c.message) (omega arith)
 
-  notice-few : (n : FrameMeaning) → length (to_address a (after_notice now a p n frame verdict)) ≤ 255
-  notice-few (Claim name) = let none = claim-none a p p.set in omega arith
-  notice-few ClaimRequest = carried-few ClaimRequest
-  notice-few (Master count) = let none = master-none a p p.holder count in omega arith
-  notice-few (Member name) = let none = member-none a p p.set name in omega arith
-  notice-few Message = carried-few Message
-  notice-few Tp = carried-few Tp
-  notice-few Etp = carried-few Etp
-  notice-few Nothing = carried-few Nothing
+  meaning-few : (n : FrameMeaning) → length (to_address a (after_meaning now a p n frame verdict)) ≤ 255
+  meaning-few (Claim name) = let none = claim-none a p p.set in omega arith
+  meaning-few ClaimRequest = carried-few ClaimRequest
+  meaning-few (Master count) = let none = master-none a p p.holder count in omega arith
+  meaning-few (Member name) = let none = member-none a p p.set name in omega arith
+  meaning-few Message = carried-few Message
+  meaning-few Tp = carried-few Tp
+  meaning-few Etp = carried-few Etp
+  meaning-few Nothing = carried-few Nothing
 
 either-few : (a n : ℕ) (b : Bool) (x y : AddressOutcome) → length (to_address a x) ≤ n → length (to_address a y) ≤ n → length (to_address a (cond b x y)) ≤ n
 either-few a n true x y first second = first
@@ -274,7 +274,7 @@ module _ (old s : State) (source : ℕ) (f : Frame) (verdict : Verdict) (small :
       let first : length (defence s source n) ≡ 0 = ap (λ (l : List Sent). length l) no-claim in
       let second : length (sent_by_acts t hs) ≤ 255 =
       subst (λ (l : List (ℕ × Act)). length (sent_by_acts t (l ++ heard_at_source s.claims.own source n f verdict)) ≤ 255) (sym no-change)
-      (heard-few t (eqb source s.claims.own) source (Hears n f verdict) (λ x a. notice-few x.now a (record (part a x) { place = heard_at x.now (x.places a) }) f verdict small n)) in
+      (heard-few t (eqb source s.claims.own) source (Hears n f verdict) (λ x a. meaning-few x.now a (record (part a x) { place = heard_at x.now (x.places a) }) f verdict small n)) in
       let last = shown_update-few old (after_acts t hs) in
       omega arith
 
@@ -295,7 +295,7 @@ module _ (old s : State) (source : ℕ) (f : Frame) (verdict : Verdict) (small :
 frame-few : (s : State) (time : ℕ) (f : Frame) (verdict : Verdict) → slice_index f.bytes.items 1 < 256 → length (step_frame s time f verdict).sent ≤ 1024
 frame-few s time f verdict small =
     let t = at_time s time in
-    let n = notice_of s.claims.own s.claims.name f in
+    let n = meaning_of s.claims.own s.claims.name f in
     let first = lapses-few t in
     let second = hearing-few s (lapsed t) (source_of f) f verdict small n (is_lost_by (answer_to (lapsed t) (source_of f) n)) in
     let both = length-append (sent_by_lapses t) (cond (is_lost_by (answer_to (lapsed t) (source_of f) n)) (losing (lapsed t)) (acting s (lapsed t) (source_of f) n f verdict)).sent in

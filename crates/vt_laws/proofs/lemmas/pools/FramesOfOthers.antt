@@ -9,7 +9,7 @@ use Rattle.vt_can.specs.frames.Frame.{source_of}
 use Rattle.vt_machine.specs.SetStates.{SetState}
 use Rattle.vt_names.specs.Claims.{address_of}
 use Rattle.vt_stores.specs.Stores.{ObjectMap}
-use Rattle.vt_node.specs.Bus.{notice_of}
+use Rattle.vt_node.specs.Bus.{meaning_of}
 use Rattle.vt_node.specs.AddressFunctions.{with_at}
 use Rattle.vt_node.specs.declared.bus.FrameMeaning.{FrameMeaning}
 use Rattle.vt_node.specs.declared.bus.FrameMeaning.TheVariants.{Claim, ClaimRequest, Master, Member, Message, Tp, Etp, Nothing}
@@ -141,7 +141,7 @@ module _ (s : State) (time : ℕ) (f : Frame) (verdict : Verdict) (q : ℕ) (oth
   t = lapsed (at_time s time)
 
   abbrev n : FrameMeaning
-  n = notice_of s.claims.own s.claims.name f
+  n = meaning_of s.claims.own s.claims.name f
 
   step-runs : (lost : Bool) → (cond lost (no_step s) (step_frame s time f verdict)).after.shown ≡ s.shown
       → runs_there q (cond lost [] (runs_of_hearing t (source_of f) n f verdict)) ≡ []

@@ -18,7 +18,7 @@ use Rattle.vt_stores.specs.Stores.{ObjectMap}
 use Rattle.vt_effects.specs.Effects.{effect}
 use Rattle.vt_machine.specs.SetStates.{SetState}
 use Rattle.vt_machine.specs.OperatorActions as operating
-use Rattle.vt_node.specs.Bus.{notice_of}
+use Rattle.vt_node.specs.Bus.{meaning_of}
 use Rattle.vt_node.specs.AddressFunctions.{with_at}
 use Rattle.vt_server.specs.shown.ShownSet.{choosing, shown_now, events_of_change}
 use Rattle.vt_server.specs.frame.TimeoutActs.{at_time, lapsed, silences, set_is_silent, after_tp_timeouts, after_etp_timeouts, after_timeouts}
@@ -349,7 +349,7 @@ step-holds s (FrameAt time f verdict) q = cases s.lost
     t = lapsed (at_time s time)
 
     n : FrameMeaning
-    n = notice_of s.claims.own s.claims.name f
+    n = meaning_of s.claims.own s.claims.name f
 
     there : (r : ℕ) → Holds (objects_in s r) [] (pool_of t r)
     there r = holds-then (objects_in s r) (pool_of s r) (pool_of t r) [] [] (holds-there (pool_of s r)) (lapsed-follows (at_time s time) r)

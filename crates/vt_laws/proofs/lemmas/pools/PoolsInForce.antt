@@ -13,7 +13,7 @@ use Rattle.vt_names.specs.Registry.{Set}
 use Rattle.vt_stores.specs.Stores.{ObjectMap, map_of}
 use Rattle.vt_machine.specs.SetStates.{SetState}
 use Rattle.vt_layout.specs.Drawings.{at_path, key_entries, mask_entries, origin}
-use Rattle.vt_node.specs.Bus.{notice_of}
+use Rattle.vt_node.specs.Bus.{meaning_of}
 use Rattle.vt_server.specs.shown.ShownSet.{choosing, shown_now, events_of_change, raised_at, ACTIVATE, DEACTIVATE}
 use Rattle.vt_server.specs.Judgements.{IsJudged, IsJudgedRight, AreJudgedRight, ends_transfer}
 use Rattle.vt_laws.specs.Headline.{Pools, IsPoolInForce, ArePoolsInForce, accepted_at, accepted_with, accepted_by_acts, accepted_in_hearing, accepted_after, accepted_after_all, Run, AllEnd, DrawsWhatIsThere, EventsKeep, KeepsPromise, NeverSticks, runs_at, runs_of_acts, runs_of_shown_update, runs_of_hearing, runs_of_operating, runs}
@@ -263,7 +263,7 @@ module _ (laws : Laws) where
       t = lapsed (at_time s time)
 
       n : FrameMeaning
-      n = notice_of s.claims.own s.claims.name f
+      n = meaning_of s.claims.own s.claims.name f
 
       cases : (b : Bool) → (b ≡ false → IsJudged t.now (source_of f) (part (source_of f) t) n f verdict)
           → Promised (cond b [] (runs_of_hearing t (source_of f) n f verdict)) (cond b pools (accepted_in_hearing t (source_of f) n f verdict pools)) (cond b (no_step s) (step_frame s time f verdict)).after

@@ -7,7 +7,7 @@ use Rattle.vt_can.specs.lines.Actions.{ActionValue}
 use Rattle.vt_machine.specs.SetStates.{SetState}
 use Rattle.vt_machine.specs.OperatorActions as operating
 use Rattle.vt_names.specs.Registry.{Set}
-use Rattle.vt_node.specs.Bus.{notice_of}
+use Rattle.vt_node.specs.Bus.{meaning_of}
 use Rattle.vt_node.specs.declared.bus.FrameMeaning.{FrameMeaning}
 use Rattle.vt_node.specs.declared.bus.FrameMeaning.TheVariants.{Claim, ClaimRequest, Master, Member, Message, Tp, Etp, Nothing}
 use Rattle.vt_server.specs.shown.ShownSet.{selected_now, shown_now, choosing, raised_at, events_of_change, ACTIVATE, DEACTIVATE}
@@ -208,7 +208,7 @@ step-there s (FrameAt time f verdict) are = cases s.lost
     u = lapsed (at_time s time)
 
     n : FrameMeaning
-    n = notice_of s.claims.own s.claims.name f
+    n = meaning_of s.claims.own s.claims.name f
 
     heard : (b : Bool) → AreThere (cond b (losing u) (acting s u (source_of f) n f verdict)).after
     heard true = losing-there u

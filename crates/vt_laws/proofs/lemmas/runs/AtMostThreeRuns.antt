@@ -12,7 +12,7 @@ use Rattle.vt_stores.specs.Stores.{ObjectMap}
 use Rattle.vt_effects.specs.Effects.{effect}
 use Rattle.vt_machine.specs.SetStates.{SetState}
 use Rattle.vt_machine.specs.OperatorActions as operating
-use Rattle.vt_node.specs.Bus.{notice_of}
+use Rattle.vt_node.specs.Bus.{meaning_of}
 use Rattle.vt_server.specs.shown.ShownSet.{choosing, shown_now, events_of_change, raised_at, ACTIVATE, DEACTIVATE}
 use Rattle.vt_laws.specs.Headline.{Run, runs_of_effect, runs_of_command, runs_of_message, runs_of_action, runs_of_operator, runs_of_event, runs_at, runs_of_acts, runs_of_shown_update, runs_of_hearing, runs_of_operating, runs}
 use Rattle.vt_server.specs.frame.TimeoutActs.{at_time, lapsed}
@@ -166,11 +166,11 @@ pub few-runs : (s : State) (e : JudgedInput) → length (runs s e) ≤ 3
 few-runs s (FrameAt time f verdict) = cases s.lost
   where
     all : List Run
-    all = runs_of_hearing (lapsed (at_time s time)) (source_of f) (notice_of s.claims.own s.claims.name f) f verdict
+    all = runs_of_hearing (lapsed (at_time s time)) (source_of f) (meaning_of s.claims.own s.claims.name f) f verdict
 
     cases : (b : Bool) → length (cond b [] all) ≤ 3
     cases true = omega arith
-    cases false = hearing-few (lapsed (at_time s time)) (source_of f) (notice_of s.claims.own s.claims.name f) f verdict
+    cases false = hearing-few (lapsed (at_time s time)) (source_of f) (meaning_of s.claims.own s.claims.name f) f verdict
 few-runs s (ActionAt action shown) = cases s.lost
   where
     happens : List (ℕ × Act)

@@ -15,7 +15,7 @@ use Rattle.vt_effects.specs.Effects.{effect}
 use Rattle.vt_macros.proofs.MacroTargetsExist.{all_append}
 use Rattle.vt_machine.specs.SetStates.{SetState}
 use Rattle.vt_machine.specs.OperatorActions as operating
-use Rattle.vt_node.specs.Bus.{notice_of}
+use Rattle.vt_node.specs.Bus.{meaning_of}
 use Rattle.vt_node.specs.declared.bus.FrameMeaning.{FrameMeaning}
 use Rattle.vt_server.specs.shown.ShownSet.{choosing, shown_now, events_of_change}
 use Rattle.vt_server.specs.frame.TimeoutActs.{at_time, lapsed}
@@ -148,7 +148,7 @@ are-begun s (FrameAt time f verdict) = cases s.lost
     t = lapsed (at_time s time)
 
     n : FrameMeaning
-    n = notice_of s.claims.own s.claims.name f
+    n = meaning_of s.claims.own s.claims.name f
 
     cases : (b : Bool) → AreBegun (cond b [] (runs_of_hearing t (source_of f) n f verdict))
     cases true = tt

@@ -4,7 +4,7 @@ use Rattle.vt_can.specs.frames.Frame.{source_of}
 use Rattle.vt_can.specs.declared.frames.frame.Frame.{Frame}
 use Rattle.vt_names.specs.Claims.{Claim, Claimed, HoldersAreLeast, IsHolder, after_claims, heard, holder_of}
 use Rattle.vt_names.specs.declared.claims.ClaimMeaning.TheVariants as claims
-use Rattle.vt_node.specs.Bus.{notice_of}
+use Rattle.vt_node.specs.Bus.{meaning_of}
 use Rattle.vt_server.specs.shown.ShownSet.{choosing, shown_now, events_of_change}
 use Rattle.vt_laws.specs.ReceivedClaims.{claim_of, takes_address, claims_heard, HoldersOfRuns}
 use Rattle.vt_server.specs.frame.TimeoutActs.{at_time, lapsed}
@@ -14,7 +14,7 @@ use Rattle.vt_server.specs.Terminals.{State, after_acts}
 use Rattle.vt_server.specs.message.Verdicts.{Verdict}
 use Rattle.vt_node.specs.declared.bus.FrameMeaning.{FrameMeaning}
 use Rattle.vt_node.specs.declared.bus.FrameMeaning.TheVariants.{ClaimRequest, Master, Member, Message, Tp, Etp, Nothing}
-use Rattle.vt_node.specs.declared.bus.FrameMeaning.TheVariants as notices
+use Rattle.vt_node.specs.declared.bus.FrameMeaning.TheVariants as meanings
 use Rattle.vt_server.proofs.lemmas.acts.HolderChanges.{claims-acts}
 use Rattle.vt_server.proofs.lemmas.steps.StepInvariants.{lapsed-keeps, claims-lapsed}
 use Rattle.vt_server.proofs.lemmas.acts.ComposedActs.{beside, beside-act}
@@ -53,7 +53,7 @@ answer_cases true false false = refl
 answer_cases false lower higher = refl
 
 loss-is : (s : State) (source : ℕ) (m : FrameMeaning) → is_lost_by (answer_to s source m) ≡ takes_address s.claims.own s.claims.name source m
-loss-is s source (notices.Claim name) = answer_cases (eqb source s.claims.own) (nat_lt name s.claims.name) (nat_lt s.claims.name name)
+loss-is s source (meanings.Claim name) = answer_cases (eqb source s.claims.own) (nat_lt name s.claims.name) (nat_lt s.claims.name name)
 loss-is s source ClaimRequest = refl
 loss-is s source (Master count) = refl
 loss-is s source (Member name) = refl
@@ -70,7 +70,7 @@ kept-by own name earlier = record { own = own; name = name; addresses = after_cl
 heard-is : (own name : ℕ) (earlier : List Claim) (s : State) (source : ℕ) (m : FrameMeaning) → s.claims ≡ kept-by own name earlier
     → receive_claim s source m ≡ kept-by own name (claim_of source m ++ earlier)
 unfolding kept-by
-heard-is own name earlier s source (notices.Claim other) is = ap (λ (c : Claimed). heard c source other) is
+heard-is own name earlier s source (meanings.Claim other) is = ap (λ (c : Claimed). heard c source other) is
 heard-is own name earlier s source ClaimRequest is = is
 heard-is own name earlier s source (Master count) is = is
 heard-is own name earlier s source (Member other) is = is
@@ -110,11 +110,11 @@ run-claims own name earlier s (ActionAt action shown ∷ xs) is has =
     (shown_updated-lost t ∙ lost-acts u hs ∙ selecting-same (λ x. x.lost) (λ x o. refl) s action ∙ has)
 run-claims own name earlier s (FrameAt time f verdict ∷ xs) is has =
     let source = source_of f in
-    let m = notice_of own name f in
+    let m = meaning_of own name f in
     let u = lapsed (at_time s time) in
     let u-is : u.claims ≡ kept-by own name earlier = claims-lapsed (at_time s time) ∙ is in
     let rest = λ (t : State). run-claims own name (claim_of source m ++ earlier) t xs in
-    let same : notice_of s.claims.own s.claims.name f ≡ m = ap (λ (c : Claimed). notice_of c.own c.name f) is in
+    let same : meaning_of s.claims.own s.claims.name f ≡ m = ap (λ (c : Claimed). meaning_of c.own c.name f) is in
     let gone : is_lost_by (answer_to u source m) ≡ takes_address own name source m =
     loss-is u source m ∙ ap (λ (c : Claimed). takes_address c.own c.name source m) u-is in
     ap (λ b. (after_all (cond b (no_step s) (step_frame s time f verdict)).after xs).claims.addresses) has

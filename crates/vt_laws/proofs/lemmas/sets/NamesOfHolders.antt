@@ -5,7 +5,7 @@ use Rattle.vt_can.specs.declared.frames.frame.Frame.{Frame}
 use Rattle.vt_can.specs.frames.Frame.{source_of}
 use Rattle.vt_names.specs.Claims.{Claimed, IsRisingByName}
 use Rattle.vt_names.specs.Registry.{Set, set_at, has_place, with_member}
-use Rattle.vt_node.specs.Bus.{notice_of}
+use Rattle.vt_node.specs.Bus.{meaning_of}
 use Rattle.vt_server.specs.shown.ShownSet.{choosing, shown_now, events_of_change}
 use Rattle.vt_laws.specs.Happenings.{NameIsHeld, SetIsHeld, SetsHoldTheirAddress}
 use Rattle.vt_server.specs.state.StateInvariants.{IsOrderly}
@@ -115,24 +115,24 @@ step-held : Laws → (a : ℕ) (s : State) (e : JudgedInput) → IsOrderly s →
 step-held laws a s (FrameAt time f verdict) orderly has = cases s.lost
   where
     heard : (gone : Bool) → let u = lapsed (at_time s time) in
-        IsHeldAt a (cond gone (losing u) (acting s u (source_of f) (notice_of s.claims.own s.claims.name f) f verdict)).after
+        IsHeldAt a (cond gone (losing u) (acting s u (source_of f) (meaning_of s.claims.own s.claims.name f) f verdict)).after
     heard gone =
         let t = at_time s time in
         let still = lapsed-keeps (IsHeldAt a) (act-held a) t has in
         by-loss still
-        (shown_updated-held a (acted (lapsed t) (source_of f) (notice_of s.claims.own s.claims.name f) f verdict)
+        (shown_updated-held a (acted (lapsed t) (source_of f) (meaning_of s.claims.own s.claims.name f) f verdict)
         (acted-held laws a (lapsed t) (subst (λ (c : Claimed). IsRisingByName c.addresses) (sym (claims-lapsed t)) orderly.rising) still
-        (source_of f) (notice_of s.claims.own s.claims.name f) f verdict)) gone
+        (source_of f) (meaning_of s.claims.own s.claims.name f) f verdict)) gone
       where
         by-loss : let u = lapsed (at_time s time) in
-            IsHeldAt a u → IsHeldAt a (acting s u (source_of f) (notice_of s.claims.own s.claims.name f) f verdict).after → (gone : Bool)
-            → IsHeldAt a (cond gone (losing u) (acting s u (source_of f) (notice_of s.claims.own s.claims.name f) f verdict)).after
+            IsHeldAt a u → IsHeldAt a (acting s u (source_of f) (meaning_of s.claims.own s.claims.name f) f verdict).after → (gone : Bool)
+            → IsHeldAt a (cond gone (losing u) (acting s u (source_of f) (meaning_of s.claims.own s.claims.name f) f verdict)).after
         by-loss still then-still true = still
         by-loss still then-still false = then-still
 
     cases : (lost : Bool) → IsHeldAt a (cond lost (no_step s) (step_frame s time f verdict)).after
     cases true = has
-    cases false = heard (is_lost_by (answer_to (lapsed (at_time s time)) (source_of f) (notice_of s.claims.own s.claims.name f)))
+    cases false = heard (is_lost_by (answer_to (lapsed (at_time s time)) (source_of f) (meaning_of s.claims.own s.claims.name f)))
 step-held laws a s (ActionAt action shown) orderly has = cases s.lost
   where
     cases : (lost : Bool) → IsHeldAt a (cond lost (no_step s) (step_action s action shown)).after

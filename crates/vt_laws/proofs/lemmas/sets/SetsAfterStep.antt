@@ -6,7 +6,7 @@ use Rattle.vt_can.specs.frames.Frame.{source_of}
 use Rattle.vt_can.specs.lines.Actions.{ActionValue}
 use Rattle.vt_names.specs.Claims.{Claimed, OtherHoldersStay, answer, holder_of}
 use Rattle.vt_names.specs.Registry.{AreApart, Set, set_at, with_set, without, registering, joining, mastered, with_member, has_place, preloaded}
-use Rattle.vt_node.specs.Bus.{notice_of, frame_notice, unless_echo}
+use Rattle.vt_node.specs.Bus.{meaning_of, frame_meaning, unless_echo}
 use Rattle.vt_server.specs.shown.ShownSet.{choosing, shown_now, events_of_change}
 use Rattle.vt_laws.specs.Happenings.{loses, SetIsHeld}
 use Rattle.vt_server.specs.state.StateInvariants.{IsOrderly}
@@ -121,9 +121,9 @@ echo-heeded name Tp = tt
 echo-heeded name Etp = tt
 echo-heeded name Nothing = tt
 
-own-heeded : (own name : ℕ) (f : Frame) → source_of f ≡ own → IsHeeded (notice_of own name f)
+own-heeded : (own name : ℕ) (f : Frame) → source_of f ≡ own → IsHeeded (meaning_of own name f)
 own-heeded own name f is =
-    subst (λ b. IsHeeded (cond b (unless_echo name (frame_notice own f)) (frame_notice own f))) (sym (eq-eqb (source_of f) own is)) (echo-heeded name (frame_notice own f))
+    subst (λ b. IsHeeded (cond b (unless_echo name (frame_meaning own f)) (frame_meaning own f))) (sym (eq-eqb (source_of f) own is)) (echo-heeded name (frame_meaning own f))
 
 -- ---- a frame
 
@@ -218,10 +218,10 @@ module _ (laws : Laws) (s : State) (orderly : IsOrderly s) (is : IsSettled s) wh
       held = λ a apart. lapsed-keeps (IsHeldAt a) (act-held a) (at_time s time) (is.held a (λ h. apart (h ∙ sym (ap (λ (c : Claimed). c.own) u-claims))));
     }
 
-    frame-list : (f : Frame) (verdict : Verdict) → let m = notice_of s.claims.own s.claims.name f in let after = (step_frame s time f verdict).after in
+    frame-list : (f : Frame) (verdict : Verdict) → let m = meaning_of s.claims.own s.claims.name f in let after = (step_frame s time f verdict).after in
         after.sets ≡ cond (loses s f) (heard_sets s time) (sets_after after (source_of f) m (heard_sets s time))
     frame-list f verdict =
-        let m = notice_of s.claims.own s.claims.name f in
+        let m = meaning_of s.claims.own s.claims.name f in
         let source = source_of f in
         let acting-list : (with_shown_updated (acted u source m f verdict)).sets ≡ sets_after (with_shown_updated (acted u source m f verdict)) source m (heard_sets s time) =
         shown_updated-list (acted u source m f verdict)
@@ -254,7 +254,7 @@ module _ (laws : Laws) (s : State) (orderly : IsOrderly s) (is : IsSettled s) wh
   step-list : (e : JudgedInput) → (step s e).after.sets ≡ sets_by s (step s e).after e
   step-list (FrameAt time f verdict) = cases s.lost
     where
-      cases : (b : Bool) → let m = notice_of s.claims.own s.claims.name f in let after = (cond b (no_step s) (step_frame s time f verdict)).after in
+      cases : (b : Bool) → let m = meaning_of s.claims.own s.claims.name f in let after = (cond b (no_step s) (step_frame s time f verdict)).after in
           after.sets ≡ cond b s.sets (cond (loses s f) (heard_sets s time) (sets_after after (source_of f) m (heard_sets s time)))
       cases true = refl
       cases false = frame-list time f verdict
@@ -307,22 +307,22 @@ none-echo q t source name Tp sets none = none
 none-echo q t source name Etp sets none = none
 none-echo q t source name Nothing sets none = none
 
-none-notice : (own name : ℕ) (t : State) (f : Frame) (sets : List Set) → set_at own sets ≡ None
-    → set_at own (sets_after t (source_of f) (notice_of own name f) sets) ≡ None
-none-notice own name t f sets none =
-    let there : Bool → FrameMeaning = λ b. cond b (unless_echo name (frame_notice own f)) (frame_notice own f) in
+none-meaning : (own name : ℕ) (t : State) (f : Frame) (sets : List Set) → set_at own sets ≡ None
+    → set_at own (sets_after t (source_of f) (meaning_of own name f) sets) ≡ None
+none-meaning own name t f sets none =
+    let there : Bool → FrameMeaning = λ b. cond b (unless_echo name (frame_meaning own f)) (frame_meaning own f) in
     by_eq (source_of f) own
     (λ is. ap (λ b. set_at own (sets_after t (source_of f) (there b) sets)) (eq-eqb (source_of f) own is)
-    ∙ none-echo own t (source_of f) name (frame_notice own f) sets none)
+    ∙ none-echo own t (source_of f) name (frame_meaning own f) sets none)
     (λ ne. ap (λ b. set_at own (sets_after t (source_of f) (there b) sets)) (ne_eqb (source_of f) own ne)
-    ∙ none-after own t (source_of f) (frame_notice own f) sets ne none)
+    ∙ none-after own t (source_of f) (frame_meaning own f) sets ne none)
 
 none-by : (s t : State) (e : JudgedInput) → set_at s.claims.own s.sets ≡ None → set_at s.claims.own (sets_by s t e) ≡ None
 none-by s t (FrameAt time f verdict) none =
     let sets = heard_sets s time in
     let still = none-filter s.claims.own (λ set. not (set_is_silent (at_time s time) set)) s.sets none in
-    cases s.lost (loses s f) sets (sets_after t (source_of f) (notice_of s.claims.own s.claims.name f) sets) still
-    (none-notice s.claims.own s.claims.name t f sets still)
+    cases s.lost (loses s f) sets (sets_after t (source_of f) (meaning_of s.claims.own s.claims.name f) sets) still
+    (none-meaning s.claims.own s.claims.name t f sets still)
   where
     cases : (lost gone : Bool) (sets after : List Set) → set_at s.claims.own sets ≡ None → set_at s.claims.own after ≡ None
         → set_at s.claims.own (cond lost s.sets (cond gone sets after)) ≡ None

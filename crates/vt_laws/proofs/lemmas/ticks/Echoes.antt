@@ -3,7 +3,7 @@ use Rattle.std.proofs.Common.{◌≡◌, ◌<◌, ◌^◌, ℕ, Bool, false, con
 use Rattle.vt_can.specs.declared.frames.frame.Frame.{Frame}
 use Rattle.vt_can.specs.frames.Identifier.{PartsAreIdentifiers, Parts, parts_of, pgn_of, destination_of, raw_of, addressed}
 use Rattle.vt_can.specs.frames.Frame.{source_of}
-use Rattle.vt_node.specs.Bus.{notice_of, frame_notice, group_notice, unless_echo}
+use Rattle.vt_node.specs.Bus.{meaning_of, frame_meaning, group_meaning, unless_echo}
 use Rattle.vt_node.specs.declared.bus.FrameMeaning.{FrameMeaning}
 use Rattle.vt_node.specs.declared.bus.FrameMeaning.TheVariants.{Nothing}
 use Rattle.vt_server.specs.frame.Deadlines.{echo}
@@ -28,7 +28,7 @@ module _ (s : State) (time : ℕ) (frame : Frame) (verdict : Verdict) (own : sou
       ap (λ (b : Bool). cond b [] ((source_of frame, Hears Nothing frame verdict) ∷ []))
       (eq-eqb (source_of frame) (lapsed (at_time s time)).claims.own (own ∙ sym (ap (λ c. c.own) (claims-lapsed (at_time s time)))))
 
-  pub echo-ticks : s.lost ≡ false → notice_of s.claims.own s.claims.name frame ≡ Nothing → step s (FrameAt time frame verdict) ≡ ticking s time
+  pub echo-ticks : s.lost ≡ false → meaning_of s.claims.own s.claims.name frame ≡ Nothing → step s (FrameAt time frame verdict) ≡ ticking s time
   echo-ticks kept nothing =
       let t = at_time s time in
       ap (λ (b : Bool). cond b (no_step s) (step_frame s time frame verdict)) kept
@@ -45,7 +45,7 @@ module _ (law : PartsAreIdentifiers) (own : ℕ) (fits : own < 2 ^ 8) where
   pub echo-source : source_of (echo own) ≡ own
   echo-source = ap (λ (p : Parts). p.source) echo-parts
 
-  pub echo-notice : (name : ℕ) → notice_of own name (echo own) ≡ Nothing
-  echo-notice name =
-      ap (λ (b : Bool). cond b (unless_echo name (frame_notice own (echo own))) (frame_notice own (echo own))) (eq-eqb (source_of (echo own)) own echo-source)
-      ∙ ap (λ (p : Parts). unless_echo name (group_notice own (pgn_of p) (destination_of p) [])) echo-parts
+  pub echo-meaning : (name : ℕ) → meaning_of own name (echo own) ≡ Nothing
+  echo-meaning name =
+      ap (λ (b : Bool). cond b (unless_echo name (frame_meaning own (echo own))) (frame_meaning own (echo own))) (eq-eqb (source_of (echo own)) own echo-source)
+      ∙ ap (λ (p : Parts). unless_echo name (group_meaning own (pgn_of p) (destination_of p) [])) echo-parts

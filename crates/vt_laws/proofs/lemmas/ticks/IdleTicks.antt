@@ -14,7 +14,7 @@ use Rattle.vt_server.specs.state.AddressViews.{FallsSilent}
 use Rattle.vt_server.specs.Steps.{with_shown_updated, sent_by_shown_update}
 use Rattle.vt_server.specs.Terminals.{State, Sent, ToAll, after_acts, sent_by_acts}
 use Rattle.vt_laws.specs.Ticks.{ticking, OthersAreIdle}
-use Rattle.vt_laws.proofs.lemmas.ticks.Echoes.{echo-ticks, echo-source, echo-notice}
+use Rattle.vt_laws.proofs.lemmas.ticks.Echoes.{echo-ticks, echo-source, echo-meaning}
 
 -- ---- decisions
 
@@ -153,4 +153,4 @@ idle s time kept due =
 
 pub others-idle : PartsAreIdentifiers → OthersAreIdle
 others-idle law s time verdict kept fits due =
-    echo-ticks s time (echo s.claims.own) verdict (echo-source law s.claims.own fits) kept (echo-notice law s.claims.own fits s.claims.name) ∙ idle s time kept due
+    echo-ticks s time (echo s.claims.own) verdict (echo-source law s.claims.own fits) kept (echo-meaning law s.claims.own fits s.claims.name) ∙ idle s time kept due

@@ -10,7 +10,7 @@ use Rattle.vt_can.specs.lines.Actions.{ActionValue}
 use Rattle.vt_can.specs.transport.Sessions.{is_overdue}
 use Rattle.vt_names.specs.Claims.{Claimed, holder_of}
 use Rattle.vt_names.specs.Registry.{Set, set_at}
-use Rattle.vt_node.specs.Bus.{notice_of, frame_notice}
+use Rattle.vt_node.specs.Bus.{meaning_of, frame_meaning}
 use Rattle.vt_server.specs.shown.ShownSet.{shown_now, ACTIVATE, DEACTIVATE}
 use Rattle.vt_server.specs.Judgements.{IsJudged, IsJudgedRight, AreJudgedRight, ends_transfer}
 use Rattle.vt_laws.specs.Happenings.{Happening, TpExpired, EtpExpired, SendingExpired, FellSilent, Lost, HolderIs, FrameHeard, Operated, EventRaised, response, part_after_all, frames_of_all, own_part, is_at, if_so, holder_change, claims_after, events_at, lapses, loses, heard_happenings, after_frame, after_action_at, frame_happenings, happenings, happenings_all, AreAlike, OwnHappeningsDecide}
@@ -27,7 +27,7 @@ use Rattle.vt_server.specs.message.Verdicts.{Verdict}
 use Rattle.vt_node.specs.declared.bus.FrameMeaning.{FrameMeaning}
 use Rattle.vt_node.specs.declared.bus.FrameMeaning.TheVariants.{Claim, ClaimRequest, Master, Member, Message, Tp, Etp, Nothing}
 use Rattle.vt_server.proofs.lemmas.acts.HolderChanges.{option-true}
-use Rattle.vt_laws.proofs.lemmas.views.HappeningsOfFrame.{notice-there}
+use Rattle.vt_laws.proofs.lemmas.views.HappeningsOfFrame.{meaning-there}
 use Rattle.vt_server.proofs.lemmas.steps.StepInvariants.{claims-lapsed, other-step}
 use Rattle.vt_laws.proofs.lemmas.judgements.OneStep.{IsSeenIn, operator-one}
 use Rattle.vt_laws.proofs.lemmas.judgements.OneVerdict.{Judging, heard-one}
@@ -40,7 +40,7 @@ use Rattle.vt_names.proofs.IndexAfterClaim.{option_same}
 -- ---- right judgements, by the view of the address alone
 
 abbrev IsOwnRight : ℕ → AddressView → Happening → Type 0
-IsOwnRight a p (FrameHeard f verdict) = IsJudged 0 a p (frame_notice p.terminal f) f verdict
+IsOwnRight a p (FrameHeard f verdict) = IsJudged 0 a p (frame_meaning p.terminal f) f verdict
 IsOwnRight a p (Operated action shown) = IsSeenIn p.place.content.pool (object_acted_on action) shown
 IsOwnRight a p _ = Unit {0}
 
@@ -129,29 +129,29 @@ module _ (laws : Laws) where
         cases true = refl
         cases false = ap (λ (o : Response). o.part.terminal) (response-has a (bare a u) (HolderIs (holder_of c.addresses a)) has)
 
-    claim-right : (name : ℕ) → frame_notice own f ≡ Claim name → IsRightAfter (holder_change a u.claims (receive_claim u (source_of f) (Claim name)))
+    claim-right : (name : ℕ) → frame_meaning own f ≡ Claim name → IsRightAfter (holder_change a u.claims (receive_claim u (source_of f) (Claim name)))
     claim-right name is =
         let q = part_after_all a (bare a u) (holder_change a u.claims (receive_claim u (source_of f) (Claim name))) in
-        let said = ap (λ (t : ℕ). frame_notice t f) (terminal-after (receive_claim u (source_of f) (Claim name))) ∙ is in
+        let said = ap (λ (t : ℕ). frame_meaning t f) (terminal-after (receive_claim u (source_of f) (Claim name))) ∙ is in
         subst (λ (n : FrameMeaning). IsJudged 0 a q n f verdict) (sym said) (λ e. never-ends q.set e)
 
-    same-right : (n : FrameMeaning) → frame_notice own f ≡ n → IsJudged u.now a (part a u) n f verdict → IsRightAfter (holder_change a u.claims u.claims)
+    same-right : (n : FrameMeaning) → frame_meaning own f ≡ n → IsJudged u.now a (part a u) n f verdict → IsRightAfter (holder_change a u.claims u.claims)
     same-right n is judged =
         subst IsRightAfter (sym (same-holder a u.claims))
         (subst (λ (m : FrameMeaning). IsJudged 0 a (bare a u) m f verdict) (sym is) (judged-timeless u.now a (part a u) n f verdict judged))
 
-    notice-right : (n : FrameMeaning) → frame_notice own f ≡ n → IsJudged u.now a (part a u) n f verdict → IsRightAfter (holder_change a u.claims (receive_claim u (source_of f) n))
-    notice-right (Claim name) is judged = claim-right name is
-    notice-right ClaimRequest is judged = same-right ClaimRequest is judged
-    notice-right (Master count) is judged = same-right (Master count) is judged
-    notice-right (Member name) is judged = same-right (Member name) is judged
-    notice-right Message is judged = same-right Message is judged
-    notice-right Tp is judged = same-right Tp is judged
-    notice-right Etp is judged = same-right Etp is judged
-    notice-right Nothing is judged = same-right Nothing is judged
+    meaning-right : (n : FrameMeaning) → frame_meaning own f ≡ n → IsJudged u.now a (part a u) n f verdict → IsRightAfter (holder_change a u.claims (receive_claim u (source_of f) n))
+    meaning-right (Claim name) is judged = claim-right name is
+    meaning-right ClaimRequest is judged = same-right ClaimRequest is judged
+    meaning-right (Master count) is judged = same-right (Master count) is judged
+    meaning-right (Member name) is judged = same-right (Member name) is judged
+    meaning-right Message is judged = same-right Message is judged
+    meaning-right Tp is judged = same-right Tp is judged
+    meaning-right Etp is judged = same-right Etp is judged
+    meaning-right Nothing is judged = same-right Nothing is judged
 
     abbrev m : FrameMeaning
-    m = notice_of own u.claims.name f
+    m = meaning_of own u.claims.name f
 
     heard-right : IsJudged u.now (source_of f) (part (source_of f) u) m f verdict → AreOwnRight a (bare a u) (heard_happenings a u f verdict)
     heard-right judged =
@@ -164,7 +164,7 @@ module _ (laws : Laws) where
 
         right : source_of f ≡ a → IsOwnRight a q (FrameHeard f verdict)
         right here =
-            notice-right m (sym (notice-there a u f apart here)) (subst (λ b. IsJudged u.now b (part b u) m f verdict) here judged)
+            meaning-right m (sym (meaning-there a u f apart here)) (subst (λ b. IsJudged u.now b (part b u) m f verdict) here judged)
 
         cases : (b : Bool) → (b ≡ true → IsOwnRight a q (FrameHeard f verdict)) → AreOwnRight a q (if_so b (FrameHeard f verdict))
         cases true is = (is refl, tt)
@@ -190,7 +190,7 @@ module _ (laws : Laws) where
       let u = lapsed t in
       let lapse = lapses-take laws a t other.small orderly.apart has in
       let same = sym (claims-lapsed t) in
-      let judged = subst (λ (c : Claimed). IsJudged u.now (source_of f) (part (source_of f) u) (notice_of c.own c.name f) f verdict) same (found has) in
+      let judged = subst (λ (c : Claimed). IsJudged u.now (source_of f) (part (source_of f) u) (meaning_of c.own c.name f) f verdict) same (found has) in
       let apart = subst (λ (c : Claimed). a ≢ c.own) same other.other in
       right-append a (bare a s) (lapses a t) (frame_happenings a u f verdict) (plain-right a (bare a s) (lapses a t) (lapses-plain a t))
       (subst (λ p. AreOwnRight a p (frame_happenings a u f verdict)) lapse.part (hearing-right a u f verdict apart lapse.has judged))
@@ -239,8 +239,8 @@ module _ (laws : Laws) where
 module _ (judging : Judging) (a : ℕ) where
   response-one : (p : AddressView) (h k : Happening) → AreAlike h k → IsOwnRight a p h → IsOwnRight a p k → response a p h ≡ response a p k
   response-one p (FrameHeard f v) (FrameHeard g w) same is too =
-      let n = frame_notice p.terminal f in
-      let right = subst (λ (x : Frame). IsJudged 0 a p (frame_notice p.terminal x) x w) (sym same) too in
+      let n = frame_meaning p.terminal f in
+      let right = subst (λ (x : Frame). IsJudged 0 a p (frame_meaning p.terminal x) x w) (sym same) too in
       ap (λ (o : AddressOutcome). cond p.lost (record { part = p; frames = [] }) (response_of p o)) (heard-one judging 0 a p n f v w is right)
       ∙ ap (λ (x : Frame). response a p (FrameHeard x w)) same
   response-one p (Operated x b) (Operated y d) same is too =

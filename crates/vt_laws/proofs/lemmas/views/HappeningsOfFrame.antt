@@ -5,7 +5,7 @@ use Rattle.std.specs.Option.{option_eq}
 use Rattle.vt_can.specs.declared.frames.frame.Frame.{Frame}
 use Rattle.vt_can.specs.frames.Frame.{source_of}
 use Rattle.vt_names.specs.Claims.{Claimed, IsRisingByName}
-use Rattle.vt_node.specs.Bus.{notice_of, frame_notice, unless_echo}
+use Rattle.vt_node.specs.Bus.{meaning_of, frame_meaning, unless_echo}
 use Rattle.vt_server.specs.shown.ShownSet.{shown_now}
 use Rattle.vt_laws.specs.Happenings.{HolderIs, FrameHeard, with_holder, by_act, part_after_all, frames_of_all, if_so, holder_change, events_at, heard_happenings, after_frame}
 use Rattle.vt_laws.specs.Responses.{Response, frames_to}
@@ -24,15 +24,15 @@ use Rattle.vt_laws.proofs.lemmas.views.OutcomesWithoutTimes.{Laws}
 use Rattle.vt_names.proofs.AddressesAfterClaim.{by_eq}
 
 -- A frame from another address than the terminal's own is no echo.
-pub notice-there : (a : ℕ) (s : State) (f : Frame) → a ≢ s.claims.own → source_of f ≡ a → notice_of s.claims.own s.claims.name f ≡ frame_notice s.claims.own f
-notice-there a s f apart is =
-    ap (λ b. cond b (unless_echo s.claims.name (frame_notice s.claims.own f)) (frame_notice s.claims.own f)) (ne_eqb (source_of f) s.claims.own (λ h. apart (sym is ∙ h)))
+pub meaning-there : (a : ℕ) (s : State) (f : Frame) → a ≢ s.claims.own → source_of f ≡ a → meaning_of s.claims.own s.claims.name f ≡ frame_meaning s.claims.own f
+meaning-there a s f apart is =
+    ap (λ b. cond b (unless_echo s.claims.name (frame_meaning s.claims.own f)) (frame_meaning s.claims.own f)) (ne_eqb (source_of f) s.claims.own (λ h. apart (sym is ∙ h)))
 
 -- ---- one frame after the timeouts and closings of its time, for an address other than the terminal's own
 
 module _ (laws : Laws) (a : ℕ) (s : State) (f : Frame) (verdict : Verdict) (rising : IsRisingByName s.claims.addresses) (apart : a ≢ s.claims.own) (has : s.lost ≡ false) where
   abbrev m : FrameMeaning
-  m = notice_of s.claims.own s.claims.name f
+  m = meaning_of s.claims.own s.claims.name f
 
   abbrev source : ℕ
   source = source_of f
@@ -86,7 +86,7 @@ module _ (laws : Laws) (a : ℕ) (s : State) (f : Frame) (verdict : Verdict) (ri
   hears-take =
       acts-take laws a rebound (heard_at_source s.claims.own source m f verdict) (lost-acts laws a recorded (changes s source m) has)
       (eqb source a) (Hears m f verdict) (FrameHeard f verdict) of-heard
-      (λ here. ap (λ n. by_act a (bare a rebound) (Hears n f verdict)) (ap (λ own. frame_notice own f) own-rebound ∙ sym (notice-there a s f apart (eqb-true source a here))))
+      (λ here. ap (λ n. by_act a (bare a rebound) (Hears n f verdict)) (ap (λ own. frame_meaning own f) own-rebound ∙ sym (meaning-there a s f apart (eqb-true source a here))))
 
   frames-defence : (b : Bool) (frame : Frame) → frames_to a (cond b (ToAll frame ∷ []) []) ≡ []
   frames-defence true frame = refl

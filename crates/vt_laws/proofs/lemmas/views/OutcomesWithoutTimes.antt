@@ -22,7 +22,7 @@ use Rattle.vt_names.specs.Claims.{OtherHoldersStay}
 use Rattle.vt_names.specs.Registry.{Set}
 use Rattle.vt_server.specs.message.MessageEffects.{handled}
 use Rattle.vt_server.specs.operator.ActionEffects.{action_on, fault_of, is_long, is_busy, message_frames, sending_after, ran}
-use Rattle.vt_server.specs.state.AddressViews.{AddressView, AddressOutcome, Act, Hears, Rebinds, Preloads, TpExpires, EtpExpires, SendingExpires, FallsSilent, Operates, Raises, unchanged, without_set, with_reply, after_change, after_claim_heard, after_master, after_member, after_message, with_frames_first, after_came, after_notice, refused_by, with_place, after_action, after_operator, outcome, untimed_part, untimed_outcome}
+use Rattle.vt_server.specs.state.AddressViews.{AddressView, AddressOutcome, Act, Hears, Rebinds, Preloads, TpExpires, EtpExpires, SendingExpires, FallsSilent, Operates, Raises, unchanged, without_set, with_reply, after_change, after_claim_heard, after_master, after_member, after_message, with_frames_first, after_came, after_meaning, refused_by, with_place, after_action, after_operator, outcome, untimed_part, untimed_outcome}
 use Rattle.vt_server.specs.state.AddressStates.{AddressState, no_content, with_content, with_pool, heard_at, untimed_place}
 use Rattle.vt_node.specs.ReceiverResults.{Taken, taken, taken_of}
 use Rattle.vt_server.specs.frame.SessionEffects.{Came, came, message_to_terminal, timeout_of, sending_timeout}
@@ -156,16 +156,16 @@ module _ (laws : Laws) where
       ∙ sym (came-timeless 0 p.terminal a x n frame))
       ∙ sym (came-outcome a p verdict (came 0 p.terminal a x n frame))
 
-  notice-timeless : (now a : ℕ) (p : AddressView) (x : AddressState) → untimed_place p.place ≡ untimed_place x → (n : FrameMeaning) (frame : Frame) (verdict : Verdict)
-      → untimed_outcome (after_notice now a p n frame verdict) ≡ untimed_outcome (after_notice 0 a (record p { place = x }) n frame verdict)
-  notice-timeless now a p x alike (Claim name) frame verdict = claim-timeless p x alike p.set
-  notice-timeless now a p x alike ClaimRequest frame verdict = carried-timeless now a p x alike ClaimRequest frame verdict
-  notice-timeless now a p x alike (Master count) frame verdict = master-timeless p x alike a p.holder count
-  notice-timeless now a p x alike (Member name) frame verdict = member-timeless p x alike p.set name
-  notice-timeless now a p x alike Message frame verdict = carried-timeless now a p x alike Message frame verdict
-  notice-timeless now a p x alike Tp frame verdict = carried-timeless now a p x alike Tp frame verdict
-  notice-timeless now a p x alike Etp frame verdict = carried-timeless now a p x alike Etp frame verdict
-  notice-timeless now a p x alike Nothing frame verdict = carried-timeless now a p x alike Nothing frame verdict
+  meaning-timeless : (now a : ℕ) (p : AddressView) (x : AddressState) → untimed_place p.place ≡ untimed_place x → (n : FrameMeaning) (frame : Frame) (verdict : Verdict)
+      → untimed_outcome (after_meaning now a p n frame verdict) ≡ untimed_outcome (after_meaning 0 a (record p { place = x }) n frame verdict)
+  meaning-timeless now a p x alike (Claim name) frame verdict = claim-timeless p x alike p.set
+  meaning-timeless now a p x alike ClaimRequest frame verdict = carried-timeless now a p x alike ClaimRequest frame verdict
+  meaning-timeless now a p x alike (Master count) frame verdict = master-timeless p x alike a p.holder count
+  meaning-timeless now a p x alike (Member name) frame verdict = member-timeless p x alike p.set name
+  meaning-timeless now a p x alike Message frame verdict = carried-timeless now a p x alike Message frame verdict
+  meaning-timeless now a p x alike Tp frame verdict = carried-timeless now a p x alike Tp frame verdict
+  meaning-timeless now a p x alike Etp frame verdict = carried-timeless now a p x alike Etp frame verdict
+  meaning-timeless now a p x alike Nothing frame verdict = carried-timeless now a p x alike Nothing frame verdict
 
 -- ---- the operator
 
@@ -210,7 +210,7 @@ operator-timeless now a p action shown (Some state) = action-timeless now a p (a
 
 pub outcome-timeless : (laws : Laws) (now a : ℕ) (p : AddressView) (h : Act) → untimed_outcome (outcome now a p h) ≡ untimed_outcome (outcome 0 a (untimed_part p) h)
 outcome-timeless laws now a p (Hears n frame verdict) =
-    notice-timeless laws now a (record p { place = heard_at now p.place }) (heard_at 0 (untimed_place p.place)) (place-twice p.place) n frame verdict
+    meaning-timeless laws now a (record p { place = heard_at now p.place }) (heard_at 0 (untimed_place p.place)) (place-twice p.place) n frame verdict
 outcome-timeless laws now a p Rebinds = change-timeless p (untimed_place p.place) (place-twice p.place) p.set
 outcome-timeless laws now a p (Preloads contents) =
     λ i. record (outcome now a p (Preloads contents)) { place = record (place-twice p.place i) { content = (outcome now a p (Preloads contents)).place.content } }

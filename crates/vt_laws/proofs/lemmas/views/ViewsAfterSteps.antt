@@ -6,7 +6,7 @@ use Rattle.vt_can.specs.lines.Actions.{ActionValue, Press, Release, Select, Numb
 use Rattle.vt_can.specs.lines.Actions as actions
 use Rattle.vt_names.specs.Claims.{Claimed, IsRisingByName}
 use Rattle.vt_stores.specs.Stores.{ObjectMap}
-use Rattle.vt_node.specs.Bus.{notice_of}
+use Rattle.vt_node.specs.Bus.{meaning_of}
 use Rattle.vt_server.specs.shown.ShownSet.{shown_now}
 use Rattle.vt_laws.specs.Happenings.{Happening, Lost, Operated, Preloaded, with_holder, response, part_after_all, frames_of_all, own_part, if_so, is_at, loses, events_at, lapses, heard_happenings, after_frame, after_action_at, frame_happenings, happenings, happenings_all, EachTakesItsOwn}
 use Rattle.vt_laws.specs.Responses.{Response, frames_to}
@@ -58,12 +58,12 @@ module _ (laws : Laws) (a : ℕ) (s : State) (orderly : IsOrderly s) (is : IsOth
 
   -- A frame after the timeouts and closings of its time.
   hearing-ends : (old u : State) (f : Frame) (verdict : Verdict) → u.claims ≡ s.claims → u.lost ≡ false
-      → let step = hearing old u (source_of f) (notice_of s.claims.own s.claims.name f) f verdict in Ends a (bare a u) step.sent step.after (frame_happenings a u f verdict)
+      → let step = hearing old u (source_of f) (meaning_of s.claims.own s.claims.name f) f verdict in Ends a (bare a u) step.sent step.after (frame_happenings a u f verdict)
   hearing-ends old u f verdict same still =
-      subst (λ (c : Claimed). let step = hearing old u (source_of f) (notice_of c.own c.name f) f verdict in Ends a (bare a u) step.sent step.after (frame_happenings a u f verdict))
+      subst (λ (c : Claimed). let step = hearing old u (source_of f) (meaning_of c.own c.name f) f verdict in Ends a (bare a u) step.sent step.after (frame_happenings a u f verdict))
       same (cases (loses u f))
     where
-      cases : (b : Bool) → let step = cond b (losing u) (acting old u (source_of f) (notice_of u.claims.own u.claims.name f) f verdict) in
+      cases : (b : Bool) → let step = cond b (losing u) (acting old u (source_of f) (meaning_of u.claims.own u.claims.name f) f verdict) in
           Ends a (bare a u) step.sent step.after (cond b (Lost ∷ []) (heard_happenings a u f verdict ++ events_at a u.shown (shown_now (after_frame u f verdict))))
       cases true = losing-ends u still
       cases false =
@@ -77,7 +77,7 @@ module _ (laws : Laws) (a : ℕ) (s : State) (orderly : IsOrderly s) (is : IsOth
   frame-ends time f verdict =
       let t = at_time s time in
       let lapse = lapses-take laws a t is.small orderly.apart has in
-      let heard = hearing s (lapsed t) (source_of f) (notice_of s.claims.own s.claims.name f) f verdict in
+      let heard = hearing s (lapsed t) (source_of f) (meaning_of s.claims.own s.claims.name f) f verdict in
       then-ends a (bare a s) (sent_by_lapses t) heard.sent (lapsed t) heard.after (lapses a t) (frame_happenings a (lapsed t) f verdict) lapse
       (hearing-ends s (lapsed t) f verdict (claims-lapsed t) lapse.has)
 

@@ -6,9 +6,9 @@ use Rattle.vt_can.specs.declared.frames.frame.Frame.{Frame}
 use Rattle.vt_can.specs.frames.Frame.{source_of}
 use Rattle.vt_names.specs.Registry.{set_at}
 use Rattle.vt_server.specs.Judgements.{IsJudged, ends_transfer}
-use Rattle.vt_server.specs.frame.FrameContracts.{Handles, TakesNotice, TakesFrame, IsNoClaim}
+use Rattle.vt_server.specs.frame.FrameContracts.{Handles, AppliesMeaning, TakesFrame, IsNoClaim}
 use Rattle.vt_server.specs.Outputs.{frames_of, outputs_of}
-use Rattle.vt_server.specs.state.AddressViews.{AddressView, AddressOutcome, Hears, after_message, after_came, after_notice, with_frames_first}
+use Rattle.vt_server.specs.state.AddressViews.{AddressView, AddressOutcome, Hears, after_message, after_came, after_meaning, with_frames_first}
 use Rattle.vt_server.specs.state.AddressStates.{AddressState, heard_at}
 use Rattle.vt_server.specs.frame.SessionEffects.{Came, came}
 use Rattle.vt_server.specs.Steps.{acted, sent_by_frame, defence, heard_at_source}
@@ -17,7 +17,7 @@ use Rattle.vt_node.specs.AddressFunctions.{with_at}
 use Rattle.vt_server.specs.message.Verdicts.{Verdict, Faulty, IsVerdict}
 use Rattle.vt_records.specs.declared.fault.PoolFault.TheVariants as faults
 use Rattle.vt_node.specs.declared.bus.FrameMeaning.{FrameMeaning}
-use Rattle.vt_node.specs.declared.bus.FrameMeaning.TheVariants as notices
+use Rattle.vt_node.specs.declared.bus.FrameMeaning.TheVariants as meanings
 use Rattle.vt_server.specs.declared.output.Output.{Output}
 use Rattle.vt_server.specs.declared.output.Output.TheVariants as declared
 use Rattle.vt_server.proofs.lemmas.acts.ComposedActs.{act-is, sent_by_one-is}
@@ -44,9 +44,9 @@ put-over a place s after = ap (λ (p : ℕ → AddressState). record (put a afte
 
 -- ---- a frame of a session, or a message
 
-module _ (s : State) (frame : Frame) (notice : FrameMeaning) (c : Came) (is : came s.now s.claims.own (source_of frame) (s.places (source_of frame)) notice frame ≡ c)
-    (after-is : (p : AddressView) (v : Verdict) → after_notice s.now (source_of frame) p notice frame v
-    ≡ after_came (source_of frame) p v (came s.now p.terminal (source_of frame) p.place notice frame))
+module _ (s : State) (frame : Frame) (meaning : FrameMeaning) (c : Came) (is : came s.now s.claims.own (source_of frame) (s.places (source_of frame)) meaning frame ≡ c)
+    (after-is : (p : AddressView) (v : Verdict) → after_meaning s.now (source_of frame) p meaning frame v
+    ≡ after_came (source_of frame) p v (came s.now p.terminal (source_of frame) p.place meaning frame))
     (same : c.place.content ≡ (s.places (source_of frame)).content) where
   abbrev a : ℕ
   a = source_of frame
@@ -54,13 +54,13 @@ module _ (s : State) (frame : Frame) (notice : FrameMeaning) (c : Came) (is : ca
   abbrev u : State
   u = with_place_at a c.place s
 
-  after-came : (v : Verdict) → after_notice s.now a (part a s) notice frame v ≡ with_frames_first c.frames (after_message a (part a u) v (part a u).set c.message)
+  after-came : (v : Verdict) → after_meaning s.now a (part a s) meaning frame v ≡ with_frames_first c.frames (after_message a (part a u) v (part a u).set c.message)
   after-came v =
       after-is (part a s) v ∙ ap (after_came a (part a s) v) is
       ∙ ap (λ (p : AddressView). with_frames_first c.frames (after_message a p v p.set c.message)) (sym (part-at a c.place s))
 
   pub takes-came : (t : State) (reply : Option Frame) (before after : List Output) → Handles u a c.message reply t
-      → after ≡ (before ++ frames_of c.frames) ++ frames_of (option_to_list reply) → TakesNotice s notice frame t before after
+      → after ≡ (before ++ frames_of c.frames) ++ frames_of (option_to_list reply) → AppliesMeaning s meaning frame t before after
   takes-came t reply before after takes sent =
       let v = takes.verdict in record {
         verdict = v;
@@ -95,80 +95,80 @@ accepted-frames a o none =
 -- ---- a frame other than a claim, from the terminal's own address or another one
 
 -- The message of a frame does not depend on the time of the last frame.
-came-heard : (now own a : ℕ) (place : AddressState) (notice : FrameMeaning) (frame : Frame)
-    → (came now own a (heard_at now place) notice frame).message ≡ (came now own a place notice frame).message
-came-heard now own a place (notices.Claim name) frame = refl
-came-heard now own a place notices.ClaimRequest frame = refl
-came-heard now own a place (notices.Master count) frame = refl
-came-heard now own a place (notices.Member name) frame = refl
-came-heard now own a place notices.Message frame = refl
-came-heard now own a place notices.Tp frame = refl
-came-heard now own a place notices.Etp frame = refl
-came-heard now own a place notices.Nothing frame = refl
+came-heard : (now own a : ℕ) (place : AddressState) (meaning : FrameMeaning) (frame : Frame)
+    → (came now own a (heard_at now place) meaning frame).message ≡ (came now own a place meaning frame).message
+came-heard now own a place (meanings.Claim name) frame = refl
+came-heard now own a place meanings.ClaimRequest frame = refl
+came-heard now own a place (meanings.Master count) frame = refl
+came-heard now own a place (meanings.Member name) frame = refl
+came-heard now own a place meanings.Message frame = refl
+came-heard now own a place meanings.Tp frame = refl
+came-heard now own a place meanings.Etp frame = refl
+came-heard now own a place meanings.Nothing frame = refl
 
-module _ (s : State) (frame : Frame) (notice : FrameMeaning) (no : IsNoClaim notice) where
+module _ (s : State) (frame : Frame) (meaning : FrameMeaning) (no : IsNoClaim meaning) where
   abbrev from : ℕ
   from = source_of frame
 
   -- A frame other than a claim has no act but the one at its source.
-  acts-are : (v : Verdict) → (acted s from notice frame v ≡ after_acts s (heard_at_source s.claims.own from notice frame v))
-      × (sent_by_frame s from notice frame v ≡ defence s from notice ++ sent_by_acts s (heard_at_source s.claims.own from notice frame v))
-  acts-are v = cases notice no
+  acts-are : (v : Verdict) → (acted s from meaning frame v ≡ after_acts s (heard_at_source s.claims.own from meaning frame v))
+      × (sent_by_frame s from meaning frame v ≡ defence s from meaning ++ sent_by_acts s (heard_at_source s.claims.own from meaning frame v))
+  acts-are v = cases meaning no
     where
       cases : (n : FrameMeaning) → IsNoClaim n → (acted s from n frame v ≡ after_acts s (heard_at_source s.claims.own from n frame v))
           × (sent_by_frame s from n frame v ≡ defence s from n ++ sent_by_acts s (heard_at_source s.claims.own from n frame v))
-      cases (notices.Claim name) none = absurd (none name refl)
-      cases notices.ClaimRequest none = (refl, refl)
-      cases (notices.Master count) none = (refl, refl)
-      cases (notices.Member name) none = (refl, refl)
-      cases notices.Message none = (refl, refl)
-      cases notices.Tp none = (refl, refl)
-      cases notices.Etp none = (refl, refl)
-      cases notices.Nothing none = (refl, refl)
+      cases (meanings.Claim name) none = absurd (none name refl)
+      cases meanings.ClaimRequest none = (refl, refl)
+      cases (meanings.Master count) none = (refl, refl)
+      cases (meanings.Member name) none = (refl, refl)
+      cases meanings.Message none = (refl, refl)
+      cases meanings.Tp none = (refl, refl)
+      cases meanings.Etp none = (refl, refl)
+      cases meanings.Nothing none = (refl, refl)
 
   -- A frame from the terminal's own address has no act.
-  pub takes-echo : (v : Verdict) (before after : List Output) → from ≡ s.claims.own → IsJudged s.now from (part from s) notice frame v
-      → after ≡ before ++ outputs_of (defence s from notice) → TakesFrame s notice frame s before after
+  pub takes-echo : (v : Verdict) (before after : List Output) → from ≡ s.claims.own → IsJudged s.now from (part from s) meaning frame v
+      → after ≡ before ++ outputs_of (defence s from meaning) → TakesFrame s meaning frame s before after
   takes-echo v before after own judged sent =
-      let none : heard_at_source s.claims.own from notice frame v ≡ [] = ap (λ b. cond b [] ((from, Hears notice frame v) ∷ [])) (eq-eqb from s.claims.own own) in record {
+      let none : heard_at_source s.claims.own from meaning frame v ≡ [] = ap (λ b. cond b [] ((from, Hears meaning frame v) ∷ [])) (eq-eqb from s.claims.own own) in record {
         verdict = v;
         judged = judged;
         state = sym ((acts-are v).0 ∙ ap (after_acts s) none);
         sent =
             sent ∙ ap (λ l. before ++ outputs_of l)
-            (sym ((acts-are v).1 ∙ ap (λ l. defence s from notice ++ sent_by_acts s l) none ∙ append-nil (defence s from notice)));
+            (sym ((acts-are v).1 ∙ ap (λ l. defence s from meaning ++ sent_by_acts s l) none ∙ append-nil (defence s from meaning)));
       }
 
   -- A frame from another address has its act there.
   abbrev heard : State
   heard = with_place_at from (heard_at s.now (s.places from)) s
 
-  pub takes-heard : (t : State) (before middle after : List Output) → from ≢ s.claims.own → middle ≡ before ++ outputs_of (defence s from notice)
-      → TakesNotice heard notice frame t middle after → ((p : AddressView) (v : Verdict) → (after_notice s.now from p notice frame v).refused ≡ None) → TakesFrame s notice frame t before after
+  pub takes-heard : (t : State) (before middle after : List Output) → from ≢ s.claims.own → middle ≡ before ++ outputs_of (defence s from meaning)
+      → AppliesMeaning heard meaning frame t middle after → ((p : AddressView) (v : Verdict) → (after_meaning s.now from p meaning frame v).refused ≡ None) → TakesFrame s meaning frame t before after
   takes-heard t before middle after ne first takes accepted =
       let v = takes.verdict in
       let p : AddressView = record (part from s) { place = heard_at s.now (s.places from) } in
-      let one : heard_at_source s.claims.own from notice frame v ≡ (from, Hears notice frame v) ∷ [] =
-      ap (λ b. cond b [] ((from, Hears notice frame v) ∷ [])) (ne_eqb from s.claims.own ne) in
+      let one : heard_at_source s.claims.own from meaning frame v ≡ (from, Hears meaning frame v) ∷ [] =
+      ap (λ b. cond b [] ((from, Hears meaning frame v) ∷ [])) (ne_eqb from s.claims.own ne) in
       let alike : part from heard ≡ p = part-at from (heard_at s.now (s.places from)) s in
-      let o = after_notice s.now from p notice frame v in record {
+      let o = after_meaning s.now from p meaning frame v in record {
         verdict = v;
         judged = λ ends.
             subst (λ (q : AddressView). IsVerdict q.place.content v) alike
             (takes.judged
-            ((λ i. ends_transfer (set_at from s.sets) (came s.now s.claims.own from (alike i).place notice frame).message)
-            ∙ ap (λ m. ends_transfer (set_at from s.sets) m) (came-heard s.now s.claims.own from (s.places from) notice frame) ∙ ends));
+            ((λ i. ends_transfer (set_at from s.sets) (came s.now s.claims.own from (alike i).place meaning frame).message)
+            ∙ ap (λ m. ends_transfer (set_at from s.sets) m) (came-heard s.now s.claims.own from (s.places from) meaning frame) ∙ ends));
         state =
-            takes.state ∙ ap (λ (q : AddressView). put from (after_notice s.now from q notice frame v) heard) alike
+            takes.state ∙ ap (λ (q : AddressView). put from (after_meaning s.now from q meaning frame v) heard) alike
             ∙ put-over from (heard_at s.now (s.places from)) s o
-            ∙ sym ((acts-are v).0 ∙ ap (after_acts s) one ∙ act-is s from (Hears notice frame v));
+            ∙ sym ((acts-are v).0 ∙ ap (after_acts s) one ∙ act-is s from (Hears meaning frame v));
         sent =
-            takes.sent ∙ ap (λ (q : AddressView). middle ++ frames_of (after_notice s.now from q notice frame v).frames) alike
+            takes.sent ∙ ap (λ (q : AddressView). middle ++ frames_of (after_meaning s.now from q meaning frame v).frames) alike
             ∙ ap (λ l. l ++ frames_of o.frames) first
-            ∙ append_assoc before (outputs_of (defence s from notice)) (frames_of o.frames)
-            ∙ ap (λ l. before ++ (outputs_of (defence s from notice) ++ l))
-            (sym (ap outputs_of (append-nil (sent_by_act s from (Hears notice frame v)) ∙ sent_by_one-is s from (Hears notice frame v)) ∙ accepted-frames from o (accepted p v)))
-            ∙ ap (λ l. before ++ l) (sym (outputs-append (defence s from notice) (sent_by_act s from (Hears notice frame v) ++ [])))
+            ∙ append_assoc before (outputs_of (defence s from meaning)) (frames_of o.frames)
+            ∙ ap (λ l. before ++ (outputs_of (defence s from meaning) ++ l))
+            (sym (ap outputs_of (append-nil (sent_by_act s from (Hears meaning frame v)) ∙ sent_by_one-is s from (Hears meaning frame v)) ∙ accepted-frames from o (accepted p v)))
+            ∙ ap (λ l. before ++ l) (sym (outputs-append (defence s from meaning) (sent_by_act s from (Hears meaning frame v) ++ [])))
             ∙ ap (λ l. before ++ outputs_of l)
-            (sym ((acts-are v).1 ∙ ap (λ l. defence s from notice ++ sent_by_acts s l) one));
+            (sym ((acts-are v).1 ∙ ap (λ l. defence s from meaning ++ sent_by_acts s l) one));
       }

@@ -9,13 +9,13 @@ use Rattle.vt_transport.specs.Protocol as tp
 use Rattle.vt_transport.specs.Wire.{tp_frame}
 use Rattle.vt_extended.specs.Protocol as etp
 use Rattle.vt_extended.specs.Wire.{etp_frame}
-use Rattle.vt_node.specs.Bus.{notice_of}
+use Rattle.vt_node.specs.Bus.{meaning_of}
 use Rattle.vt_server.specs.Judgements.{IsJudged, ends_transfer}
-use Rattle.vt_server.specs.frame.FrameContracts.{FitsMessage, FitsOneFrame, FitsCompleted, FitsMeaning, HasCapacity, HasUpload, IsNoClaim, TakesNotice, TakesFrame, TakesClaim, FinishesFrame, timely, message_by}
+use Rattle.vt_server.specs.frame.FrameContracts.{FitsMessage, FitsOneFrame, FitsCompleted, FitsMeaning, HasCapacity, HasUpload, IsNoClaim, AppliesMeaning, TakesFrame, TakesClaim, FinishesFrame, timely, message_by}
 use Rattle.vt_server.specs.frame.HoldersBeforeClaim.{AreFormer}
 use Rattle.vt_server.specs.frame.TimeoutActs.{at_time, lapsed, sent_by_lapses}
 use Rattle.vt_server.specs.Outputs.{outputs_of, frames_of}
-use Rattle.vt_server.specs.state.AddressViews.{AddressView, AddressOutcome, unchanged, after_message, after_master, after_member, after_notice, with_frames_first, with_other_set}
+use Rattle.vt_server.specs.state.AddressViews.{AddressView, AddressOutcome, unchanged, after_message, after_master, after_member, after_meaning, with_frames_first, with_other_set}
 use Rattle.vt_node.specs.Registries.{Watched}
 use Rattle.vt_server.specs.state.AddressStates.{SetPool, AddressState, heard_at}
 use Rattle.vt_node.specs.ReceiverResults.{taken}
@@ -30,7 +30,7 @@ use Rattle.vt_server.specs.message.Verdicts.{Verdict, IsVerdict}
 use Rattle.vt_server.specs.state.PoolTables.{content_of, spare_of}
 use Rattle.vt_node.specs.Watches.{heard_of}
 use Rattle.vt_node.specs.declared.bus.FrameMeaning.{FrameMeaning}
-use Rattle.vt_node.specs.declared.bus.FrameMeaning.TheVariants as notices
+use Rattle.vt_node.specs.declared.bus.FrameMeaning.TheVariants as meanings
 use Rattle.vt_server.specs.declared.frame.claim.FormerHolders.{FormerHolders}
 use Rattle.vt_server.specs.declared.input.Input.TheVariants as inputs
 use Rattle.vt_server.specs.declared.output.Output.{Output}
@@ -53,11 +53,11 @@ none-ends (Some set) ends P = absurd (true≢false (sym ends))
 
 -- a frame that is a claim request or has no meaning
 abbrev pub IsIdle : FrameMeaning → Type 0
-IsIdle notices.ClaimRequest = Unit {0}
-IsIdle notices.Nothing = Unit {0}
-IsIdle notice = ⊥
+IsIdle meanings.ClaimRequest = Unit {0}
+IsIdle meanings.Nothing = Unit {0}
+IsIdle meaning = ⊥
 
-pub takes-nothing : (s : State) (n : FrameMeaning) (frame : Frame) (outputs : List Output) → IsIdle n → TakesNotice s n frame s outputs outputs
+pub takes-nothing : (s : State) (n : FrameMeaning) (frame : Frame) (outputs : List Output) → IsIdle n → AppliesMeaning s n frame s outputs outputs
 takes-nothing s n frame outputs idle = record {
   verdict = any_verdict;
   judged = judged n idle;
@@ -71,51 +71,51 @@ takes-nothing s n frame outputs idle = record {
     p : AddressView
     p = part a s
 
-    left : (n : FrameMeaning) → IsIdle n → after_notice s.now a p n frame any_verdict ≡ unchanged p
-    left notices.ClaimRequest _ = ap (with_frames_first []) (none-left a p any_verdict p.set)
-    left notices.Nothing _ = ap (with_frames_first []) (none-left a p any_verdict p.set)
-    left (notices.Claim name) is = absurd is
-    left (notices.Master count) is = absurd is
-    left (notices.Member name) is = absurd is
-    left notices.Message is = absurd is
-    left notices.Tp is = absurd is
-    left notices.Etp is = absurd is
+    left : (n : FrameMeaning) → IsIdle n → after_meaning s.now a p n frame any_verdict ≡ unchanged p
+    left meanings.ClaimRequest _ = ap (with_frames_first []) (none-left a p any_verdict p.set)
+    left meanings.Nothing _ = ap (with_frames_first []) (none-left a p any_verdict p.set)
+    left (meanings.Claim name) is = absurd is
+    left (meanings.Master count) is = absurd is
+    left (meanings.Member name) is = absurd is
+    left meanings.Message is = absurd is
+    left meanings.Tp is = absurd is
+    left meanings.Etp is = absurd is
 
     judged : (n : FrameMeaning) → IsIdle n → IsJudged s.now a p n frame any_verdict
-    judged notices.ClaimRequest _ = λ ends. none-ends p.set ends (IsVerdict p.place.content any_verdict)
-    judged notices.Nothing _ = λ ends. none-ends p.set ends (IsVerdict p.place.content any_verdict)
-    judged (notices.Claim name) is = absurd is
-    judged (notices.Master count) is = absurd is
-    judged (notices.Member name) is = absurd is
-    judged notices.Message is = absurd is
-    judged notices.Tp is = absurd is
-    judged notices.Etp is = absurd is
+    judged meanings.ClaimRequest _ = λ ends. none-ends p.set ends (IsVerdict p.place.content any_verdict)
+    judged meanings.Nothing _ = λ ends. none-ends p.set ends (IsVerdict p.place.content any_verdict)
+    judged (meanings.Claim name) is = absurd is
+    judged (meanings.Master count) is = absurd is
+    judged (meanings.Member name) is = absurd is
+    judged meanings.Message is = absurd is
+    judged meanings.Tp is = absurd is
+    judged meanings.Etp is = absurd is
 
 -- A frame that is not a claim, a registration or a message is idle.
-pub idle-by : (n : FrameMeaning) → IsNoClaim n → ((count : ℕ) → n ≡ notices.Master count → ⊥) → ((name : ℕ) → n ≡ notices.Member name → ⊥)
-    → (n ≡ notices.Message → ⊥) → (n ≡ notices.Tp → ⊥) → (n ≡ notices.Etp → ⊥) → IsIdle n
-idle-by (notices.Claim name) claim master member message tp etp = absurd (claim name refl)
-idle-by notices.ClaimRequest claim master member message tp etp = tt
-idle-by (notices.Master count) claim master member message tp etp = absurd (master count refl)
-idle-by (notices.Member name) claim master member message tp etp = absurd (member name refl)
-idle-by notices.Message claim master member message tp etp = absurd (message refl)
-idle-by notices.Tp claim master member message tp etp = absurd (tp refl)
-idle-by notices.Etp claim master member message tp etp = absurd (etp refl)
-idle-by notices.Nothing claim master member message tp etp = tt
+pub idle-by : (n : FrameMeaning) → IsNoClaim n → ((count : ℕ) → n ≡ meanings.Master count → ⊥) → ((name : ℕ) → n ≡ meanings.Member name → ⊥)
+    → (n ≡ meanings.Message → ⊥) → (n ≡ meanings.Tp → ⊥) → (n ≡ meanings.Etp → ⊥) → IsIdle n
+idle-by (meanings.Claim name) claim master member message tp etp = absurd (claim name refl)
+idle-by meanings.ClaimRequest claim master member message tp etp = tt
+idle-by (meanings.Master count) claim master member message tp etp = absurd (master count refl)
+idle-by (meanings.Member name) claim master member message tp etp = absurd (member name refl)
+idle-by meanings.Message claim master member message tp etp = absurd (message refl)
+idle-by meanings.Tp claim master member message tp etp = absurd (tp refl)
+idle-by meanings.Etp claim master member message tp etp = absurd (etp refl)
+idle-by meanings.Nothing claim master member message tp etp = tt
 
-pub request-unclaimed : IsNoClaim notices.ClaimRequest
+pub request-unclaimed : IsNoClaim meanings.ClaimRequest
 request-unclaimed name e = subst IsIdle e tt
 
 -- A frame that is neither a claim nor a claim request is not answered with the terminal's claim.
-pub defence-none : (s : State) (a : ℕ) (n : FrameMeaning) → IsNoClaim n → (n ≡ notices.ClaimRequest → ⊥) → defence s a n ≡ []
-defence-none s a (notices.Claim name) unclaimed other = absurd (unclaimed name refl)
-defence-none s a notices.ClaimRequest unclaimed other = absurd (other refl)
-defence-none s a (notices.Master count) unclaimed other = refl
-defence-none s a (notices.Member name) unclaimed other = refl
-defence-none s a notices.Message unclaimed other = refl
-defence-none s a notices.Tp unclaimed other = refl
-defence-none s a notices.Etp unclaimed other = refl
-defence-none s a notices.Nothing unclaimed other = refl
+pub defence-none : (s : State) (a : ℕ) (n : FrameMeaning) → IsNoClaim n → (n ≡ meanings.ClaimRequest → ⊥) → defence s a n ≡ []
+defence-none s a (meanings.Claim name) unclaimed other = absurd (unclaimed name refl)
+defence-none s a meanings.ClaimRequest unclaimed other = absurd (other refl)
+defence-none s a (meanings.Master count) unclaimed other = refl
+defence-none s a (meanings.Member name) unclaimed other = refl
+defence-none s a meanings.Message unclaimed other = refl
+defence-none s a meanings.Tp unclaimed other = refl
+defence-none s a meanings.Etp unclaimed other = refl
+defence-none s a meanings.Nothing unclaimed other = refl
 
 -- A frame changes the time of the last frame of its source.
 pub heard-state : (t : Terminal) (registry : Watched) (a b : ℕ) → a ≡ b → registry.sets ≡ t.registry.sets
@@ -140,7 +140,7 @@ master-state s a count o h sets is e =
 
 pub takes-master : (s t : State) (count : ℕ) (frame : Frame) (outputs : List Output)
     → t ≡ put (source_of frame) (after_master (source_of frame) (part (source_of frame) s) (part (source_of frame) s).holder count) s
-    → TakesNotice s (notices.Master count) frame t outputs outputs
+    → AppliesMeaning s (meanings.Master count) frame t outputs outputs
 takes-master s t count frame outputs is = record {
   verdict = any_verdict;
   judged = λ ends. none-ends (part a s).set ends (IsVerdict (s.places a).content any_verdict);
@@ -167,7 +167,7 @@ member-put s a name (Some set) is = cases (has_place set)
 
 pub takes-member : (s : State) (name : ℕ) (frame : Frame) (outputs : List Output) (sets : List Set)
     → sets ≡ joining (set_at (source_of frame) s.sets) name s.sets
-    → TakesNotice s (notices.Member name) frame (record s { sets = sets }) outputs outputs
+    → AppliesMeaning s (meanings.Member name) frame (record s { sets = sets }) outputs outputs
 takes-member s name frame outputs sets is = record {
   verdict = any_verdict;
   judged = λ ends. none-ends (part a s).set ends (IsVerdict (s.places a).content any_verdict);
@@ -192,14 +192,14 @@ now-with content spare bytes (uploads.End judgement) is = is
 
 pub by-message : (n : FrameMeaning) (content : SetPool) (spare now own a : ℕ) (place : AddressState) (frame : Frame) (upload : PreparedMessage)
     → FitsMeaning n content spare (came now own a place n frame).message upload → FitsCompleted content spare (came now own a place n frame).message upload
-by-message (notices.Claim name) content spare now own a place frame upload is = tt
-by-message notices.ClaimRequest content spare now own a place frame upload is = tt
-by-message (notices.Master count) content spare now own a place frame upload is = tt
-by-message (notices.Member name) content spare now own a place frame upload is = tt
-by-message notices.Message content spare now own a place frame upload is = now-with content spare frame.bytes.items upload is
-by-message notices.Tp content spare now own a place frame upload is = is
-by-message notices.Etp content spare now own a place frame upload is = is
-by-message notices.Nothing content spare now own a place frame upload is = tt
+by-message (meanings.Claim name) content spare now own a place frame upload is = tt
+by-message meanings.ClaimRequest content spare now own a place frame upload is = tt
+by-message (meanings.Master count) content spare now own a place frame upload is = tt
+by-message (meanings.Member name) content spare now own a place frame upload is = tt
+by-message meanings.Message content spare now own a place frame upload is = now-with content spare frame.bytes.items upload is
+by-message meanings.Tp content spare now own a place frame upload is = is
+by-message meanings.Etp content spare now own a place frame upload is = is
+by-message meanings.Nothing content spare now own a place frame upload is = tt
 
 ready-judges : (o : Option Set) (m : Option (List ℕ)) (content : SetPool) (spare : ℕ) (upload : PreparedMessage)
     → (is_some o ≡ true → FitsCompleted content spare m upload) → (v : Verdict) × (ends_transfer o m ≡ true → IsVerdict content v)
@@ -224,14 +224,14 @@ upload-judges t n frame upload has =
 
 pub came-reads : (now own a : ℕ) (p q : AddressState) (n : FrameMeaning) (frame : Frame) → p.tp ≡ q.tp → p.etp ≡ q.etp
     → (came now own a p n frame).message ≡ (came now own a q n frame).message
-came-reads now own a p q (notices.Claim name) frame d e = refl
-came-reads now own a p q notices.ClaimRequest frame d e = refl
-came-reads now own a p q (notices.Master count) frame d e = refl
-came-reads now own a p q (notices.Member name) frame d e = refl
-came-reads now own a p q notices.Message frame d e = refl
-came-reads now own a p q notices.Tp frame d e = ap (λ x. message_to_terminal (taken tp.protocol now own a x frame).message) d
-came-reads now own a p q notices.Etp frame d e = ap (λ x. message_to_terminal (taken etp.protocol now own a x frame).message) e
-came-reads now own a p q notices.Nothing frame d e = refl
+came-reads now own a p q (meanings.Claim name) frame d e = refl
+came-reads now own a p q meanings.ClaimRequest frame d e = refl
+came-reads now own a p q (meanings.Master count) frame d e = refl
+came-reads now own a p q (meanings.Member name) frame d e = refl
+came-reads now own a p q meanings.Message frame d e = refl
+came-reads now own a p q meanings.Tp frame d e = ap (λ x. message_to_terminal (taken tp.protocol now own a x frame).message) d
+came-reads now own a p q meanings.Etp frame d e = ap (λ x. message_to_terminal (taken etp.protocol now own a x frame).message) e
+came-reads now own a p q meanings.Nothing frame d e = refl
 
 -- The work done in advance stays right for a terminal with the same sessions, content and capacity.
 module _ (t u : Terminal) (n : FrameMeaning) (frame : Frame) where
@@ -271,24 +271,24 @@ lapsed-upload t u n frame now upload ended time is some =
 -- ---- the frame in the step
 
 no-loss : (s : State) (a : ℕ) (n : FrameMeaning) → IsNoClaim n → is_lost_by (answer_to s a n) ≡ false
-no-loss s a (notices.Claim name) unclaimed = absurd (unclaimed name refl)
-no-loss s a notices.ClaimRequest unclaimed = refl
-no-loss s a (notices.Master count) unclaimed = refl
-no-loss s a (notices.Member name) unclaimed = refl
-no-loss s a notices.Message unclaimed = refl
-no-loss s a notices.Tp unclaimed = refl
-no-loss s a notices.Etp unclaimed = refl
-no-loss s a notices.Nothing unclaimed = refl
+no-loss s a (meanings.Claim name) unclaimed = absurd (unclaimed name refl)
+no-loss s a meanings.ClaimRequest unclaimed = refl
+no-loss s a (meanings.Master count) unclaimed = refl
+no-loss s a (meanings.Member name) unclaimed = refl
+no-loss s a meanings.Message unclaimed = refl
+no-loss s a meanings.Tp unclaimed = refl
+no-loss s a meanings.Etp unclaimed = refl
+no-loss s a meanings.Nothing unclaimed = refl
 
 claim-judged : (s : State) (a : ℕ) (frame : Frame) (n : FrameMeaning) → is_lost_by (answer_to s a n) ≡ true → IsJudged s.now a (part a s) n frame any_verdict
-claim-judged s a frame (notices.Claim name) lost = λ ends. none-ends (part a s).set ends (IsVerdict (s.places a).content any_verdict)
-claim-judged s a frame notices.ClaimRequest lost = absurd (true≢false (sym lost))
-claim-judged s a frame (notices.Master count) lost = absurd (true≢false (sym lost))
-claim-judged s a frame (notices.Member name) lost = absurd (true≢false (sym lost))
-claim-judged s a frame notices.Message lost = absurd (true≢false (sym lost))
-claim-judged s a frame notices.Tp lost = absurd (true≢false (sym lost))
-claim-judged s a frame notices.Etp lost = absurd (true≢false (sym lost))
-claim-judged s a frame notices.Nothing lost = absurd (true≢false (sym lost))
+claim-judged s a frame (meanings.Claim name) lost = λ ends. none-ends (part a s).set ends (IsVerdict (s.places a).content any_verdict)
+claim-judged s a frame meanings.ClaimRequest lost = absurd (true≢false (sym lost))
+claim-judged s a frame (meanings.Master count) lost = absurd (true≢false (sym lost))
+claim-judged s a frame (meanings.Member name) lost = absurd (true≢false (sym lost))
+claim-judged s a frame meanings.Message lost = absurd (true≢false (sym lost))
+claim-judged s a frame meanings.Tp lost = absurd (true≢false (sym lost))
+claim-judged s a frame meanings.Etp lost = absurd (true≢false (sym lost))
+claim-judged s a frame meanings.Nothing lost = absurd (true≢false (sym lost))
 
 module _ (old s : State) (n : FrameMeaning) (frame : Frame) where
   abbrev from : ℕ
@@ -322,15 +322,15 @@ module _ (old s : State) (n : FrameMeaning) (frame : Frame) where
 
   -- A recorded claim has its effect.
   pub claim-takes : (u t : State) (q name : ℕ) (former : FormerHolders) (outputs after : List Output) → TakesClaim former q u t outputs after → q ≡ from
-      → n ≡ notices.Claim name → AreFormer s from name former → former.is_defended ≡ is_defended n (answer_to s from n) → u ≡ steps.before s from n
-      → (t ≡ acted s from (notices.Claim name) frame any_verdict) × (after ≡ outputs ++ outputs_of (sent_by_frame s from (notices.Claim name) frame any_verdict))
+      → n ≡ meanings.Claim name → AreFormer s from name former → former.is_defended ≡ is_defended n (answer_to s from n) → u ≡ steps.before s from n
+      → (t ≡ acted s from (meanings.Claim name) frame any_verdict) × (after ≡ outputs ++ outputs_of (sent_by_frame s from (meanings.Claim name) frame any_verdict))
   claim-takes u t q name former outputs after takes at is are defended recorded =
       subst (λ a. TakesClaim former a u t outputs after) at takes s name frame any_verdict refl are
       (defended ∙ ap (λ m. is_defended m (answer_to s from m)) is) (recorded ∙ ap (steps.before s from) is)
 
   -- The step of a frame that is a claim.
-  pub hears-claim : (name : ℕ) (u t : State) (before middle after : List Output) → n ≡ notices.Claim name → is_lost_by (answer_to s from n) ≡ false
-      → (u ≡ acted s from (notices.Claim name) frame any_verdict) × (middle ≡ before ++ outputs_of (sent_by_frame s from (notices.Claim name) frame any_verdict))
+  pub hears-claim : (name : ℕ) (u t : State) (before middle after : List Output) → n ≡ meanings.Claim name → is_lost_by (answer_to s from n) ≡ false
+      → (u ≡ acted s from (meanings.Claim name) frame any_verdict) × (middle ≡ before ++ outputs_of (sent_by_frame s from (meanings.Claim name) frame any_verdict))
       → t ≡ with_shown_updated u → after ≡ middle ++ outputs_of (sent_by_shown_update old u) → FinishesFrame old s n frame t before after
   hears-claim name u t before middle after is kept takes left rest =
       hears-acts any_verdict u t before middle after kept
@@ -347,7 +347,7 @@ module _ (old s : State) (n : FrameMeaning) (frame : Frame) where
 -- ---- the step of a frame
 
 module _ (s : State) (time : ℕ) (frame : Frame) where
-  pub takes-line : (n : FrameMeaning) (t : State) (before middle after : List Output) → s.lost ≡ false → n ≡ notice_of s.claims.own s.claims.name frame
+  pub takes-line : (n : FrameMeaning) (t : State) (before middle after : List Output) → s.lost ≡ false → n ≡ meaning_of s.claims.own s.claims.name frame
       → middle ≡ before ++ outputs_of (sent_by_lapses (at_time s time))
       → FinishesFrame s (lapsed (at_time s time)) n frame t middle after → TakesInput s (inputs.Frame time frame) t before after
   takes-line n t before middle after kept is sent hears =
@@ -360,10 +360,10 @@ module _ (s : State) (time : ℕ) (frame : Frame) where
         state = hears.state ∙ ap (λ m. (hearing s u (source_of frame) m frame v).after) is ∙ sym (ap (λ (x : Step). x.after) whole);
         sent =
             hears.sent ∙ ap (λ m. middle ++ outputs_of (hearing s u (source_of frame) m frame v).sent) is
-            ∙ ap (λ l. l ++ outputs_of (hearing s u (source_of frame) (notice_of s.claims.own s.claims.name frame) frame v).sent) sent
-            ∙ append_assoc before (outputs_of (sent_by_lapses (at_time s time))) (outputs_of (hearing s u (source_of frame) (notice_of s.claims.own s.claims.name frame) frame v).sent)
+            ∙ ap (λ l. l ++ outputs_of (hearing s u (source_of frame) (meaning_of s.claims.own s.claims.name frame) frame v).sent) sent
+            ∙ append_assoc before (outputs_of (sent_by_lapses (at_time s time))) (outputs_of (hearing s u (source_of frame) (meaning_of s.claims.own s.claims.name frame) frame v).sent)
             ∙ ap (λ l. before ++ l)
-            (sym (outputs-append (sent_by_lapses (at_time s time)) (hearing s u (source_of frame) (notice_of s.claims.own s.claims.name frame) frame v).sent))
+            (sym (outputs-append (sent_by_lapses (at_time s time)) (hearing s u (source_of frame) (meaning_of s.claims.own s.claims.name frame) frame v).sent))
             ∙ ap (λ (x : Step). before ++ outputs_of x.sent) (sym whole);
       }
 

@@ -26,7 +26,7 @@ use Rattle.vt_server.specs.Steps.{receive_claim, answer_to, is_lost_by, is_defen
 use Rattle.vt_server.specs.Terminals.{State}
 use Rattle.vt_server.specs.state.PoolTables.{content_of, spare_of}
 use Rattle.vt_node.specs.declared.bus.FrameMeaning.{FrameMeaning}
-use Rattle.vt_node.specs.declared.bus.FrameMeaning.TheVariants as notices
+use Rattle.vt_node.specs.declared.bus.FrameMeaning.TheVariants as meanings
 use Rattle.vt_server.specs.declared.frame.claim.FormerHolders.{FormerHolders}
 use Rattle.vt_server.specs.declared.frame.step.PreparedFrame.{PreparedFrame}
 use Rattle.vt_server.specs.declared.frame.step.PreparedFrame.TheVariants as readies
@@ -42,24 +42,24 @@ use Rattle.vt_server.proofs.lemmas.timeouts.IndependenceOfClaims.{with_claims, l
 
 module _ (s u : State) (same : u.claims ≡ s.claims) where
   answer-same : (a : ℕ) (n : FrameMeaning) → answer_to s a n ≡ answer_to u a n
-  answer-same a (notices.Claim name) = ap (λ c. answer c a name) (sym same)
-  answer-same a notices.ClaimRequest = refl
-  answer-same a (notices.Master count) = refl
-  answer-same a (notices.Member name) = refl
-  answer-same a notices.Message = refl
-  answer-same a notices.Tp = refl
-  answer-same a notices.Etp = refl
-  answer-same a notices.Nothing = refl
+  answer-same a (meanings.Claim name) = ap (λ c. answer c a name) (sym same)
+  answer-same a meanings.ClaimRequest = refl
+  answer-same a (meanings.Master count) = refl
+  answer-same a (meanings.Member name) = refl
+  answer-same a meanings.Message = refl
+  answer-same a meanings.Tp = refl
+  answer-same a meanings.Etp = refl
+  answer-same a meanings.Nothing = refl
 
   claim-same : (a : ℕ) (n : FrameMeaning) → receive_claim s a n ≡ receive_claim u a n
-  claim-same a (notices.Claim name) = ap (λ c. heard c a name) (sym same)
-  claim-same a notices.ClaimRequest = sym same
-  claim-same a (notices.Master count) = sym same
-  claim-same a (notices.Member name) = sym same
-  claim-same a notices.Message = sym same
-  claim-same a notices.Tp = sym same
-  claim-same a notices.Etp = sym same
-  claim-same a notices.Nothing = sym same
+  claim-same a (meanings.Claim name) = ap (λ c. heard c a name) (sym same)
+  claim-same a meanings.ClaimRequest = sym same
+  claim-same a (meanings.Master count) = sym same
+  claim-same a (meanings.Member name) = sym same
+  claim-same a meanings.Message = sym same
+  claim-same a meanings.Tp = sym same
+  claim-same a meanings.Etp = sym same
+  claim-same a meanings.Nothing = sym same
 
   holder-same : (o : Option ℕ) → former_holder s o ≡ former_holder u o
   holder-same None = refl
@@ -78,12 +78,12 @@ now-lapsed s = lapsed-keeps (λ t. t.now ≡ s.now) (λ t a h is. ap (λ (u : St
 -- ---- the work done in advance for a message in packets
 
 abbrev IsTp : FrameMeaning → Type 0
-IsTp notices.Tp = Unit {0}
-IsTp notice = ⊥
+IsTp meanings.Tp = Unit {0}
+IsTp meaning = ⊥
 
 abbrev IsEtp : FrameMeaning → Type 0
-IsEtp notices.Etp = Unit {0}
-IsEtp notice = ⊥
+IsEtp meanings.Etp = Unit {0}
+IsEtp meaning = ⊥
 
 completed-ready : (m : Option Message) (content : SetPool) (spare : ℕ) (upload : PreparedMessage)
     → ((message : Message) → size_and_first_byte m ≡ size_and_first_byte (Some message) → FitsMessage content spare message.bytes upload)
@@ -107,7 +107,7 @@ module _ (t : Terminal) (node : NodeState) (u : Terminal) (now q : ℕ) (n : Fra
       completed-ready m (content_of u.contents b) (spare_of u.contents b) upload
       (λ message e. subst (λ c. FitsMessage (content_of u.contents c) (spare_of u.contents c) message.bytes upload) at (ready message (is ∙ e)))
 
-  pub prepared-tp : n ≡ notices.Tp → node ≡ record t.node { tp_spare = node.tp_spare } → HasCapacityFor tp.protocol (tp_frame t.node.claims.own frame) node.tp_spare
+  pub prepared-tp : n ≡ meanings.Tp → node ≡ record t.node { tp_spare = node.tp_spare } → HasCapacityFor tp.protocol (tp_frame t.node.claims.own frame) node.tp_spare
       → completed ≡ size_and_first_byte (stepped tp.protocol now (alive TP_TIMEOUT now (finite.get t.node.tp b)) (tp_frame t.node.claims.own frame)).message
       → FitsBeforeTimeouts (state_of t) u now n frame (readies.Prepared upload)
   prepared-tp is rest spare completed-is =
@@ -124,7 +124,7 @@ module _ (t : Terminal) (node : NodeState) (u : Terminal) (now q : ℕ) (n : Fra
             (message-ready (stepped tp.protocol now (alive TP_TIMEOUT now (finite.get t.node.tp b)) (tp_frame t.node.claims.own frame)).message completed-is),
       )
 
-  pub prepared-etp : n ≡ notices.Etp → node ≡ record t.node { etp_spare = node.etp_spare } → HasCapacityFor etp.protocol (etp_frame t.node.claims.own frame) node.etp_spare
+  pub prepared-etp : n ≡ meanings.Etp → node ≡ record t.node { etp_spare = node.etp_spare } → HasCapacityFor etp.protocol (etp_frame t.node.claims.own frame) node.etp_spare
       → completed ≡ size_and_first_byte (stepped etp.protocol now (alive ETP_TIMEOUT now (finite.get t.node.etp b)) (etp_frame t.node.claims.own frame)).message
       → FitsBeforeTimeouts (state_of t) u now n frame (readies.Prepared upload)
   prepared-etp is rest spare completed-is =

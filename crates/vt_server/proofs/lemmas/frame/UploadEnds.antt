@@ -3,9 +3,9 @@ use Rattle.std.proofs.Common.{◌≡◌, ℕ, true, List, Option, Some, None, is
 use Rattle.vt_can.specs.declared.frames.frame.Frame.{Frame}
 use Rattle.vt_can.specs.frames.Frame.{source_of}
 use Rattle.vt_names.specs.Registry.{Set, set_at}
-use Rattle.vt_node.specs.Bus.{notice_of}
+use Rattle.vt_node.specs.Bus.{meaning_of}
 use Rattle.vt_node.specs.declared.bus.FrameMeaning.{FrameMeaning}
-use Rattle.vt_node.specs.declared.bus.FrameMeaning.TheVariants as notices
+use Rattle.vt_node.specs.declared.bus.FrameMeaning.TheVariants as meanings
 use Rattle.vt_server.specs.Judgements.{ends_transfer}
 use Rattle.vt_server.specs.frame.FrameContracts.{FitsMessage, FitsCompleted, FitsAfterTimeouts, HasUpload, end_prepared, message_by}
 use Rattle.vt_server.specs.frame.SessionEffects.{came}
@@ -61,20 +61,20 @@ told-by (Some set) (Some bytes) content spare upload ready ends = cases upload (
 -- a frame by which the terminal may lose its address has no message
 no-message : (s : State) (a : ℕ) (n : FrameMeaning) (frame : Frame) → is_lost_by (answer_to s a n) ≡ true
     → (came s.now s.claims.own a (s.places a) n frame).message ≡ None
-no-message s a (notices.Claim name) frame lost = refl
-no-message s a notices.ClaimRequest frame lost = absurd (true≢false (sym lost))
-no-message s a (notices.Master count) frame lost = absurd (true≢false (sym lost))
-no-message s a (notices.Member name) frame lost = absurd (true≢false (sym lost))
-no-message s a notices.Message frame lost = absurd (true≢false (sym lost))
-no-message s a notices.Tp frame lost = absurd (true≢false (sym lost))
-no-message s a notices.Etp frame lost = absurd (true≢false (sym lost))
-no-message s a notices.Nothing frame lost = absurd (true≢false (sym lost))
+no-message s a (meanings.Claim name) frame lost = refl
+no-message s a meanings.ClaimRequest frame lost = absurd (true≢false (sym lost))
+no-message s a (meanings.Master count) frame lost = absurd (true≢false (sym lost))
+no-message s a (meanings.Member name) frame lost = absurd (true≢false (sym lost))
+no-message s a meanings.Message frame lost = absurd (true≢false (sym lost))
+no-message s a meanings.Tp frame lost = absurd (true≢false (sym lost))
+no-message s a meanings.Etp frame lost = absurd (true≢false (sym lost))
+no-message s a meanings.Nothing frame lost = absurd (true≢false (sym lost))
 
 -- no upload ends without a message
 none-told : (o : Option Set) (m : Option (List ℕ)) → m ≡ None → ends_transfer o m ≡ true → (P : Type 0) → P
 none-told o m none ends P = none-ends o (ap (λ (x : Option (List ℕ)). ends_transfer o x) (sym none) ∙ ends) P
 
-module _ (s : State) (t : Terminal) (n : FrameMeaning) (frame : Frame) (meaning : n ≡ notice_of s.claims.own s.claims.name frame) where
+module _ (s : State) (t : Terminal) (n : FrameMeaning) (frame : Frame) (meaning : n ≡ meaning_of s.claims.own s.claims.name frame) where
   abbrev a : ℕ
   a = source_of frame
 

@@ -13,7 +13,7 @@ use Rattle.vt_transport.specs.Wire.{tp_frame}
 use Rattle.vt_server.specs.message.Judgements.{IsEnded}
 use Rattle.vt_server.specs.Judgements.{ends_transfer}
 use Rattle.vt_server.specs.message.MessageEffects.{asked, transferred, end_handled, TRANSFER, END_OF_POOL}
-use Rattle.vt_server.specs.frame.FrameContracts.{HandlesMessage, Handles, IsReplyTo, TakesNotice, BeginsWithByte, is_other, with_content_at}
+use Rattle.vt_server.specs.frame.FrameContracts.{HandlesMessage, Handles, IsReplyTo, AppliesMeaning, BeginsWithByte, is_other, with_content_at}
 use Rattle.vt_node.specs.Messages.{message_to, technical_reply}
 use Rattle.vt_node.specs.Nodes.{NodeState, HasTaken, HasAnswered, tp_taken, etp_taken, sender_answer}
 use Rattle.vt_server.specs.Outputs.{frames_of}
@@ -29,7 +29,7 @@ use Rattle.vt_server.specs.state.PoolTables.{content_of}
 use Rattle.vt_node.specs.Watches.{heard_of}
 use Rattle.vt_server.specs.declared.pools.PoolTable.{PoolTable}
 use Rattle.vt_server.specs.declared.message.end_of_pool.Judgement.{Judgement}
-use Rattle.vt_node.specs.declared.bus.FrameMeaning.TheVariants as notices
+use Rattle.vt_node.specs.declared.bus.FrameMeaning.TheVariants as meanings
 use Rattle.vt_server.specs.declared.output.Output.{Output}
 use Rattle.vt_server.specs.declared.terminal.Terminal.{Terminal}
 use Rattle.vt_server.proofs.lemmas.message.EffectsAndReplies.{answers-by, other-handled, piece-handled, end-handled, piece-ends_none, other-ends_none}
@@ -129,9 +129,9 @@ module _ (t : Terminal) (frame : Frame) (heard : Heard) (first second : NodeStat
 
   pub tp-takes : (u : State) (q : ℕ) (message : Option (List ℕ)) (reply : Option Frame) (before after : List Output) → q ≡ source_of frame
       → message ≡ message_to_terminal (message_in heard) → Handles (state_of (record t { node = second })) q message reply u
-      → after ≡ (before ++ frames_of (frames_in heard ++ frames)) ++ frames_of (option_to_list reply) → TakesNotice (state_of t) notices.Tp frame u before after
+      → after ≡ (before ++ frames_of (frames_in heard ++ frames)) ++ frames_of (option_to_list reply) → AppliesMeaning (state_of t) meanings.Tp frame u before after
   tp-takes u q message reply before after is message-is handles sent =
-      takes-came (state_of t) frame notices.Tp tp_came refl (λ p v. refl) refl u reply before after
+      takes-came (state_of t) frame meanings.Tp tp_came refl (λ p v. refl) refl u reply before after
       (subst (λ s. Handles s (source_of frame) tp_came.message reply u) tp-state
       (subst (λ m. Handles (state_of (record t { node = second })) (source_of frame) m reply u) (message-is ∙ ap message_to_terminal taken.message)
       (subst (λ a. Handles (state_of (record t { node = second })) a message reply u) is handles)))
@@ -157,7 +157,7 @@ pub tp-takes-alone : (t : Terminal) (frame : Frame) (heard : Heard) (node : Node
     → HasTaken (tp_taken t.node t.time frame) (source_of frame) t.node.tp node.tp heard → is_some (finite.get node.sending (source_of frame)) ≡ false
     → (u : State) (q : ℕ) (message : Option (List ℕ)) (reply : Option Frame) (before after : List Output) → q ≡ source_of frame
     → message ≡ message_to_terminal (message_in heard) → Handles (state_of (record t { node = node })) q message reply u
-    → after ≡ (before ++ frames_of (frames_in heard)) ++ frames_of (option_to_list reply) → TakesNotice (state_of t) notices.Tp frame u before after
+    → after ≡ (before ++ frames_of (frames_in heard)) ++ frames_of (option_to_list reply) → AppliesMeaning (state_of t) meanings.Tp frame u before after
 tp-takes-alone t frame heard node rest taken none u q message reply before after is message-is handles sent =
     tp-takes t frame heard node node [] rest taken refl (none-answered node t.time frame none) u q message reply before after is message-is handles
     (sent ∙ ap (λ l. (before ++ frames_of l) ++ frames_of (option_to_list reply)) (sym (append-nil (frames_in heard))))
@@ -189,9 +189,9 @@ module _ (t : Terminal) (frame : Frame) (heard : Heard) (node : NodeState)
 
   pub etp-takes : (u : State) (q : ℕ) (message : Option (List ℕ)) (reply : Option Frame) (before after : List Output) → q ≡ source_of frame
       → message ≡ message_to_terminal (message_in heard) → Handles (state_of (record t { node = node })) q message reply u
-      → after ≡ (before ++ frames_of (frames_in heard)) ++ frames_of (option_to_list reply) → TakesNotice (state_of t) notices.Etp frame u before after
+      → after ≡ (before ++ frames_of (frames_in heard)) ++ frames_of (option_to_list reply) → AppliesMeaning (state_of t) meanings.Etp frame u before after
   etp-takes u q message reply before after is message-is handles sent =
-      takes-came (state_of t) frame notices.Etp etp_came refl (λ p v. refl) refl u reply before after
+      takes-came (state_of t) frame meanings.Etp etp_came refl (λ p v. refl) refl u reply before after
       (subst (λ s. Handles s (source_of frame) etp_came.message reply u) etp-state
       (subst (λ m. Handles (state_of (record t { node = node })) (source_of frame) m reply u) (message-is ∙ ap message_to_terminal taken.message)
       (subst (λ a. Handles (state_of (record t { node = node })) a message reply u) is handles)))

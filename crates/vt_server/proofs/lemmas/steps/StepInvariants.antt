@@ -8,7 +8,7 @@ use Rattle.vt_can.specs.lines.Actions as actions
 use Rattle.vt_names.specs.Claims.{Claimed, OtherHoldersStay}
 use Rattle.vt_names.specs.Registry.{AreApart, Set, set_at, with_set, is_of}
 use Rattle.vt_stores.specs.Stores.{ObjectMap}
-use Rattle.vt_node.specs.Bus.{notice_of}
+use Rattle.vt_node.specs.Bus.{meaning_of}
 use Rattle.vt_server.specs.shown.ShownSet.{choosing, shown_now, selected_now, events_of_change}
 use Rattle.vt_server.specs.state.StateInvariants.{IsOrderly, IsOther}
 use Rattle.vt_server.specs.frame.TimeoutActs.{at_time, lapsed, silences, tp_due, etp_due, sending_due, after_tp_timeouts, after_etp_timeouts, after_timeouts}
@@ -72,7 +72,7 @@ module _ (P : State → Type 0) (kept : IsKept P) where
     where
       cases : (b : Bool) → P (cond b (no_step s) (step_frame s time f verdict)).after
       cases true = is
-      cases false = hearing-keeps s (lapsed (at_time s time)) (source_of f) (notice_of s.claims.own s.claims.name f) f verdict (lapsed-keeps P kept.act (at_time s time) (kept.timed s time is))
+      cases false = hearing-keeps s (lapsed (at_time s time)) (source_of f) (meaning_of s.claims.own s.claims.name f) f verdict (lapsed-keeps P kept.act (at_time s time) (kept.timed s time is))
   step-keeps s (ActionAt action shown) is = cases s.lost
     where
       cases : (b : Bool) → P (cond b (no_step s) (step_action s action shown)).after

@@ -11,11 +11,11 @@ use Rattle.vt_server.proofs.terminal.Terminal.finish.Goals as goal
 
 pub take-requires-clause-no_claim : goal.take-requires-clause-no_claim
 take-requires-clause-no_claim c =
-    let it = subst (λ (r : PreparedFrame). FitsAfterTimeouts c.requires.ready.0 c.args.self.now c.args.notice.now c.args.frame.now r) c.in-Prepared.is c.requires.ready.1 in it.1
+    let it = subst (λ (r : PreparedFrame). FitsAfterTimeouts c.requires.ready.0 c.args.self.now c.args.meaning.now c.args.frame.now r) c.in-Prepared.is c.requires.ready.1 in it.1
 
 pub take-requires-clause-reserved : goal.take-requires-clause-reserved
 take-requires-clause-reserved c =
-    let it = subst (λ (r : PreparedFrame). FitsAfterTimeouts c.requires.ready.0 c.args.self.now c.args.notice.now c.args.frame.now r) c.in-Prepared.is c.requires.ready.1 in record {
+    let it = subst (λ (r : PreparedFrame). FitsAfterTimeouts c.requires.ready.0 c.args.self.now c.args.meaning.now c.args.frame.now r) c.in-Prepared.is c.requires.ready.1 in record {
       tp = it.2.tp;
       etp = it.2.etp;
       sets = it.2.sets;
@@ -23,11 +23,11 @@ take-requires-clause-reserved c =
 
 pub take-requires-clause-upload : goal.take-requires-clause-upload
 take-requires-clause-upload c =
-    let it = subst (λ (r : PreparedFrame). FitsAfterTimeouts c.requires.ready.0 c.args.self.now c.args.notice.now c.args.frame.now r) c.in-Prepared.is c.requires.ready.1 in it.3
+    let it = subst (λ (r : PreparedFrame). FitsAfterTimeouts c.requires.ready.0 c.args.self.now c.args.meaning.now c.args.frame.now r) c.in-Prepared.is c.requires.ready.1 in it.3
 
 pub returns-in-Loses-clause-hears : goal.returns-in-Loses-clause-hears
 returns-in-Loses-clause-hears c old s display ready =
-    let n = c.args.notice.now in
+    let n = c.args.meaning.now in
     let frame = c.args.frame.now in
     let it = subst (λ (r : PreparedFrame). FitsAfterTimeouts s c.args.self.now n frame r) c.in-Loses.is ready in
     hears-loss old s n frame (state_of c.lose.new.self) c.args.outputs.now.items c.lose.new.outputs.items it.1
@@ -36,7 +36,7 @@ returns-in-Loses-clause-hears c old s display ready =
 
 pub returns-in-Claimed-clause-hears : goal.returns-in-Claimed-clause-hears
 returns-in-Claimed-clause-hears c old s display ready =
-    let n = c.args.notice.now in
+    let n = c.args.meaning.now in
     let frame = c.args.frame.now in
     let t = c.args.self.now in
     let u = c.take_claim.new.self in
@@ -48,7 +48,7 @@ returns-in-Claimed-clause-hears c old s display ready =
 
 pub returns-in-Prepared-clause-hears : goal.returns-in-Prepared-clause-hears
 returns-in-Prepared-clause-hears c old s display ready =
-    let n = c.args.notice.now in
+    let n = c.args.meaning.now in
     let frame = c.args.frame.now in
     let it = subst (λ (r : PreparedFrame). FitsAfterTimeouts s c.args.self.now n frame r) c.in-Prepared.is ready in
     hears-other old s n frame (state_of c.args.self.now) (state_of c.take.new.self) (state_of c.update_shown-in-Prepared.new.self) c.args.outputs.now.items c.take.new.outputs.items c.update_shown-in-Prepared.new.outputs.items
@@ -57,7 +57,7 @@ returns-in-Prepared-clause-hears c old s display ready =
 pub returns-in-Claimed-clause-tells : goal.returns-in-Claimed-clause-tells
 returns-in-Claimed-clause-tells c none =
     let s = c.requires.ready.0 in
-    let n = c.args.notice.now in
+    let n = c.args.meaning.now in
     let frame = c.args.frame.now in
     let t = c.args.self.now in
     let u = c.take_claim.new.self in
