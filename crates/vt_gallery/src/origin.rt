@@ -3,11 +3,10 @@
 use crate::{GivenSet, StateFault, pool_left};
 use std::alloc::{AllocError, Global};
 use std::io::{self, Error, ErrorKind, Write};
-use vt_can::Line;
 use vt_cli::{Open, StartSet, read_file, read_pool_file};
 use vt_inspector_words::Origin;
 use vt_logs::ReplayFault;
-use vt_recorded::{LineHint, Reader};
+use vt_recorded::Survey;
 
 /// The file whose objects are drawn: the pool, or the log.
 pub(crate) fn path_of<'a>(origin: Origin<'a>) -> &'a str {
@@ -86,24 +85,8 @@ fn tell_lines<E: Write>(
     log: &[u8],
     errors: &mut E,
 ) -> Result<bool, AllocError> {
-    let mut reader = Reader::new(alloc);
-    let mut has_input = false;
-    let mut faults = 0_u64;
-    let mut number = 0_u64;
-    let mut hint = None;
-    for line in log.split(|byte| *byte == b'\n') {
-        number = number.saturating_add(1);
-        match reader.read(line)? {
-            Ok(Line::Frame { .. } | Line::Operator(_)) => has_input = true,
-            Ok(Line::Skipped(_) | Line::Comment) => {}
-            Err(fault) => {
-                if faults == 0 {
-                    hint = LineHint::of(number, fault, line);
-                }
-                faults = faults.saturating_add(1);
-            }
-        }
-    }
+    let survey = Survey::of(alloc, log)?;
+    let faults = survey.faults;
     if faults == 0 {
         return Ok(true);
     }
@@ -112,16 +95,16 @@ fn tell_lines<E: Write>(
         errors,
         "segyolant: {path}: {faults} of its lines {verb} faulty; segyolant_log trace shows each with its fault"
     );
-    if let Some(hint) = hint {
+    if let Some(hint) = survey.hint {
         let _ = writeln!(errors, "segyolant: {path}: {hint}");
     }
-    if !has_input {
+    if survey.is_unreadable() {
         let _ = writeln!(
             errors,
             "segyolant: {path}: no line could be read; expected a log such as candump -L writes"
         );
     }
-    Ok(has_input)
+    Ok(!survey.is_unreadable())
 }
 
 /// The file that a fault is about, and what may be done about it.

@@ -6,12 +6,11 @@ ghost use Rattle.vt_log_bench.specs.Statuses.{status_of};
 use crate::{Blessed, Difference, bless, differences};
 use std::alloc::{AllocError, Global};
 use std::io::{self, Error, ErrorKind, Write};
-use vt_can::Line;
-use vt_cli::{Open, Program, Save, Status, read_file, save_file};
-use vt_log_replay::{LoadedSet, new_terminal, read_set, tell_no_frame};
+use vt_cli::{Open, Program, Save, Status, save_file};
+use vt_log_replay::{LoadedSet, Log, new_terminal, read_set};
 use vt_log_words::{TerminalOptions, TestOptions};
 use vt_logs::ReplayFault;
-use vt_recorded::{LineHint, Reader};
+use vt_recorded::{LineHint, Survey};
 use vt_server::Terminal;
 
 /// The most bytes of a log.
@@ -37,10 +36,10 @@ pub fn run_test<F: Open + Save, W: Write, E: Write>(
     };
     let mut status = Status::Clean;
     for path in options.logs.iter() {
-        let found = match read_file(alloc, path, files, errors)? {
+        let found = match Log::read(alloc, path, None, files, errors)? {
             None => Status::NotJudged,
-            Some(log) if options.blesses => bench.bless(path, &log, files, out, errors)?,
-            Some(log) => bench.test(path, &log, files, out, errors)?,
+            Some(log) if options.blesses => bench.bless(&log, files, out, errors)?,
+            Some(log) => bench.test(&log, files, out, errors)?,
         };
         status = status.and(found);
     }
@@ -59,27 +58,27 @@ impl Bench<'_> {
     /// Prints the differences of a log.
     fn test<F: Program, W: Write, E: Write>(
         &self,
-        path: &str,
-        log: &[u8],
+        log: &Log<'_>,
         files: &F,
         out: &mut W,
         errors: &mut E,
     ) -> io::Result<Status> {
-        if log.len() > MOST_BYTES {
+        let (path, bytes) = (log.path(), log.bytes());
+        if bytes.len() > MOST_BYTES {
             return not_replayed(path, ReplayFault::TooLong, files, errors);
         }
-        if is_unreadable(self.alloc, log)? {
-            tell_no_frame(path, log, None, files, errors);
+        if Survey::up_to_input(self.alloc, bytes)?.is_unreadable() {
+            log.tell_no_frame(files, errors)?;
             return Ok(Status::NotJudged);
         }
         let mut terminal = self.new_terminal()?;
-        let differences = match differences(self.alloc, log, &mut terminal) {
+        let differences = match differences(self.alloc, bytes, &mut terminal) {
             Ok(differences) => differences,
             Err(fault) => return not_replayed(path, fault, files, errors),
         };
         let status = put_differences(self.alloc, path, differences.as_slice(), out)?;
         if status == Status::Found {
-            if let Some(hint) = first_hint(self.alloc, log)? {
+            if let Some(hint) = Survey::of(self.alloc, bytes)?.hint {
                 let _ = writeln!(errors, "{}: {path}: {hint}", files.name());
             }
         }
@@ -90,27 +89,27 @@ impl Bench<'_> {
     /// has neither a frame nor an action of the operator and no working set is there from the start.
     fn bless<F: Save, W: Write, E: Write>(
         &self,
-        path: &str,
-        log: &[u8],
+        log: &Log<'_>,
         files: &mut F,
         out: &mut W,
         errors: &mut E,
     ) -> io::Result<Status> {
-        if log.len() > MOST_BYTES {
+        let (path, bytes) = (log.path(), log.bytes());
+        if bytes.len() > MOST_BYTES {
             return not_replayed(path, ReplayFault::TooLong, files, errors);
         }
-        let form = LineHint::first_in(log).and_then(LineHint::form);
-        if form.is_some() || is_unreadable(self.alloc, log)? {
-            tell_no_frame(path, log, None, files, errors);
+        let survey = Survey::of(self.alloc, bytes)?;
+        if survey.is_unreadable() || survey.hint.and_then(LineHint::form).is_some() {
+            log.tell_no_frame(files, errors)?;
             return Ok(Status::NotJudged);
         }
         let mut terminal = self.new_terminal()?;
-        match bless(self.alloc, log, &mut terminal) {
+        match bless(self.alloc, bytes, &mut terminal) {
             Ok(blessed) if blessed.inputs == 0 && self.set.is_none() => {
-                tell_no_frame(path, log, None, files, errors);
+                log.tell_no_frame(files, errors)?;
                 Ok(Status::NotJudged)
             }
-            Ok(blessed) => write_blessed(path, log, &blessed, files, out, errors),
+            Ok(blessed) => write_blessed(path, bytes, &blessed, files, out, errors),
             Err(fault) => not_replayed(path, fault, files, errors),
         }
     }
@@ -119,33 +118,6 @@ impl Bench<'_> {
     fn new_terminal(&self) -> io::Result<Terminal> {
         new_terminal(self.alloc, self.terminal, None, self.set)
     }
-}
-
-/// Whether a log has faulty lines, and no line that is a frame or an action of the operator.
-fn is_unreadable(alloc: Global, log: &[u8]) -> Result<bool, AllocError> {
-    let mut reader = Reader::new(alloc);
-    let mut is_faulty = false;
-    for line in log.split(|byte| *byte == b'\n') {
-        match reader.read(line)? {
-            Ok(Line::Frame { .. } | Line::Operator(_)) => return Ok(false),
-            Ok(Line::Skipped(_) | Line::Comment) => {}
-            Err(_) => is_faulty = true,
-        }
-    }
-    Ok(is_faulty)
-}
-
-/// The likely cause of the first fault in a log. `None` if no line is faulty, or the line does not show the cause.
-fn first_hint(alloc: Global, log: &[u8]) -> Result<Option<LineHint>, AllocError> {
-    let mut reader = Reader::new(alloc);
-    let mut number = 0_u64;
-    for line in log.split(|byte| *byte == b'\n') {
-        number = number.saturating_add(1);
-        if let Err(fault) = reader.read(line)? {
-            return Ok(LineHint::of(number, fault, line));
-        }
-    }
-    Ok(None)
 }
 
 /// Writes a blessed log in place of the log, unless they are the same. Writes to `errors` how many lines are faulty.

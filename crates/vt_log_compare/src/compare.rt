@@ -1,12 +1,12 @@
 //! The subcommand `compare`.
 
 use crate::told::Telling;
-use std::alloc::{AllocError, Global};
+use std::alloc::Global;
 use std::io::{self, Write};
 use vt_answers::{Comparison, Difference};
 use vt_can::{Line, LineFault};
 use vt_cli::{Open, Program, Status};
-use vt_log_replay::{LogReader, Messages, Replay, line_ends};
+use vt_log_replay::{Messages, Pass, Replay};
 use vt_log_words::{CompareOptions, ReplayOptions};
 use vt_server::Terminal;
 
@@ -25,13 +25,11 @@ pub fn run_compare<F: Open, W: Write, E: Messages>(
         return Ok(Status::NotJudged);
     };
     if !replay.recorded.has_frames {
-        replay.tell_no_frame(files, errors);
+        replay.log.tell_no_frame(files, errors)?;
         return Ok(Status::NotJudged);
     }
-    let mut reader = replay.reader();
     if !replay.recorded.has_messages {
-        replay.read_lines(&mut reader)?;
-        replay.tell_lines(&reader, files, errors);
+        replay.log.pass(&mut (), files, out, errors)?;
         tell_no_message(&options.replay, files, errors);
         return Ok(Status::NotJudged);
     }
@@ -40,11 +38,16 @@ pub fn run_compare<F: Open, W: Write, E: Messages>(
         names: &replay.names,
         format: options.format,
     };
-    let mut run = Run::new(alloc, options.wait, replay.terminal()?);
-    let status = run.compare(&replay, &mut reader, &telling, out, errors)?;
-    replay.tell_lines(&reader, files, errors);
+    for load in replay.recorded.loads.iter() {
+        if !replay.has_pool_of(load.source) {
+            telling.put_load(*load, out)?;
+        }
+    }
+    let mut run = Run::new(alloc, options.wait, replay.terminal()?, telling);
+    replay.log.pass(&mut run, files, out, errors)?;
+    run.end(out)?;
     replay.tell_loss(&run.terminal, files, errors);
-    Ok(status)
+    Ok(run.status)
 }
 
 /// Writes to `errors` that the log has no message of the recorded terminal.
@@ -60,75 +63,64 @@ fn tell_no_message<F: Program, E: Write>(options: &ReplayOptions<'_>, files: &F,
 
 /// A comparison in progress.
 #[derive(Drop)]
-struct Run {
+struct Run<'a> {
     terminal: Terminal,
     comparison: Comparison,
     differences: Vec<Difference>,
+    telling: Telling<'a>,
+    status: Status,
 }
 
-impl Run {
+impl<'a> Run<'a> {
     /// A comparison before the first line, in which an answer may take so many milliseconds.
-    fn new(alloc: Global, wait: u32, terminal: Terminal) -> Run {
+    fn new(alloc: Global, wait: u32, terminal: Terminal, telling: Telling<'a>) -> Run<'a> {
         let wait = u64::from(wait) * MILLISECOND;
         Run {
             comparison: Comparison::new(alloc, wait, &terminal),
             terminal,
             differences: Vec::new(alloc),
+            telling,
+            status: Status::Clean,
         }
     }
 
-    /// Writes the stored pools that a log lacks, the differences of its lines, and their counts.
-    fn compare<W: Write, E: Messages>(
-        &mut self,
-        replay: &Replay<'_>,
-        reader: &mut LogReader<'_>,
-        telling: &Telling<'_>,
-        out: &mut W,
-        errors: &mut E,
-    ) -> io::Result<Status> {
-        for load in replay.recorded.loads.iter() {
-            if !replay.has_pool_of(load.source) {
-                telling.put_load(*load, out)?;
-            }
-        }
-        let mut status = Status::Clean;
-        let mut cursor = replay.cursor();
-        for end in line_ends(replay.text()) {
-            self.take_line(reader.read(cursor.next_line(end))?)?;
-            cursor.tell_progress(errors);
-            if !self.differences.is_empty() {
-                status = status.and(self.put_differences(telling, out)?);
-            }
-        }
+    /// Writes the differences that the end of the log brings about, and the counts of all.
+    fn end<W: Write>(&mut self, out: &mut W) -> io::Result<()> {
         self.comparison.end(&mut self.differences)?;
-        status = status.and(self.put_differences(telling, out)?);
-        telling.put_tally(self.comparison.tally, out)?;
-        Ok(status)
-    }
-
-    /// Processes the next line of a log, as it was read.
-    fn take_line(&mut self, reading: Result<Line<'_>, LineFault>) -> Result<(), AllocError> {
-        // A log has fewer lines than there are numbers.
-        let Some(number) = self.comparison.line.checked_add(1) else {
-            return Ok(());
-        };
-        self.comparison
-            .take_line(number, reading, &mut self.terminal, &mut self.differences)
+        self.put_differences(out)?;
+        self.telling.put_tally(self.comparison.tally, out)
     }
 
     /// Writes the differences that are certain, and removes them.
-    fn put_differences<W: Write>(
-        &mut self,
-        telling: &Telling<'_>,
-        out: &mut W,
-    ) -> io::Result<Status> {
-        if self.differences.is_empty() {
-            return Ok(Status::Clean);
-        }
+    fn put_differences<W: Write>(&mut self, out: &mut W) -> io::Result<()> {
         for difference in self.differences.iter() {
-            telling.put_difference(difference, out)?;
+            self.status = Status::Found;
+            self.telling.put_difference(difference, out)?;
         }
         self.differences.clear();
-        Ok(Status::Found)
+        Ok(())
+    }
+}
+
+impl<F, W: Write, E> Pass<F, W, E> for Run<'_> {
+    /// Compares a line, and writes the differences that are certain then.
+    fn line(
+        &mut self,
+        _number: u64,
+        reading: Result<Line<'_>, LineFault>,
+        _files: &mut F,
+        out: &mut W,
+        _errors: &mut E,
+    ) -> io::Result<()> {
+        // A log has fewer lines than there are numbers.
+        let Some(line) = self.comparison.line.checked_add(1) else {
+            return Ok(());
+        };
+        self.comparison
+            .take_line(line, reading, &mut self.terminal, &mut self.differences)?;
+        if self.differences.is_empty() {
+            return Ok(());
+        }
+        self.put_differences(out)
     }
 }

@@ -7,13 +7,13 @@ use crate::{Message, Upload, Uploads};
 use std::alloc::{AllocError, Global};
 use std::io::{self, Write};
 use vt_can::assigned::ECU_TO_VT;
-use vt_can::{Frame, Line};
-use vt_cli::{Open, Save, Status, make_folder, read_file, read_names, save_file};
+use vt_can::{Frame, Line, LineFault};
+use vt_cli::{Open, Save, Status, make_folder, read_names, save_file};
 use vt_findings_text::{Item, Names, Source};
 use vt_frames_text::PoolRequest;
 use vt_inspect::inspect;
 use vt_listen::{Broken, Listener};
-use vt_log_replay::{LineCursor, LogReader, Messages, line_ends, tell_no_frame, text_of};
+use vt_log_replay::{Log, Messages, Pass};
 use vt_log_words::{Format, PoolsOptions};
 
 /// Prints every upload of a log, and the verdict on it.
@@ -27,7 +27,7 @@ pub fn run_pools<F: Open + Save, W: Write, E: Messages>(
     let Some(names) = read_names(alloc, options.names.as_slice(), files, errors)? else {
         return Ok(Status::NotJudged);
     };
-    let Some(log) = read_file(alloc, options.log, files, errors)? else {
+    let Some(log) = Log::read(alloc, options.log, options.interface, files, errors)? else {
         return Ok(Status::NotJudged);
     };
     let folder = options.folder.map(|folder| folder.trim_end_matches('/'));
@@ -36,106 +36,67 @@ pub fn run_pools<F: Open + Save, W: Write, E: Messages>(
             return Ok(Status::NotJudged);
         }
     }
-    let report = Report {
-        alloc,
-        folder,
-        interface: options.interface,
-        names: &names,
-        format: options.format,
+    let mut hearing = Hearing {
+        report: Report {
+            alloc,
+            folder,
+            names: &names,
+            format: options.format,
+        },
+        listener: Listener::new(alloc),
+        uploads: Uploads::new(alloc),
+        broken: Vec::new(alloc),
+        sets: Sets::new(alloc),
+        status: Status::Clean,
     };
-    report.tell_log(options.log, text_of(&log), files, out, errors)
+    if !log.pass(&mut hearing, files, out, errors)? {
+        return Ok(Status::NotJudged);
+    }
+    hearing.put_unended(out)?;
+    Ok(hearing.status)
 }
 
 /// What was received of uploads in a log.
 #[derive(Drop)]
-struct Hearing {
+struct Hearing<'a> {
+    report: Report<'a>,
     listener: Listener,
     uploads: Uploads,
     broken: Vec<Broken>,
     sets: Sets,
+    status: Status,
 }
 
-impl Hearing {
-    /// Nothing was received. Does not allocate.
-    fn new(alloc: Global) -> Hearing {
-        Hearing {
-            listener: Listener::new(alloc),
-            uploads: Uploads::new(alloc),
-            broken: Vec::new(alloc),
-            sets: Sets::new(alloc),
-        }
-    }
-}
-
-/// How the pools of a log are reported.
-#[derive(Clone, Copy, Drop)]
-struct Report<'a> {
-    alloc: Global,
-    folder: Option<&'a str>,
-    interface: Option<&'a str>,
-    names: &'a Names,
-    format: Format,
-}
-
-impl Report<'_> {
-    /// Reports each upload of a log, each request about pools, and each transfer and upload that did not end.
-    fn tell_log<F: Open + Save, W: Write, E: Messages>(
-        &self,
-        path: &str,
-        log: &[u8],
+impl<F: Save, W: Write, E: Messages> Pass<F, W, E> for Hearing<'_> {
+    /// Reports what a line brings about.
+    fn line(
+        &mut self,
+        number: u64,
+        reading: Result<Line<'_>, LineFault>,
         files: &mut F,
         out: &mut W,
         errors: &mut E,
-    ) -> io::Result<Status> {
-        let mut hearing = Hearing::new(self.alloc);
-        let mut reader = LogReader::new(self.alloc, self.interface);
-        let status = self.tell_lines(log, &mut reader, &mut hearing, files, out, errors)?;
-        reader.tell_lines(path, files, errors);
-        if !reader.has_frames() {
-            tell_no_frame(path, log, self.interface, files, errors);
-            return Ok(Status::NotJudged);
+    ) -> io::Result<()> {
+        match reading {
+            Ok(Line::Frame { frame, .. }) => self.hear(number, &frame, files, out, errors),
+            _ => Ok(()),
         }
-        let found = self.tell_unended(&mut hearing, out)?;
-        Ok(status.and(found))
     }
+}
 
-    /// Reports what each line of a log brings about.
-    fn tell_lines<F: Save, W: Write, E: Messages>(
-        &self,
-        log: &[u8],
-        reader: &mut LogReader<'_>,
-        hearing: &mut Hearing,
-        files: &mut F,
-        out: &mut W,
-        errors: &mut E,
-    ) -> io::Result<Status> {
-        let mut status = Status::Clean;
-        let mut cursor = LineCursor::new(log);
-        for end in line_ends(log) {
-            let line = cursor.next_line(end);
-            let number = cursor.number();
-            cursor.tell_progress(errors);
-            if let Ok(Line::Frame { frame, .. }) = reader.read(line)? {
-                let found = self.tell_frame(number, &frame, hearing, files, out, errors)?;
-                status = status.and(found);
-            }
-        }
-        Ok(status)
-    }
-
+impl Hearing<'_> {
     /// Reports what the frame of a line brings about.
-    fn tell_frame<F: Save, W: Write, E: Write>(
-        &self,
+    fn hear<F: Save, W: Write, E: Write>(
+        &mut self,
         line: u64,
         frame: &Frame,
-        hearing: &mut Hearing,
         files: &mut F,
         out: &mut W,
         errors: &mut E,
-    ) -> io::Result<Status> {
+    ) -> io::Result<()> {
         if frame.id.pgn() == ECU_TO_VT {
             let Some(destination) = frame.id.destination() else {
-                return Ok(Status::Clean);
+                return Ok(());
             };
             let message = Message {
                 line,
@@ -143,11 +104,11 @@ impl Report<'_> {
                 destination,
                 bytes: frame.bytes.as_slice(),
             };
-            return self.tell_message(message, hearing, files, out, errors);
+            return self.hear_message(message, files, out, errors);
         }
-        hearing.broken.clear();
-        let sent = hearing.listener.hear(frame, &mut hearing.broken)?;
-        let found = self.tell_broken(line, hearing.broken.as_slice(), out)?;
+        self.broken.clear();
+        let sent = self.listener.hear(frame, &mut self.broken)?;
+        self.put_broken(Some(line), out)?;
         match sent {
             Some(sent) if sent.pgn == ECU_TO_VT => {
                 let message = Message {
@@ -156,75 +117,92 @@ impl Report<'_> {
                     destination: sent.destination,
                     bytes: &sent.bytes,
                 };
-                Ok(found.and(self.tell_message(message, hearing, files, out, errors)?))
+                self.hear_message(message, files, out, errors)
             }
-            _ => Ok(found),
+            _ => Ok(()),
         }
     }
 
-    /// Reports the transfers that a line ends before they are whole.
-    fn tell_broken<W: Write>(
-        &self,
-        line: u64,
-        broken: &[Broken],
-        out: &mut W,
-    ) -> io::Result<Status> {
-        let mut status = Status::Clean;
-        for broken in broken {
-            status = Status::Found;
-            put_broken(self.alloc, Some(line), *broken, self.format, out)?;
+    /// Reports the transfers that end before they are whole: at a line, or with the log.
+    fn put_broken<W: Write>(&mut self, line: Option<u64>, out: &mut W) -> io::Result<()> {
+        let Report { alloc, format, .. } = self.report;
+        for broken in self.broken.iter() {
+            self.status = self.status.and(Status::Found);
+            put_broken(alloc, line, *broken, format, out)?;
         }
-        Ok(status)
+        Ok(())
     }
 
     /// Reports what a message to a terminal brings about.
-    fn tell_message<F: Save, W: Write, E: Write>(
-        &self,
+    fn hear_message<F: Save, W: Write, E: Write>(
+        &mut self,
         message: Message<'_>,
-        hearing: &mut Hearing,
         files: &mut F,
         out: &mut W,
         errors: &mut E,
-    ) -> io::Result<Status> {
+    ) -> io::Result<()> {
+        let Report { alloc, format, .. } = self.report;
         if let Some(request) = PoolRequest::in_message(message.bytes) {
             if matches!(request, PoolRequest::DeletePool) {
-                hearing.sets.delete(message.source, message.destination);
+                self.sets.delete(message.source, message.destination);
             }
-            put_request(self.alloc, message, request, self.format, out)?;
+            put_request(alloc, message, request, format, out)?;
         }
-        match hearing.uploads.take(message)? {
-            Some(upload) => {
-                let sets = &mut hearing.sets;
-                self.tell_upload(message.line, &upload, sets, files, out, errors)
-            }
-            None => Ok(Status::Clean),
+        if let Some(upload) = self.uploads.take(message)? {
+            let found = self.judge(message.line, &upload, files, out, errors)?;
+            self.status = self.status.and(found);
         }
+        Ok(())
     }
 
     /// Reports an upload that has ended, and writes its pool.
-    fn tell_upload<F: Save, W: Write, E: Write>(
-        &self,
+    fn judge<F: Save, W: Write, E: Write>(
+        &mut self,
         line: u64,
         upload: &Upload,
-        sets: &mut Sets,
         files: &mut F,
         out: &mut W,
         errors: &mut E,
     ) -> io::Result<Status> {
-        let number = sets.next_number(upload.source)?;
-        let path = self.path_of(upload.source, number)?;
-        let objects = sets.objects(upload.source, upload.destination);
+        let report = self.report;
+        let number = self.sets.next_number(upload.source)?;
+        let path = report.path_of(upload.source, number)?;
+        let objects = self.sets.objects(upload.source, upload.destination);
         let is_update = objects.is_some();
-        let verdict = Verdict::of_upload(self.alloc, &upload.bytes, objects)?;
+        let verdict = Verdict::of_upload(report.alloc, &upload.bytes, objects)?;
         let end = UploadEnd { line, is_update };
-        self.put_verdict(end, upload, &verdict, path.as_str(), out)?;
-        let found = sets.judge(upload, verdict)?;
-        if self.folder.is_some() && !save_file(path.as_str(), &upload.bytes, files, errors)? {
+        report.put_verdict(end, upload, &verdict, path.as_str(), out)?;
+        let found = self.sets.judge(upload, verdict)?;
+        if report.folder.is_some() && !save_file(path.as_str(), &upload.bytes, files, errors)? {
             return Ok(Status::NotJudged);
         }
         Ok(found)
     }
 
+    /// Reports the transfers and uploads that are not ended.
+    fn put_unended<W: Write>(&mut self, out: &mut W) -> io::Result<()> {
+        self.broken.clear();
+        self.listener.unended(&mut self.broken)?;
+        self.put_broken(None, out)?;
+        let Report { alloc, format, .. } = self.report;
+        for upload in self.uploads.unended() {
+            self.status = self.status.and(Status::Found);
+            put_unended(alloc, upload, format, out)?;
+        }
+        Ok(())
+    }
+}
+
+/// How the pools of a log are reported.
+#[derive(Clone, Copy, Drop)]
+struct Report<'a> {
+    alloc: Global,
+    folder: Option<&'a str>,
+    names: &'a Names,
+    format: Format,
+}
+
+impl Report<'_> {
     /// The path of the file for the upload of an implement that has this number.
     fn path_of(&self, source: u8, number: u64) -> Result<String, AllocError> {
         match self.folder {
@@ -273,21 +251,5 @@ impl Report<'_> {
             put_finding(self.alloc, &source, Item::Note(*note), self.format, out)?;
         }
         Ok(())
-    }
-
-    /// Reports the transfers and uploads that are not ended.
-    fn tell_unended<W: Write>(&self, hearing: &mut Hearing, out: &mut W) -> io::Result<Status> {
-        let mut status = Status::Clean;
-        hearing.broken.clear();
-        hearing.listener.unended(&mut hearing.broken)?;
-        for broken in hearing.broken.iter() {
-            status = Status::Found;
-            put_broken(self.alloc, None, *broken, self.format, out)?;
-        }
-        for upload in hearing.uploads.unended() {
-            status = Status::Found;
-            put_unended(self.alloc, upload, self.format, out)?;
-        }
-        Ok(status)
     }
 }

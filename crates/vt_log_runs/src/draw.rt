@@ -4,8 +4,9 @@ use crate::picture::picture_shown;
 use std::alloc::Global;
 use std::io::{self, Write};
 use std::mem;
+use vt_can::{Line, LineFault};
 use vt_cli::{Open, Save, Status, make_folder, save_file};
-use vt_log_replay::{Messages, Replay, input_of, line_ends};
+use vt_log_replay::{Messages, Pass, Replay, input_of};
 use vt_log_words::DrawOptions;
 use vt_needs::TERMINAL_SIZES;
 use vt_server::{Output, Terminal};
@@ -23,7 +24,7 @@ pub fn run_draw<F: Open + Save, W: Write, E: Messages>(
     };
     let folder = options.folder.trim_end_matches('/');
     if !replay.recorded.has_frames {
-        replay.tell_no_frame(files, errors);
+        replay.log.tell_no_frame(files, errors)?;
         return Ok(Status::NotJudged);
     }
     if !make_folder(folder, files, errors)? {
@@ -36,8 +37,12 @@ pub fn run_draw<F: Open + Save, W: Write, E: Messages>(
         screen: Vec::new(alloc),
         drawn: Vec::new(alloc),
         outputs: Vec::new(alloc),
+        status: Status::Clean,
     };
-    gallery.draw(&replay, files, out, errors)
+    gallery.look(0, files, out, errors)?;
+    replay.log.pass(&mut gallery, files, out, errors)?;
+    replay.tell_loss(&gallery.terminal, files, errors);
+    Ok(gallery.status)
 }
 
 /// The pictures of a replay.
@@ -51,35 +56,29 @@ struct Gallery<'a> {
     /// The buffer for the next text.
     drawn: Vec<u8>,
     outputs: Vec<Output>,
+    status: Status,
 }
 
-impl Gallery<'_> {
-    /// Draws the screens of a log.
-    fn draw<F: Open + Save, W: Write, E: Messages>(
+impl<F: Save, W: Write, E: Messages> Pass<F, W, E> for Gallery<'_> {
+    /// Gives the input of a line to the terminal, and draws the screen if its text has changed.
+    fn line(
         &mut self,
-        replay: &Replay<'_>,
+        number: u64,
+        reading: Result<Line<'_>, LineFault>,
         files: &mut F,
         out: &mut W,
         errors: &mut E,
-    ) -> io::Result<Status> {
-        let mut status = self.look(0, files, out, errors)?;
-        let mut reader = replay.reader();
-        let mut cursor = replay.cursor();
-        for end in line_ends(replay.text()) {
-            let line = cursor.next_line(end);
-            cursor.tell_progress(errors);
-            if let Some(input) = input_of(reader.read(line)?) {
-                self.outputs.clear();
-                self.terminal.step(&input, &mut self.outputs)?;
-                let found = self.look(cursor.number(), files, out, errors)?;
-                status = status.and(found);
-            }
-        }
-        replay.tell_lines(&reader, files, errors);
-        replay.tell_loss(&self.terminal, files, errors);
-        Ok(status)
+    ) -> io::Result<()> {
+        let Some(input) = input_of(reading) else {
+            return Ok(());
+        };
+        self.outputs.clear();
+        self.terminal.step(&input, &mut self.outputs)?;
+        self.look(number, files, out, errors)
     }
+}
 
+impl Gallery<'_> {
     /// Draws the screen after a line, if its text has changed.
     fn look<F: Save, W: Write, E: Write>(
         &mut self,
@@ -87,17 +86,20 @@ impl Gallery<'_> {
         files: &mut F,
         out: &mut W,
         errors: &mut E,
-    ) -> io::Result<Status> {
+    ) -> io::Result<()> {
         if !self.terminal.redraws() {
-            return Ok(Status::Clean);
+            return Ok(());
         }
         self.drawn.clear();
         self.terminal.screen(&mut self.drawn)?;
         if self.drawn == self.screen {
-            return Ok(Status::Clean);
+            return Ok(());
         }
         mem::swap(&mut self.screen, &mut self.drawn);
-        self.put_picture(number, files, out, errors)
+        self.status = self
+            .status
+            .and(self.put_picture(number, files, out, errors)?);
+        Ok(())
     }
 
     /// Writes the picture of the screen after a line, and names it by the first line of the screen's text.

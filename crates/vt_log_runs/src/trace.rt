@@ -2,8 +2,9 @@
 
 use std::alloc::Global;
 use std::io::{self, Write};
+use vt_can::{Line, LineFault};
 use vt_cli::{Open, Status};
-use vt_log_replay::{LogReader, Messages, Replay, line_ends};
+use vt_log_replay::{Messages, Pass, Replay};
 use vt_log_words::ReplayOptions;
 use vt_server::Terminal;
 use vt_trace::Tracer;
@@ -19,37 +20,40 @@ pub fn run_trace<F: Open, W: Write, E: Messages>(
     let Some(replay) = Replay::read(alloc, options, files, errors)? else {
         return Ok(Status::NotJudged);
     };
-    let mut terminal = replay.terminal()?;
-    let mut reader = replay.reader();
-    trace(alloc, &replay, &mut reader, &mut terminal, out, errors)?;
-    replay.tell_lines(&reader, files, errors);
-    if !replay.recorded.has_frames {
-        replay.tell_no_frame(files, errors);
+    let terminal = replay.terminal()?;
+    let mut trace = Trace {
+        tracer: Tracer::new(alloc, &replay.names, &terminal)?,
+        terminal,
+        text: Vec::new(alloc),
+    };
+    if !replay.log.pass(&mut trace, files, out, errors)? {
         return Ok(Status::NotJudged);
     }
-    replay.tell_loss(&terminal, files, errors);
+    replay.tell_loss(&trace.terminal, files, errors);
     Ok(Status::Clean)
 }
 
-/// Prints the trace of the lines of a log.
-fn trace<W: Write, E: Messages>(
-    alloc: Global,
-    replay: &Replay<'_>,
-    reader: &mut LogReader<'_>,
-    terminal: &mut Terminal,
-    out: &mut W,
-    errors: &mut E,
-) -> io::Result<()> {
-    let mut tracer = Tracer::new(alloc, &replay.names, terminal)?;
-    let mut text = Vec::new(alloc);
-    let mut cursor = replay.cursor();
-    for end in line_ends(replay.text()) {
-        let line = cursor.next_line(end);
-        cursor.tell_progress(errors);
-        text.clear();
-        let reading = reader.read(line)?;
-        tracer.trace_line(cursor.number(), &reading, terminal, &mut text)?;
-        out.write_all(&text)?;
+/// A trace in progress.
+#[derive(Drop)]
+struct Trace<'a> {
+    tracer: Tracer<'a>,
+    terminal: Terminal,
+    text: Vec<u8>,
+}
+
+impl<F, W: Write, E> Pass<F, W, E> for Trace<'_> {
+    /// Prints a line in words.
+    fn line(
+        &mut self,
+        number: u64,
+        reading: Result<Line<'_>, LineFault>,
+        _files: &mut F,
+        out: &mut W,
+        _errors: &mut E,
+    ) -> io::Result<()> {
+        self.text.clear();
+        self.tracer
+            .trace_line(number, &reading, &mut self.terminal, &mut self.text)?;
+        out.write_all(&self.text)
     }
-    Ok(())
 }

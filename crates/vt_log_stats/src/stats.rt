@@ -1,12 +1,12 @@
 //! The subcommand `stats`.
 
 use crate::fields::Fields;
-use std::alloc::{AllocError, Global};
+use std::alloc::Global;
 use std::io::{self, Write};
 use vt_can::{Line, LineFault};
 use vt_cli::{Open, Status};
 use vt_findings_text::Names;
-use vt_log_replay::{LogReader, Messages, Replay, input_of, line_ends};
+use vt_log_replay::{Messages, Pass, Replay, input_of};
 use vt_log_words::{Format, StatsOptions};
 use vt_reach::{Reach, ReachText};
 use vt_server::{Output, Terminal};
@@ -24,7 +24,7 @@ pub fn run_stats<F: Open, W: Write, E: Messages>(
         return Ok(Status::NotJudged);
     };
     if !replay.recorded.has_frames {
-        replay.tell_no_frame(files, errors);
+        replay.log.tell_no_frame(files, errors)?;
         return Ok(Status::NotJudged);
     }
     let terminal = replay.terminal()?;
@@ -35,10 +35,8 @@ pub fn run_stats<F: Open, W: Write, E: Messages>(
         reach,
         outputs: Vec::new(alloc),
     };
-    let mut reader = replay.reader();
-    run.take_lines(&replay, &mut reader, errors)?;
+    replay.log.pass(&mut run, files, out, errors)?;
     run.put(&replay.names, options.format, alloc, out)?;
-    replay.tell_lines(&reader, files, errors);
     replay.tell_loss(&run.terminal, files, errors);
     Ok(Status::Clean)
 }
@@ -52,29 +50,16 @@ struct Run {
     outputs: Vec<Output>,
 }
 
-impl Run {
-    /// Processes the lines of a log.
-    fn take_lines<E: Messages>(
-        &mut self,
-        replay: &Replay<'_>,
-        reader: &mut LogReader<'_>,
-        errors: &mut E,
-    ) -> io::Result<()> {
-        let mut cursor = replay.cursor();
-        for end in line_ends(replay.text()) {
-            let line = cursor.next_line(end);
-            self.take_line(cursor.number(), reader.read(line)?)?;
-            cursor.tell_progress(errors);
-        }
-        Ok(())
-    }
-
-    /// Processes the next line of a log, as it was read.
-    fn take_line(
+impl<F, W, E> Pass<F, W, E> for Run {
+    /// Counts a line, and notes what it reaches.
+    fn line(
         &mut self,
         number: u64,
         reading: Result<Line<'_>, LineFault>,
-    ) -> Result<(), AllocError> {
+        _files: &mut F,
+        _out: &mut W,
+        _errors: &mut E,
+    ) -> io::Result<()> {
         self.reach.before(&reading, &self.terminal);
         if let Ok(Line::Frame { time, frame }) = &reading {
             self.traffic.take(number, *time, frame)?;
@@ -84,9 +69,12 @@ impl Run {
         };
         self.outputs.clear();
         self.terminal.step(&input, &mut self.outputs)?;
-        self.reach.after(&self.outputs, &self.terminal)
+        self.reach.after(&self.outputs, &self.terminal)?;
+        Ok(())
     }
+}
 
+impl Run {
     /// Writes the numbers of the log, and what it reached.
     fn put<W: Write>(
         &self,

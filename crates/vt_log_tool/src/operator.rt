@@ -4,10 +4,10 @@ use crate::actions::{action_in, put_action};
 use std::alloc::{AllocError, Global};
 use std::io::{self, Write};
 use vt_can::assigned::{TP_CM, TP_RTS, VT_TO_ECU};
-use vt_can::{Frame, Line, LineFault, parse_line};
-use vt_cli::{Open, Status, read_file};
+use vt_can::{Frame, Line, LineFault};
+use vt_cli::{Open, Status};
 use vt_listen::{Broken, Listener};
-use vt_log_replay::{LineCursor, LogReader, Messages, line_ends, tell_no_frame, text_of};
+use vt_log_replay::{Log, Messages, Pass};
 use vt_log_words::OperatorOptions;
 use vt_recorded::{Reader, is_of_interface};
 
@@ -19,20 +19,15 @@ pub(crate) fn run_operator<F: Open, W: Write, E: Messages>(
     out: &mut W,
     errors: &mut E,
 ) -> io::Result<Status> {
-    let Some(log) = read_file(alloc, options.log, files, errors)? else {
+    let Some(log) = Log::read(alloc, options.log, options.interface, files, errors)? else {
         return Ok(Status::NotJudged);
     };
-    let log = text_of(&log);
     let mut recording = Recording::new(alloc, options.own);
-    let mut reader = LogReader::new(alloc, options.interface);
-    recording.hear_lines(log, &mut reader, errors)?;
-    reader.tell_lines(options.log, files, errors);
-    if !reader.has_frames() {
-        tell_no_frame(options.log, log, options.interface, files, errors);
+    if !log.pass(&mut recording, files, out, errors)? {
         return Ok(Status::NotJudged);
     }
-    let told = recording.told.as_slice();
-    let left_out = put_lines(alloc, log, options.interface, told, out)?;
+    recording.told.sort_by_key(|told| told.before)?;
+    let left_out = put_lines(alloc, &log, recording.told.as_slice(), out)?;
     if left_out > 0 {
         let _ = writeln!(
             errors,
@@ -60,8 +55,25 @@ struct Recording {
     broken: Vec<Broken>,
     /// The line of the last request to each address.
     requests: [u64; 256],
-    /// The operator's lines that the messages report.
+    /// The operator's lines that the messages report, in the order of the messages.
     told: Vec<Told>,
+}
+
+impl<F, W, E> Pass<F, W, E> for Recording {
+    /// Notes what the frame of a line reports of the operator.
+    fn line(
+        &mut self,
+        number: u64,
+        reading: Result<Line<'_>, LineFault>,
+        _files: &mut F,
+        _out: &mut W,
+        _errors: &mut E,
+    ) -> io::Result<()> {
+        if let Ok(Line::Frame { frame, .. }) = reading {
+            self.hear(number, &frame)?;
+        }
+        Ok(())
+    }
 }
 
 impl Recording {
@@ -77,25 +89,7 @@ impl Recording {
         }
     }
 
-    /// Receives the lines of a log. Afterwards the operator's lines are in the order of the log's lines.
-    fn hear_lines<E: Messages>(
-        &mut self,
-        log: &[u8],
-        reader: &mut LogReader<'_>,
-        errors: &mut E,
-    ) -> Result<(), AllocError> {
-        let mut cursor = LineCursor::new(log);
-        for end in line_ends(log) {
-            let line = cursor.next_line(end);
-            cursor.tell_progress(errors);
-            if let Ok(Line::Frame { frame, .. }) = reader.read(line)? {
-                self.hear(cursor.number(), &frame)?;
-            }
-        }
-        self.told.sort_by_key(|told| told.before)
-    }
-
-    /// Receives the frame of a line.
+    /// Notes what the frame of a line reports of the operator.
     fn hear(&mut self, number: u64, frame: &Frame) -> Result<(), AllocError> {
         if frame.id.source() == self.own {
             if frame.id.pgn() == VT_TO_ECU {
@@ -139,25 +133,23 @@ impl Recording {
 /// reports. Returns how many operator lines were left out.
 fn put_lines<W: Write>(
     alloc: Global,
-    log: &[u8],
-    interface: Option<&str>,
+    log: &Log<'_>,
     told: &[Told],
     out: &mut W,
 ) -> io::Result<u64> {
     let mut reader = Reader::new(alloc);
     let mut left_out = 0_u64;
+    let mut number = 0_u64;
     let mut rest = told;
-    let mut cursor = LineCursor::new(log);
-    for end in line_ends(log) {
-        let line = cursor.next_line(end);
-        let number = cursor.number();
+    for line in log.text().split(|byte| *byte == b'\n') {
+        number = number.saturating_add(1);
         let count = rest.partition_point(|told| told.before <= number);
         let (ready, later) = rest.split_at(count);
         for told in ready {
             out.write_all(&told.line)?;
         }
         rest = later;
-        if is_of_interface(line, interface) && !put_line(&mut reader, line, out)? {
+        if is_of_interface(line, log.interface()) && !put_line(&mut reader, line, out)? {
             left_out = left_out.saturating_add(1);
         }
     }
@@ -166,13 +158,14 @@ fn put_lines<W: Write>(
 
 /// Writes a line, unless it is one of the operator, and returns whether it did. A frame of another recorder is written in its plain form.
 fn put_line<W: Write>(reader: &mut Reader, line: &[u8], out: &mut W) -> io::Result<bool> {
-    match parse_line(line) {
+    let is_read = match reader.read(line)? {
         Ok(Line::Operator(_)) | Err(LineFault::Operator) => return Ok(false),
-        Err(LineFault::Time | LineFault::Shape) if reader.read(line)?.is_ok() => {
-            out.write_all(reader.plain())?;
-        }
-        _ => out.write_all(line)?,
-    }
+        Ok(_) => true,
+        Err(_) => false,
+    };
+    let plain = reader.plain();
+    let is_plain = is_read && !plain.is_empty();
+    out.write_all(if is_plain { plain } else { line })?;
     out.write_all(b"\n")?;
     Ok(true)
 }

@@ -2,7 +2,7 @@
 
 use crate::forms::form_by;
 use std::fmt;
-use vt_can::{LineFault, parse_line};
+use vt_can::LineFault;
 
 /// A likely cause of a faulty line.
 #[derive(Clone, Copy, PartialEq, Eq)]
@@ -83,18 +83,6 @@ impl LineHint {
             Hint::Form(what) => Some(what),
             Hint::Binary | Hint::Candump | Hint::Unspaced => None,
         }
-    }
-
-    /// The likely cause of the first fault in a log. `None` if there is no fault, or its line does not show the cause.
-    pub fn first_in(log: &[u8]) -> Option<LineHint> {
-        let mut number = 0_u64;
-        for line in log.split(|byte| *byte == b'\n') {
-            number = number.saturating_add(1);
-            if let Err(fault) = parse_line(line) {
-                return LineHint::of(number, fault, line);
-            }
-        }
-        None
     }
 }
 

@@ -23,7 +23,7 @@ impl Reader {
         }
     }
 
-    /// The plain form of the last line that needed one.
+    /// The plain form of the line that was read last. Empty if that line needed none.
     pub fn plain(&self) -> &[u8] {
         &self.plain
     }
@@ -34,11 +34,11 @@ impl Reader {
     pub fn read<'a>(&'a mut self, line: &'a [u8]) -> Result<Result<Line<'a>, LineFault>, AllocError>
         ensures { IfOk result (λ reading. IsReadingOf line.now (reading_of reading)) }
     {
+        self.plain.clear();
         let reading = parse_line(line);
         if is_of_form(&reading) {
             return Ok(reading);
         }
-        self.plain.clear();
         put_plain_form(content_of(line), &mut self.plain)?;
         let plain = parse_line(&self.plain);
         if is_of_frame(&plain) {
