@@ -6,7 +6,7 @@
 use std::io::{self, BufWriter, IsTerminal};
 use std::process::ExitCode;
 use vt_cli::{Files, Status, exit_code, words_of};
-use vt_inspector::{Look, run};
+use vt_inspector::{Style, run};
 
 /// The name of the program.
 const NAME: &str = "segyolant";
@@ -30,10 +30,10 @@ fn run_words(rt: &HostRuntime) -> io::Result<Status> {
 }
 
 /// In colours if the standard output is a terminal.
-fn look_of(rt: &HostRuntime) -> Look {
+fn look_of(rt: &HostRuntime) -> Style {
     if rt.stdout().is_terminal() {
-        Look::Coloured
+        Style::Coloured
     } else {
-        Look::Plain
+        Style::Plain
     }
 }

@@ -11,7 +11,7 @@ use Rattle.vt_answers.specs.declared.said.Said.{Said}
 use Rattle.vt_answers.specs.declared.topic.Topic.{Topic}
 use Rattle.vt_answers.specs.Matches.{AreLater, AreMatched, AreOpen}
 use Rattle.vt_answers.specs.Messages.{is_on, on_topic}
-use Rattle.vt_answers.specs.Open.{IsOverdue, TakesOldest, told_of_answer, told_of_pair}
+use Rattle.vt_answers.specs.OpenQuestions.{IsOverdue, TakesOldest, told_of_answer, told_of_pair}
 use Rattle.vt_answers.specs.Tellings.{differences_on, told, topic_of_difference}
 use Rattle.vt_answers.specs.Topics.{same_topic}
 use Rattle.vt_answers.proofs.OnTopics.{all-filter, differences_on-ours_alone, on_topic-no, on_topic-none, on_topic-yes, same_topic-true}

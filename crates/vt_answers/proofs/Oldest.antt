@@ -6,7 +6,7 @@ use Rattle.std.proofs.lemmas.Iterator.Adapters.{position_from-zero}
 use Rattle.vt_answers.specs.declared.said.Said.{Said}
 use Rattle.vt_answers.specs.declared.topic.Topic.{Topic}
 use Rattle.vt_answers.specs.Messages.{is_on}
-use Rattle.vt_answers.specs.Open.{IsOldest, TakesOldest}
+use Rattle.vt_answers.specs.OpenQuestions.{IsOldest, TakesOldest}
 
 others_before : (topic : Topic) (xs : List Said) (place : ℕ) (d : Said) → place < length xs + 1 → ((k : ℕ) → k < place → is_on topic (get_or xs k d) ≡ false)
     → AllByRecursion (λ other. is_on topic other ≡ false) (take place xs)

@@ -6,12 +6,12 @@ use Rattle.vt_answers.specs.Conversations.{Converses, LogLine, Point, SaysAt, no
 use Rattle.vt_answers.specs.declared.comparison.Comparison.{Comparison}
 use Rattle.vt_answers.specs.declared.difference.Difference.{Difference}
 use Rattle.vt_answers.specs.declared.difference.Difference.TheVariants.{OursAlone}
-use Rattle.vt_answers.specs.declared.open.Open.{Open}
+use Rattle.vt_answers.specs.declared.open.OpenQuestions.{OpenQuestions}
 use Rattle.vt_answers.specs.declared.said.Said.{Said}
 use Rattle.vt_answers.specs.declared.topic.Topic.{Topic}
 use Rattle.vt_answers.specs.Matches.{AreLater, AreMatched, AreOpen}
 use Rattle.vt_answers.specs.Messages.{said_by}
-use Rattle.vt_answers.specs.Open.{Hears, LosesOverdue, TakesOldest, told_of_answer}
+use Rattle.vt_answers.specs.OpenQuestions.{Hears, LosesOverdue, TakesOldest, told_of_answer}
 use Rattle.vt_answers.proofs.Matching.{matched-answered, matched-asked, matched-expired, matched-later, none-matched}
 use Rattle.vt_answers.proofs.OpenInOrder.{AreAt, AreInTime, all-in-time, asked-in-time, in-time-append, open-asked, open-back, open-removed}
 use Rattle.vt_answers.proofs.SaidAt.{recorded_by-at, said_by-at}
@@ -184,13 +184,13 @@ taken-silent own wait start lines told number (Ok (FrameAt time frame)) state be
 taken-silent own wait start lines told number (Ok (OperatorAction action)) state before after differences silent has rises now_is status_is open_is line_is own_is wait_is = absurd silent
 taken-silent own wait start lines told number (Ok (SkippedFrame why)) state before after differences silent has rises now_is status_is open_is line_is own_is wait_is =
     taken-other own wait start lines told (record { number = number; reading = Ok (SkippedFrame why) }) state state before after differences [] has rises (refl, refl) refl refl refl now_is status_is
-    (ap (λ (it : Open). it.questions.items) open_is ∙ sym (append-nil before.open.questions.items)) line_is own_is wait_is
+    (ap (λ (it : OpenQuestions). it.questions.items) open_is ∙ sym (append-nil before.open.questions.items)) line_is own_is wait_is
 taken-silent own wait start lines told number (Ok CommentLine) state before after differences silent has rises now_is status_is open_is line_is own_is wait_is =
     taken-other own wait start lines told (record { number = number; reading = Ok CommentLine }) state state before after differences [] has rises (refl, refl) refl refl refl now_is status_is
-    (ap (λ (it : Open). it.questions.items) open_is ∙ sym (append-nil before.open.questions.items)) line_is own_is wait_is
+    (ap (λ (it : OpenQuestions). it.questions.items) open_is ∙ sym (append-nil before.open.questions.items)) line_is own_is wait_is
 taken-silent own wait start lines told number (Err fault) state before after differences silent has rises now_is status_is open_is line_is own_is wait_is =
     taken-other own wait start lines told (record { number = number; reading = Err fault }) state state before after differences [] has rises (refl, refl) refl refl refl now_is status_is
-    (ap (λ (it : Open). it.questions.items) open_is ∙ sym (append-nil before.open.questions.items)) line_is own_is wait_is
+    (ap (λ (it : OpenQuestions). it.questions.items) open_is ∙ sym (append-nil before.open.questions.items)) line_is own_is wait_is
 
 -- ---- no line
 

@@ -5,7 +5,7 @@ use Rattle.std.specs.List.{AllByRecursion}
 use Rattle.vt_answers.specs.declared.difference.Difference.{Difference}
 use Rattle.vt_answers.specs.declared.difference.Difference.TheVariants.{OursAlone}
 use Rattle.vt_answers.specs.declared.said.Said.{Said}
-use Rattle.vt_answers.specs.Open.{IsOverdue, LosesOverdue}
+use Rattle.vt_answers.specs.OpenQuestions.{IsOverdue, LosesOverdue}
 
 -- Questions from the oldest on are told as overdue so far.
 pub record IsExpiring (wait now : ℕ) (old new : List Said) (before after : List Difference) : Type 0 where

@@ -6,7 +6,7 @@ use Rattle.std.specs.List.{AllByRecursion}
 use Rattle.vt_answers.specs.declared.difference.Difference.{Difference}
 use Rattle.vt_answers.specs.declared.difference.Difference.TheVariants.{OursAlone, TheirsAlone}
 use Rattle.vt_answers.specs.declared.said.Said.{Said}
-use Rattle.vt_answers.specs.Open.{IsOverdue, told_of_pair}
+use Rattle.vt_answers.specs.OpenQuestions.{IsOverdue, told_of_pair}
 use Rattle.vt_answers.specs.Tellings.{in_time, is_late, late, left_after, told, told_first}
 
 -- ---- an answer and the first question

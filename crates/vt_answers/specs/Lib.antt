@@ -1,7 +1,7 @@
 -- The definitions used in the contracts of vt_answers.
 pub mod Topics
 pub mod Messages
-pub mod Open
+pub mod OpenQuestions
 pub mod Tellings
 pub mod Conversations
 pub mod Matches

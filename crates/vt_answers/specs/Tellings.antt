@@ -6,7 +6,7 @@ use Rattle.vt_answers.specs.declared.difference.Difference.TheVariants.{Differ, 
 use Rattle.vt_answers.specs.declared.said.Said.{Said}
 use Rattle.vt_answers.specs.declared.topic.Topic.{Topic}
 use Rattle.vt_answers.specs.Topics.{same_topic}
-use Rattle.vt_answers.specs.Open.{told_of_pair}
+use Rattle.vt_answers.specs.OpenQuestions.{told_of_pair}
 
 -- whether a question is older than the wait when an answer comes
 abbrev pub is_late : ℕ → Said → Said → Bool

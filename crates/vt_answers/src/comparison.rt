@@ -10,7 +10,7 @@ ghost use Rattle.vt_server.specs.States.{state_of};
 ghost use Rattle.vt_server.specs.Terminals.{State};
 
 use crate::difference::Difference;
-use crate::open::Open;
+use crate::open::OpenQuestions;
 use crate::recorded::{Place, recorded_in};
 use crate::tally::Tally;
 use arrayvec::ArrayVec;
@@ -36,7 +36,7 @@ pub struct Comparison {
     now: u64,
     /// The bytes of the recorded terminal's last status message.
     status: ArrayVec<u8, 8>,
-    open: Open,
+    open: OpenQuestions,
     outputs: Vec<Output>,
 }
 
@@ -54,7 +54,7 @@ impl Comparison {
             wait,
             now: 0,
             status: terminal.status().bytes,
-            open: Open::new(alloc),
+            open: OpenQuestions::new(alloc),
             outputs: Vec::new(alloc),
         }
     }

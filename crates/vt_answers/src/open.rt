@@ -5,7 +5,7 @@ ghost use Rattle.std.specs.List.{position};
 ghost use Rattle.std.specs.Option.{option_to_list};
 ghost use Rattle.vt_answers.specs.declared.difference.Difference.TheVariants.{OursAlone};
 ghost use Rattle.vt_answers.specs.Messages.{is_on, said_by};
-ghost use Rattle.vt_answers.specs.Open.{Answers, Hears, LosesOverdue, TakesOldest};
+ghost use Rattle.vt_answers.specs.OpenQuestions.{Answers, Hears, LosesOverdue, TakesOldest};
 
 use crate::difference::Difference;
 use crate::said::{Said, is_on, said_in};
@@ -17,16 +17,16 @@ use vt_server::Output;
 
 /// The questions without an answer so far, the oldest first.
 #[derive(Drop)]
-pub(crate) struct Open {
+pub(crate) struct OpenQuestions {
     pub(crate) questions: VecDeque<Said>,
 }
 
-impl Open {
+impl OpenQuestions {
     /// No question.
-    pub(crate) fn new(alloc: Global) -> Open
+    pub(crate) fn new(alloc: Global) -> OpenQuestions
         ensures { result.questions.items ≡ [] }
     {
-        Open {
+        OpenQuestions {
             questions: VecDeque::new(alloc),
         }
     }

@@ -5,7 +5,7 @@ use Rattle.serde_json.specs.Data.{Data, depth, items_depth}
 use Rattle.serde_json.specs.View.{items_of}
 use Rattle.vt_findings_text.specs.declared.item.Item.{Item}
 use Rattle.vt_findings_text.specs.declared.item.Item.TheVariants as items
-use Rattle.vt_findings_text.specs.declared.source.Source.{Source}
+use Rattle.vt_findings_text.specs.declared.checked_pool.CheckedPool.{CheckedPool}
 use Rattle.vt_inspect.specs.declared.finding.Finding.{Finding}
 use Rattle.vt_inspect.specs.declared.finding.Finding.TheVariants as findings
 use Rattle.vt_inspect.specs.declared.finding.Spot.{Spot}
@@ -26,11 +26,11 @@ signed_depth (negsuc n) = refl
 pub label_depth : (label : Labelled) → depth (label_data label) ≡ 1
 label_depth label = simp text_depth
 
-objects_depth : (source : Source) (ids : List ℕ) → items_depth (items_of (map (object_data source) ids)) ≤ 1
+objects_depth : (source : CheckedPool) (ids : List ℕ) → items_depth (items_of (map (object_data source) ids)) ≤ 1
 objects_depth source [] = omega arith
 objects_depth source (id ∷ ids) = omega (arith, label_depth (label_at source id), objects_depth source ids)
 
-reference_depth : (source : Source) (spot : Spot) (named parent : Labelled) → depth (spot_details source spot (label_data named) (label_data parent)) ≤ 3
+reference_depth : (source : CheckedPool) (spot : Spot) (named parent : Labelled) → depth (spot_details source spot (label_data named) (label_data parent)) ≤ 3
 reference_depth source (spots.Slot place) named parent = simp label_depth (omega arith)
 reference_depth source (spots.Through place pointer) named parent = simp label_depth (omega arith)
 reference_depth source (spots.Entry index event) named parent = simp label_depth (omega arith)
@@ -40,7 +40,7 @@ budget_depth : (label : Labelled) (event : Option ℕ) → depth (budget_details
 budget_depth label None = simp label_depth (omega arith)
 budget_depth label (Some event) = simp label_depth (omega arith)
 
-finding_depth : (source : Source) (finding : Finding) → depth (finding_details source finding) ≤ 3
+finding_depth : (source : CheckedPool) (finding : Finding) → depth (finding_details source finding) ≤ 3
 finding_depth source (findings.Record fault) = omega arith
 finding_depth source findings.NoWorkingSet = omega arith
 finding_depth source (findings.TwoWorkingSets id) = simp label_depth (omega arith)
@@ -55,14 +55,14 @@ finding_depth source (findings.MacroValue id at changed attribute) = simp label_
 finding_depth source (findings.MacroCircle path) = omega (arith, objects_depth source path.items)
 finding_depth source (findings.OverBudget id event) = budget_depth (label_at source id) event
 
-warning_depth : (source : Source) (warning : Warning) → depth (warning_details source warning) ≤ 3
+warning_depth : (source : CheckedPool) (warning : Warning) → depth (warning_details source warning) ≤ 3
 warning_depth source (warnings.Unused id) = simp label_depth (omega arith)
 warning_depth source (warnings.TextTooWide field) = simp label_depth (omega arith)
 warning_depth source (warnings.TextTooHigh field) = simp label_depth (omega arith)
 warning_depth source (warnings.Outside element area) = simp (label_depth, signed_depth) (omega arith)
 warning_depth source (warnings.ExtraKeys id keys most) = simp label_depth (omega arith)
 
-pub details_depth : (source : Source) (item : Item) → depth (details_of source item) ≤ 3
+pub details_depth : (source : CheckedPool) (item : Item) → depth (details_of source item) ≤ 3
 details_depth source (items.Finding finding) = finding_depth source finding.now
 details_depth source (items.Replaced replaced) = simp label_depth (omega arith)
 details_depth source (items.Warning warning) = warning_depth source warning.now

@@ -5,9 +5,9 @@ use Rattle.serde_json.specs.Data.{Data, null, number, unsigned, negative, string
 use Rattle.serde_json.specs.View.{items_of}
 use Rattle.vt_findings_text.specs.declared.item.Item.{Item}
 use Rattle.vt_findings_text.specs.declared.item.Item.TheVariants as items
-use Rattle.vt_findings_text.specs.declared.message.Message.{Message}
+use Rattle.vt_findings_text.specs.declared.message.ItemLine.{ItemLine}
 use Rattle.vt_findings_text.specs.declared.summary.Summary.{Summary}
-use Rattle.vt_findings_text.specs.declared.source.Source.{Source}
+use Rattle.vt_findings_text.specs.declared.checked_pool.CheckedPool.{CheckedPool}
 use Rattle.vt_findings_text.specs.Severities.{severity_word}
 use Rattle.vt_findings_text.specs.Labels.{Labelled, label_at}
 use Rattle.vt_findings_text.specs.Spots.{spot_text}
@@ -18,7 +18,7 @@ use Rattle.vt_inspect.specs.declared.finding.Spot.{Spot}
 use Rattle.vt_inspect.specs.declared.finding.Spot.TheVariants as spots
 use Rattle.vt_kinds.specs.Kinds.{kind_name}
 use Rattle.vt_needs.specs.declared.sizes.Area.{Area}
-use Rattle.vt_needs.specs.declared.warning.Element.{Element}
+use Rattle.vt_needs.specs.declared.warning.PlacedElement.{PlacedElement}
 use Rattle.vt_needs.specs.declared.warning.TextField.{TextField}
 use Rattle.vt_needs.specs.declared.warning.Warning.{Warning}
 use Rattle.vt_needs.specs.declared.warning.Warning.TheVariants as warnings
@@ -43,7 +43,7 @@ label_data label =
     object (member (codes "id") (number_data label.id) (member (codes "kind") (text_or_null (option_map kind_name label.kind))
     (member (codes "name") (text_or_null label.name) no_members)))
 
-abbrev pub object_data : Source → ℕ → Data
+abbrev pub object_data : CheckedPool → ℕ → Data
 object_data source id = label_data (label_at source id)
 
 -- ---- the line of a message
@@ -56,7 +56,7 @@ pub record Head : Type 0 where
   pub offset : ℕ
   pub severity : List ℕ
 
-abbrev pub head_of : Message → Head
+abbrev pub head_of : ItemLine → Head
 head_of message = record {
   code = message.code.code.now;
   file = message.file.now;
@@ -91,12 +91,12 @@ through_details names parent place pointer =
     object (member (codes "names") names (member (codes "object") parent (member (codes "place") (string place)
     (member (codes "through") pointer no_members))))
 
-abbrev pub spot_details : Source → Spot → Data → Data → Data
+abbrev pub spot_details : CheckedPool → Spot → Data → Data → Data
 spot_details source (spots.Through place pointer) names parent =
     through_details names parent (spot_text (spots.Through place pointer)) (object_data source pointer)
 spot_details source spot names parent = named_details names parent (spot_text spot)
 
-abbrev pub reference_details : Source → ReferenceAt → Data
+abbrev pub reference_details : CheckedPool → ReferenceAt → Data
 reference_details source found = spot_details source found.spot (object_data source found.reference.id) (object_data source found.reference.parent)
 
 abbrev pub event_details : Data → ℕ → Data
@@ -118,10 +118,10 @@ value_details named at attribute changed =
 abbrev pub array_details : List Data → Data
 array_details ids = object (member (codes "path") (array (items_of ids)) no_members)
 
-abbrev pub path_details : Source → List ℕ → Data
+abbrev pub path_details : CheckedPool → List ℕ → Data
 path_details source ids = array_details (map (object_data source) ids)
 
-abbrev pub finding_details : Source → Finding → Data
+abbrev pub finding_details : CheckedPool → Finding → Data
 finding_details source (findings.Record fault) = no_details
 finding_details source findings.NoWorkingSet = no_details
 finding_details source (findings.TwoWorkingSets id) = object_details (object_data source id)
@@ -152,7 +152,7 @@ field_details named cell area columns =
     object (member (codes "cell") cell (member (codes "columns") (number_data columns) (member (codes "field") area
     (member (codes "object") named no_members))))
 
-abbrev pub text_details : Source → TextField → Data
+abbrev pub text_details : CheckedPool → TextField → Data
 text_details source f =
     field_details (object_data source f.id) (size_data f.cell.width f.cell.height) (size_data f.area.width f.area.height) f.columns
 
@@ -161,7 +161,7 @@ child_details named area child index position size =
     object (member (codes "area") area (member (codes "child") child (member (codes "index") (number_data index)
     (member (codes "object") named (member (codes "position") position (member (codes "size") size no_members))))))
 
-abbrev pub outside_details : Source → Element → Area → Data
+abbrev pub outside_details : CheckedPool → PlacedElement → Area → Data
 outside_details source e area =
     child_details (object_data source e.parent) (size_data area.width area.height) (object_data source e.id) e.index
     (position_data e.x e.y) (size_data e.width e.height)
@@ -170,7 +170,7 @@ abbrev pub keys_details : Data → ℕ → ℕ → Data
 keys_details named keys most =
     object (member (codes "keys") (number_data keys) (member (codes "most") (number_data most) (member (codes "object") named no_members)))
 
-abbrev pub warning_details : Source → Warning → Data
+abbrev pub warning_details : CheckedPool → Warning → Data
 warning_details source (warnings.Unused id) = object_details (object_data source id)
 warning_details source (warnings.TextTooWide field) = text_details source field
 warning_details source (warnings.TextTooHigh field) = text_details source field
@@ -179,7 +179,7 @@ warning_details source (warnings.ExtraKeys id keys most) = keys_details (object_
 
 -- ---- the details of an item
 
-abbrev pub details_of : Source → Item → Data
+abbrev pub details_of : CheckedPool → Item → Data
 details_of source (items.Finding finding) = finding_details source finding.now
 details_of source (items.Replaced replaced) = replaced_details (object_data source replaced.now.id) replaced.now.by
 details_of source (items.Warning warning) = warning_details source warning.now

@@ -11,15 +11,15 @@ use crate::objects::{
 };
 use serde_json::Value;
 use std::alloc::{AllocError, Global};
-use vt_findings_text::{Item, Source, SpotText};
+use vt_findings_text::{CheckedPool, Item, SpotText};
 use vt_inspect::{Finding, ReferenceAt, Spot};
-use vt_needs::{Area, Element, TextField, Warning};
+use vt_needs::{Area, PlacedElement, TextField, Warning};
 use vt_objects::ObjectId;
 
 /// What an item is about, by its kind.
 pub(crate) fn details_of(
     alloc: Global,
-    source: &Source<'_>,
+    source: &CheckedPool<'_>,
     item: Item<'_>,
 ) -> Result<Value, AllocError>
     ensures { IfOk result (λ v. view v ≡ json_of.details_of source.now item.entry) }
@@ -36,7 +36,7 @@ pub(crate) fn details_of(
 }
 
 /// An object by its ID, with its kind and its name.
-fn object_value(alloc: Global, source: &Source<'_>, id: ObjectId) -> Result<Value, AllocError>
+fn object_value(alloc: Global, source: &CheckedPool<'_>, id: ObjectId) -> Result<Value, AllocError>
     ensures { IfOk result (λ v. view v ≡ json_of.object_data source.now id) }
 {
     label_value(alloc, source.label(id))
@@ -44,7 +44,7 @@ fn object_value(alloc: Global, source: &Source<'_>, id: ObjectId) -> Result<Valu
 
 fn finding_details(
     alloc: Global,
-    source: &Source<'_>,
+    source: &CheckedPool<'_>,
     finding: &Finding,
 ) -> Result<Value, AllocError>
     ensures { IfOk result (λ v. view v ≡ json_of.finding_details source.now finding.now) }
@@ -93,7 +93,7 @@ fn finding_details(
 
 fn reference_details(
     alloc: Global,
-    source: &Source<'_>,
+    source: &CheckedPool<'_>,
     found: &ReferenceAt,
 ) -> Result<Value, AllocError>
     ensures { IfOk result (λ v. view v ≡ json_of.reference_details source.now found.now) }
@@ -114,7 +114,7 @@ fn reference_details(
 /// The objects of a chain.
 fn chain_values(
     alloc: Global,
-    source: &Source<'_>,
+    source: &CheckedPool<'_>,
     chain: &[ObjectId],
 ) -> Result<Vec<Value>, AllocError>
     ensures { IfOk result (λ path. map view path.items ≡ map (json_of.object_data source.now) chain.now) }
@@ -129,7 +129,7 @@ fn chain_values(
 /// The macros of a circle.
 fn circle_values(
     alloc: Global,
-    source: &Source<'_>,
+    source: &CheckedPool<'_>,
     circle: &[u8],
 ) -> Result<Vec<Value>, AllocError>
     ensures { IfOk result (λ path. map view path.items ≡ map (json_of.object_data source.now) circle.now) }
@@ -144,7 +144,7 @@ fn circle_values(
 
 fn warning_details(
     alloc: Global,
-    source: &Source<'_>,
+    source: &CheckedPool<'_>,
     warning: &Warning,
 ) -> Result<Value, AllocError>
     ensures { IfOk result (λ v. view v ≡ json_of.warning_details source.now warning.now) }
@@ -165,7 +165,11 @@ fn warning_details(
     }
 }
 
-fn text_details(alloc: Global, source: &Source<'_>, field: &TextField) -> Result<Value, AllocError>
+fn text_details(
+    alloc: Global,
+    source: &CheckedPool<'_>,
+    field: &TextField,
+) -> Result<Value, AllocError>
     ensures { IfOk result (λ v. view v ≡ json_of.text_details source.now field.now) }
 {
     let object = object_value(alloc, source, field.id)?;
@@ -176,8 +180,8 @@ fn text_details(alloc: Global, source: &Source<'_>, field: &TextField) -> Result
 
 fn outside_details(
     alloc: Global,
-    source: &Source<'_>,
-    element: &Element,
+    source: &CheckedPool<'_>,
+    element: &PlacedElement,
     area: Area,
 ) -> Result<Value, AllocError>
     ensures { IfOk result (λ v. view v ≡ json_of.outside_details source.now element.now area) }

@@ -7,13 +7,13 @@ ghost use Rattle.vt_findings_json.specs.Json as json_of;
 use crate::details::details_of;
 use crate::objects::{message_value, summary_value};
 use std::alloc::{AllocError, Global};
-use vt_findings_text::{Item, Message, Source, Summary};
+use vt_findings_text::{CheckedPool, Item, ItemLine, Summary};
 
 /// The line of an item, without a newline: it reads back as the item's message with its details.
 pub fn item_json(
     alloc: Global,
-    source: &Source<'_>,
-    message: &Message<'_>,
+    source: &CheckedPool<'_>,
+    message: &ItemLine<'_>,
     item: Item<'_>,
 ) -> Result<String, AllocError>
     ensures reads_back { IfOk result (λ line. read (string_bytes line) ≡ Some (json_of.line_data (json_of.head_of message.now) (json_of.details_of source.now item.entry))) }

@@ -8,11 +8,11 @@ ghost use Rattle.vt_findings_text.specs.Labels.{label_seen};
 
 use serde_json::{Value, json};
 use std::alloc::{AllocError, Global};
-use vt_findings_text::{Label, Message, Summary};
+use vt_findings_text::{ItemLine, Label, Summary};
 
 pub(crate) fn message_value(
     alloc: Global,
-    message: &Message<'_>,
+    message: &ItemLine<'_>,
     details: Value,
 ) -> Result<Value, AllocError>
     ensures { IfOk result (λ v. view v ≡ json_of.line_data (json_of.head_of message.now) (view details)) }

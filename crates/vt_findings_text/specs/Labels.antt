@@ -5,7 +5,7 @@ use Rattle.std.specs.Option.{option_map}
 use Rattle.std.specs.Ordering.{nat_cmp}
 use Rattle.vt_findings_text.specs.declared.label.Label.{Label}
 use Rattle.vt_findings_text.specs.declared.names.Names.{Names}
-use Rattle.vt_findings_text.specs.declared.source.Source.{Source}
+use Rattle.vt_findings_text.specs.declared.checked_pool.CheckedPool.{CheckedPool}
 use Rattle.vt_kinds.specs.declared.kind.Kind.{Kind}
 use Rattle.vt_kinds.specs.Records.{kind_of}
 use Rattle.vt_stores.specs.Stores.{object_at}
@@ -24,7 +24,7 @@ abbrev pub name_at : Names → ℕ → Option (List ℕ)
 name_at names id = option_map string_bytes (get nat_cmp names.names id)
 
 -- an object of a pool, with its kind and its name
-abbrev pub label_at : Source → ℕ → Labelled
+abbrev pub label_at : CheckedPool → ℕ → Labelled
 label_at source id = record {
   id = id;
   kind = option_map kind_of (object_at source.inspection.now.objects id);

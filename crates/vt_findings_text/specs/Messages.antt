@@ -2,8 +2,8 @@
 use Rattle.std.specs.Prelude.{◌≡◌, ◌≤◌, ℕ, Option, None, length, IsSome}
 use Rattle.vt_findings_text.specs.declared.item.Item.{Item}
 use Rattle.vt_findings_text.specs.declared.item.Item.TheVariants as items
-use Rattle.vt_findings_text.specs.declared.message.Message.{Message}
-use Rattle.vt_findings_text.specs.declared.source.Source.{Source}
+use Rattle.vt_findings_text.specs.declared.message.ItemLine.{ItemLine}
+use Rattle.vt_findings_text.specs.declared.checked_pool.CheckedPool.{CheckedPool}
 use Rattle.vt_findings_text.specs.Codes.{texts, code_of}
 use Rattle.vt_findings_text.specs.Severities.{severity_of}
 use Rattle.vt_inspect.specs.declared.finding.FindingPlace.{FindingPlace}
@@ -50,7 +50,7 @@ IsItemOffset i (items.Warning warning) at =
 IsItemOffset i (items.Note note) at = at ≡ note_offset note
 
 -- The message has the file, the severity, the code and the offset of its item.
-pub record IsMessage (source : Source) (item : Item) (m : Message) : Type 0 where
+pub record IsMessage (source : CheckedPool) (item : Item) (m : ItemLine) : Type 0 where
   pub file : m.file.now ≡ source.path.now
   pub severity : m.severity ≡ severity_of item
   pub code : texts m.code ≡ code_of item

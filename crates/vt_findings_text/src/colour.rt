@@ -1,14 +1,14 @@
 //! Messages in colours, for a terminal.
 
 use crate::codes::Code;
-use crate::message::{Message, Severity};
+use crate::message::{ItemLine, Severity};
 use std::fmt;
 
 /// A message as its line for people, with the severity and the code in a colour by the sequences of ECMA-48, without a newline.
 #[derive(Clone, Copy, Drop)]
 pub struct ColouredLine<'a, 'b> {
     /// The message.
-    pub message: &'b Message<'a>,
+    pub message: &'b ItemLine<'a>,
 }
 
 impl fmt::Display for ColouredLine<'_, '_> {

@@ -1,14 +1,14 @@
 //! Messages as GitHub's workflow commands.
 
 use crate::codes::Code;
-use crate::message::{Message, Severity};
+use crate::message::{ItemLine, Severity};
 use std::fmt;
 
 /// A message as a workflow command, `::error file=FILE,title=CODE NAME::byte OFFSET: SENTENCE`, without a newline.
 #[derive(Clone, Copy, Drop)]
 pub struct GithubLine<'a, 'b> {
     /// The message.
-    pub message: &'b Message<'a>,
+    pub message: &'b ItemLine<'a>,
 }
 
 impl fmt::Display for GithubLine<'_, '_> {

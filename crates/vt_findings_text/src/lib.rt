@@ -1,9 +1,9 @@
 //! Findings and warnings about a pool as lines for people and for GitHub.
 //!
 //! - `Names` are the names of objects, from files of lines `ID,NAME` or `#define NAME ID`.
-//! - A `Source` is an inspected pool with its path and its names. `Source::message` returns the `Message` of an `Item`: the offset in the
-//!   file, the severity, the code, and a sentence with the cause.
-//! - A `Message` writes its line for people by `Display`, in colours by `ColouredLine`, and for GitHub by `GithubLine`.
+//! - A `CheckedPool` is an inspected pool with its path and its names. `CheckedPool::message` returns the `ItemLine` of an `Item`: the
+//!   offset in the file, the severity, the code, and a sentence with the cause.
+//! - An `ItemLine` writes its line for people by `Display`, in colours by `ColouredLine`, and for GitHub by `GithubLine`.
 //! - `items_of` returns the errors and warnings of a pool in the order of their lines, without warnings that cannot be judged, and
 //!   `summary_of` their counts.
 //!
@@ -12,6 +12,7 @@
 //! Come here to ask what a line of `segyolant check` says, and which lines there are. docs/POOLS.md has the codes.
 #![tactic(auto)]
 
+mod checked_pool;
 mod codes;
 mod colour;
 mod events;
@@ -22,11 +23,11 @@ mod label;
 mod message;
 mod names;
 mod sentences;
-mod source;
 mod spot;
 mod summary;
 mod warning_sentences;
 
+pub use checked_pool::CheckedPool;
 pub use codes::{Code, code_of};
 pub use colour::ColouredLine;
 pub use events::event_name;
@@ -34,8 +35,7 @@ pub use github::GithubLine;
 pub use item::Item;
 pub use items::items_of;
 pub use label::Label;
-pub use message::{Message, Severity};
+pub use message::{ItemLine, Severity};
 pub use names::Names;
-pub use source::Source;
 pub use spot::SpotText;
 pub use summary::{Summary, summary_of};

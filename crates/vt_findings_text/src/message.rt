@@ -44,7 +44,7 @@ pub(crate) fn severity_of(item: Item<'_>) -> Severity
 
 /// A message about a pool. `Display` writes `FILE:OFFSET: SEVERITY[CODE NAME] SENTENCE`, without a newline.
 #[derive(Drop)]
-pub struct Message<'a> {
+pub struct ItemLine<'a> {
     /// The path of the pool's file.
     pub file: &'a str,
     /// The index of the byte that the message is about.
@@ -57,7 +57,7 @@ pub struct Message<'a> {
     pub sentence: String,
 }
 
-impl fmt::Display for Message<'_> {
+impl fmt::Display for ItemLine<'_> {
     fn fmt<W: fmt::Write>(&self, f: &mut fmt::Formatter<W>) -> fmt::Result {
         let Code { code, name } = self.code;
         write!(

@@ -1,8 +1,8 @@
 //! The sentences of items.
 
+use crate::checked_pool::CheckedPool;
 use crate::events::event_name;
 use crate::item::Item;
-use crate::source::Source;
 use crate::spot::SpotText;
 use crate::warning_sentences::WarningSentence;
 use std::fmt;
@@ -14,7 +14,7 @@ use vt_verify::TERMINAL_LIMITS;
 /// The sentence of an item, with the kinds and names of its objects.
 #[derive(Clone, Copy, Drop)]
 pub(crate) struct Sentence<'a, 'b> {
-    pub(crate) source: Source<'a>,
+    pub(crate) source: CheckedPool<'a>,
     pub(crate) item: Item<'b>,
 }
 
@@ -38,7 +38,7 @@ impl fmt::Display for Sentence<'_, '_> {
 /// The sentence of a finding, with the kinds and names of its objects.
 #[derive(Clone, Copy, Drop)]
 pub(crate) struct FindingSentence<'a, 'b> {
-    pub(crate) source: Source<'a>,
+    pub(crate) source: CheckedPool<'a>,
     pub(crate) finding: &'b Finding,
 }
 

@@ -4,8 +4,8 @@ ghost use Rattle.std.specs.Prelude.{◌≡◌, ◌-◌, length};
 ghost use Rattle.std.specs.FinMap as finite;
 ghost use Rattle.vt_stores.specs.Stores.{map_of};
 
+use crate::checked_pool::CheckedPool;
 use crate::item::Item;
-use crate::source::Source;
 use std::fmt;
 use vt_objects::Store;
 
@@ -25,7 +25,7 @@ pub struct Summary<'a> {
 }
 
 /// The counts of a pool's objects, errors and warnings. At most `most` of the errors and warnings have lines.
-pub fn summary_of<'a>(source: &Source<'a>, items: &[Item<'_>], most: usize) -> Summary<'a>
+pub fn summary_of<'a>(source: &CheckedPool<'a>, items: &[Item<'_>], most: usize) -> Summary<'a>
     ensures file { result.file.now ≡ source.now.path.now }
     ensures errors { result.errors ≡ length source.now.inspection.now.findings.items }
     ensures warnings { result.warnings ≡ length items.now - length source.now.inspection.now.findings.items }

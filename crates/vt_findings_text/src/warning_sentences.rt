@@ -1,13 +1,13 @@
 //! The sentences of warnings.
 
-use crate::source::Source;
+use crate::checked_pool::CheckedPool;
 use std::fmt;
-use vt_needs::{Area, Element, Warning};
+use vt_needs::{Area, PlacedElement, Warning};
 
 /// The sentence of a warning, with the kinds and names of its objects.
 #[derive(Clone, Copy, Drop)]
 pub(crate) struct WarningSentence<'a, 'b> {
-    pub(crate) source: Source<'a>,
+    pub(crate) source: CheckedPool<'a>,
     pub(crate) warning: &'b Warning,
 }
 
@@ -46,12 +46,12 @@ impl WarningSentence<'_, '_> {
     fn write_outside<W: fmt::Write>(
         &self,
         f: &mut fmt::Formatter<W>,
-        element: &Element,
+        element: &PlacedElement,
         area: Area,
     ) -> fmt::Result {
         let parent = self.source.label(element.parent);
         let child = self.source.label(element.id);
-        let Element {
+        let PlacedElement {
             index,
             x,
             y,

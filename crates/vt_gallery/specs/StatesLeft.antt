@@ -1,9 +1,9 @@
 -- The pool that a log leaves: the records of the objects of the working set that is shown at its end.
 use Rattle.std.specs.Prelude.{◌≡◌, ℕ, List, [], Option, Some, None, false}
 use Rattle.std.specs.FinMap as finite
-use Rattle.vt_stores.specs.Stores.{Objects, by_rising_id, map_of}
-use Rattle.vt_pool.specs.Pools.{PoolEntry, AreRecords, IsInForce, joined}
-use Rattle.vt_verify.specs.Rules.{IsVerified}
+use Rattle.vt_stores.specs.Stores.{Objects, map_of}
+use Rattle.vt_pool.specs.Pools.{joined}
+use Rattle.vt_judge.specs.Judgements.{IsAcceptedPool}
 use Rattle.vt_machine.specs.SetStates.{SetState}
 use Rattle.vt_logs.specs.Replays.{IsReplay}
 use Rattle.vt_logs.specs.declared.counts.Counts.{Counts}
@@ -28,16 +28,6 @@ new_state = record {
   lost = false;
   now = 0;
 }
-
--- The bytes are a pool that meets all rules, and these are its objects.
-pub record IsAcceptedPool (bytes : List ℕ) (accepted : Objects) : Type 0 where
-  pub records : List PoolEntry
-  pub whole : AreRecords records
-  pub spelled : bytes ≡ joined records
-  pub pool : List PoolEntry
-  pub in_force : IsInForce records pool
-  pub rising : accepted ≡ by_rising_id pool
-  pub verified : IsVerified accepted
 
 -- A set with an acceptable pool is added to a new terminal.
 pub record IsLoaded (set : GivenSet) (s : State) : Type 0 where

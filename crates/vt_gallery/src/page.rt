@@ -3,7 +3,7 @@
 use crate::html::Html;
 use std::alloc::{AllocError, Global};
 use std::fmt::Display;
-use vt_findings_text::{Item, Source, items_of, summary_of};
+use vt_findings_text::{CheckedPool, Item, items_of, summary_of};
 use vt_needs::{TERMINAL_SIZES, warnings};
 use vt_objects::ObjectId;
 
@@ -44,7 +44,7 @@ const AFTER_COUNTS: &str = "</p>\n</body>\n</html>\n";
 /// The page of a pool: its masks, and then everything that `check` prints about it.
 pub(crate) fn page_of(
     alloc: Global,
-    source: &Source<'_>,
+    source: &CheckedPool<'_>,
     masks: &[ObjectId],
 ) -> Result<Html, AllocError> {
     let mut page = Html::new(alloc);
@@ -77,7 +77,7 @@ fn put_head(page: &mut Html, title: &str) -> Result<(), AllocError> {
 fn put_figure(
     alloc: Global,
     page: &mut Html,
-    source: &Source<'_>,
+    source: &CheckedPool<'_>,
     mask: ObjectId,
 ) -> Result<(), AllocError> {
     let label = format!(in alloc; "{}", source.label(mask))?;
@@ -91,7 +91,11 @@ fn put_figure(
 }
 
 /// Appends the errors, the warnings and the notes, and then their counts.
-fn put_findings(alloc: Global, page: &mut Html, source: &Source<'_>) -> Result<(), AllocError> {
+fn put_findings(
+    alloc: Global,
+    page: &mut Html,
+    source: &CheckedPool<'_>,
+) -> Result<(), AllocError> {
     let warnings = warnings(alloc, &source.inspection.objects, TERMINAL_SIZES)?;
     let items = items_of(alloc, source.inspection, warnings.as_slice())?;
     for item in items.iter() {
@@ -109,7 +113,7 @@ fn put_findings(alloc: Global, page: &mut Html, source: &Source<'_>) -> Result<(
 fn put_item(
     alloc: Global,
     page: &mut Html,
-    source: &Source<'_>,
+    source: &CheckedPool<'_>,
     item: Item<'_>,
 ) -> Result<(), AllocError> {
     page.push_markup("<li>")?;

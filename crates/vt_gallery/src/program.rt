@@ -7,7 +7,7 @@ use crate::refusal::{Refusal, RefusalLine};
 use std::alloc::{AllocError, Global};
 use std::io::{self, Write};
 use vt_cli::{Open, Save, make_folder, read_names, save_file};
-use vt_findings_text::Source;
+use vt_findings_text::CheckedPool;
 use vt_inspect::inspect;
 use vt_inspector_words::{DrawOptions, Drawing};
 use vt_needs::Sizes;
@@ -42,7 +42,7 @@ pub fn run_draw<F: Open + Save, W: Write, E: Write>(
         return Ok(Outcome::NotDrawn);
     };
     let inspection = inspect(alloc, bytes.as_slice())?;
-    let source = Source {
+    let source = CheckedPool {
         path: path_of(options.origin),
         inspection: &inspection,
         names: &names,
@@ -53,7 +53,7 @@ pub fn run_draw<F: Open + Save, W: Write, E: Write>(
 /// Draws masks of a pool that was read.
 fn draw_source<F: Save, W: Write, E: Write>(
     alloc: Global,
-    source: &Source<'_>,
+    source: &CheckedPool<'_>,
     options: &DrawOptions<'_>,
     files: &mut F,
     out: &mut W,
@@ -80,7 +80,7 @@ fn draw_source<F: Save, W: Write, E: Write>(
 #[derive(Clone, Copy, Drop)]
 struct Sheet<'a> {
     alloc: Global,
-    source: &'a Source<'a>,
+    source: &'a CheckedPool<'a>,
     masks: &'a [ObjectId],
     sizes: Sizes,
 }
@@ -194,7 +194,7 @@ impl Sheet<'_> {
 }
 
 /// The outcome of masks that are drawn. If the pool has errors, `errors` receives a sentence that says so.
-fn outcome_of<E: Write>(source: &Source<'_>, errors: &mut E) -> Outcome {
+fn outcome_of<E: Write>(source: &CheckedPool<'_>, errors: &mut E) -> Outcome {
     let path = source.path;
     let _ = match source.inspection.findings.len() {
         0 => return Outcome::Clean,

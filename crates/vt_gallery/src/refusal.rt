@@ -1,7 +1,7 @@
 //! Why no mask is drawn.
 
 use std::fmt;
-use vt_findings_text::Source;
+use vt_findings_text::CheckedPool;
 use vt_objects::{ObjectId, Store};
 
 /// Why no mask is drawn.
@@ -21,7 +21,7 @@ pub(crate) enum Refusal {
 #[derive(Clone, Copy, Drop)]
 pub(crate) struct RefusalLine<'a> {
     /// The pool.
-    pub(crate) source: &'a Source<'a>,
+    pub(crate) source: &'a CheckedPool<'a>,
     /// The masks of the pool.
     pub(crate) masks: &'a [ObjectId],
     /// The cause.

@@ -2,17 +2,16 @@
 
 ghost use Rattle.std.specs.Prelude.{◌≡◌, ◌≢◌, IfOk, IfErr, IfSome, IsErrOf, OnOk};
 ghost use Rattle.vt_server.specs.States.{state_of};
-ghost use Rattle.vt_gallery.specs.StatesLeft.{HasNothingShown, IsAcceptedPool, IsLoaded, IsPoolShown, IsStart, LeavesNothing, LeavesPool, new_state};
+ghost use Rattle.vt_gallery.specs.StatesLeft.{HasNothingShown, IsLoaded, IsPoolShown, IsStart, LeavesNothing, LeavesPool, new_state};
 
 use crate::bytes::bytes_of;
 use crate::fault::StateFault;
 use std::alloc::Global;
 use std::io;
+use vt_judge::judge;
 use vt_logs::{Source, Stream, replay};
 use vt_names::Name;
-use vt_pool::{PoolFault, read_pool};
 use vt_server::Terminal;
-use vt_verify::{Accepted, Refusal, verify_owned};
 
 /// The terminal's address.
 const OWN_ADDRESS: u8 = 0x26;
@@ -87,26 +86,13 @@ fn load(alloc: Global, set: GivenSet<'_>, terminal: &mut Terminal) -> Result<(),
     if owner > 253 || owner == OWN_ADDRESS {
         return Err(StateFault::Owner);
     }
-    let pool = accepted(alloc, pool)?;
-    terminal.preload(owner, &pool)?;
-    Ok(())
-}
-
-/// Reads a pool and verifies it.
-fn accepted(alloc: Global, bytes: &[u8]) -> Result<Accepted, StateFault>
-    ensures pool { IfOk result (IsAcceptedPool bytes.now) }
-    ensures other { IfErr result (λ why. why ≢ StateFault.NothingShown) }
-{
-    let pool = match read_pool(alloc, bytes) {
+    let pool = match judge(alloc, pool) {
         Ok(pool) => pool,
-        Err(PoolFault::OutOfMemory { .. }) => return Err(StateFault::Memory),
+        Err(refusal) if refusal.wants_memory() => return Err(StateFault::Memory),
         Err(_) => return Err(StateFault::Pool),
     };
-    match verify_owned(alloc, pool) {
-        Ok(accepted) => Ok(accepted),
-        Err(Refusal::OutOfMemory) => Err(StateFault::Memory),
-        Err(_) => Err(StateFault::Pool),
-    }
+    terminal.preload(owner, &pool)?;
+    Ok(())
 }
 
 /// The records of the objects of the working set that a terminal shows.

@@ -1,11 +1,11 @@
 //! The subcommand `check`.
 
-use crate::program::{Look, put_message};
+use crate::program::{Style, put_message};
 use std::alloc::Global;
 use std::io::{self, Write};
 use vt_cli::{Open, Status, read_names, read_pool_file};
 use vt_findings_json::{item_json, summary_json};
-use vt_findings_text::{GithubLine, Item, Names, Source, Summary, items_of, summary_of};
+use vt_findings_text::{CheckedPool, GithubLine, Item, Names, Summary, items_of, summary_of};
 use vt_inspect::inspect;
 use vt_inspector_words::{CheckOptions, Format};
 use vt_needs::{TERMINAL_SIZES, warnings};
@@ -13,7 +13,7 @@ use vt_needs::{TERMINAL_SIZES, warnings};
 /// The form of the lines.
 #[derive(Clone, Copy, PartialEq, Eq)]
 enum Lines {
-    Text(Look),
+    Text(Style),
     Json,
     Github,
 }
@@ -22,7 +22,7 @@ enum Lines {
 pub(crate) fn run_check<F: Open, W: Write, E: Write>(
     alloc: Global,
     options: &CheckOptions<'_>,
-    look: Look,
+    look: Style,
     files: &mut F,
     out: &mut W,
     errors: &mut E,
@@ -46,7 +46,7 @@ pub(crate) fn run_check<F: Open, W: Write, E: Write>(
 }
 
 /// The form of the lines: those for people have the look of the output.
-fn lines_of(format: Format, look: Look) -> Lines {
+fn lines_of(format: Format, look: Style) -> Lines {
     match format {
         Format::Text => Lines::Text(look),
         Format::Json => Lines::Json,
@@ -66,7 +66,7 @@ fn check_pool<W: Write>(
 ) -> io::Result<Status> {
     let inspection = inspect(alloc, bytes)?;
     let warnings = warnings(alloc, &inspection.objects, TERMINAL_SIZES)?;
-    let source = Source {
+    let source = CheckedPool {
         path,
         inspection: &inspection,
         names,
@@ -86,7 +86,7 @@ fn check_pool<W: Write>(
 
 fn put_item<W: Write>(
     alloc: Global,
-    source: &Source<'_>,
+    source: &CheckedPool<'_>,
     item: Item<'_>,
     lines: Lines,
     out: &mut W,

@@ -5,10 +5,10 @@ use std::alloc::Global;
 use std::io::{self, Write};
 use vt_changes::changed_fields;
 use vt_cli::{Open, Status, read_names, read_pool_file};
-use vt_findings_text::Source;
+use vt_findings_text::CheckedPool;
 use vt_inspect::{Finding, Inspection, inspect};
 use vt_inspector_words::DiffOptions;
-use vt_needs::{Difference, compare};
+use vt_needs::{PoolDifference, compare};
 use vt_objects::{ObjectId, Store};
 
 /// Prints the differences of two pools, up to the first bytes that cannot be read.
@@ -32,12 +32,12 @@ pub(crate) fn run_diff<F: Open, W: Write, E: Write>(
     let new = inspect(alloc, new_bytes.as_slice())?;
     let is_judged = is_exact(&old, options.old, errors) & is_exact(&new, options.new, errors);
     let found = compare(alloc, &old.objects, &new.objects)?;
-    let before = Source {
+    let before = CheckedPool {
         path: options.old,
         inspection: &old,
         names: &names,
     };
-    let after = Source {
+    let after = CheckedPool {
         path: options.new,
         inspection: &new,
         names: &names,
@@ -77,29 +77,29 @@ fn is_of_record(finding: &Finding) -> bool {
 
 fn put_difference<W: Write>(
     alloc: Global,
-    before: &Source<'_>,
-    after: &Source<'_>,
-    difference: Difference,
+    before: &CheckedPool<'_>,
+    after: &CheckedPool<'_>,
+    difference: PoolDifference,
     out: &mut W,
 ) -> io::Result<()> {
     match difference {
-        Difference::Removed { id } => writeln!(out, "removed {}", before.label(id)),
-        Difference::OtherKind { id } => writeln!(
+        PoolDifference::Removed { id } => writeln!(out, "removed {}", before.label(id)),
+        PoolDifference::OtherKind { id } => writeln!(
             out,
             "other kind {}, was {}",
             after.label(id),
             before.label(id)
         ),
-        Difference::Changed { id } => put_changed(alloc, before, after, id, out),
-        Difference::Added { id } => writeln!(out, "added {}", after.label(id)),
+        PoolDifference::Changed { id } => put_changed(alloc, before, after, id, out),
+        PoolDifference::Added { id } => writeln!(out, "added {}", after.label(id)),
     }
 }
 
 /// Prints an object of both pools, with the names of the fields in which it differs.
 fn put_changed<W: Write>(
     alloc: Global,
-    before: &Source<'_>,
-    after: &Source<'_>,
+    before: &CheckedPool<'_>,
+    after: &CheckedPool<'_>,
     id: ObjectId,
     out: &mut W,
 ) -> io::Result<()> {

@@ -15,4 +15,4 @@ mod needs;
 mod program;
 mod why;
 
-pub use program::{Look, run};
+pub use program::{Style, run};

@@ -4,7 +4,7 @@ use crate::program::is_read;
 use std::alloc::Global;
 use std::io::{self, Error, ErrorKind, Write};
 use vt_cli::{Open, Status, read_names, read_pool_file};
-use vt_findings_text::{Source, event_name};
+use vt_findings_text::{CheckedPool, event_name};
 use vt_inspect::{Inspection, inspect};
 use vt_inspector_words::NeedsOptions;
 use vt_needs::{
@@ -29,7 +29,7 @@ pub(crate) fn run_needs<F: Open, W: Write, E: Write>(
         return Ok(Status::NotJudged);
     };
     let inspection = inspect(alloc, bytes.as_slice())?;
-    let source = Source {
+    let source = CheckedPool {
         path: options.pool,
         inspection: &inspection,
         names: &names,
@@ -103,7 +103,7 @@ fn colours(colour: u8) -> u16 {
 /// Prints the longest chain and the dearest event of an accepted pool. If the pool is not accepted, returns the reason.
 fn put_load<W: Write>(
     alloc: Global,
-    source: &Source<'_>,
+    source: &CheckedPool<'_>,
     bytes: &[u8],
     out: &mut W,
 ) -> io::Result<Option<&'static str>> {
@@ -122,7 +122,11 @@ fn put_load<W: Write>(
     }
 }
 
-fn put_accepted<W: Write>(source: &Source<'_>, accepted: Accepted, out: &mut W) -> io::Result<()> {
+fn put_accepted<W: Write>(
+    source: &CheckedPool<'_>,
+    accepted: Accepted,
+    out: &mut W,
+) -> io::Result<()> {
     let dearest = dearest_event(&accepted);
     let chain = longest_chain(accepted.into_parts().depths.as_slice());
     writeln!(out, "longest chain {chain} inclusions")?;

@@ -8,14 +8,14 @@ use std::alloc::Global;
 use std::convert::AsStr;
 use std::io::{self, Write};
 use vt_cli::{Open, Save, Status, refuse};
-use vt_findings_text::{ColouredLine, Message};
+use vt_findings_text::{ColouredLine, ItemLine};
 use vt_gallery::{Outcome, run_draw};
 use vt_inspect::{Inspection, Note};
 use vt_inspector_words::Options;
 
 /// How the output looks.
 #[derive(Clone, Copy, PartialEq, Eq)]
-pub enum Look {
+pub enum Style {
     /// Text without colours, for files and other programs.
     Plain,
     /// Lines for people in colours, for a terminal.
@@ -28,7 +28,7 @@ pub enum Look {
 pub fn run<S: AsStr, F: Open + Save, W: Write, E: Write>(
     alloc: Global,
     words: &[S],
-    look: Look,
+    look: Style,
     files: &mut F,
     out: &mut W,
     errors: &mut E,
@@ -59,13 +59,13 @@ fn status_of(outcome: Outcome) -> Status {
 
 /// Writes a message as its line for people.
 pub(crate) fn put_message<W: Write>(
-    message: &Message<'_>,
-    look: Look,
+    message: &ItemLine<'_>,
+    look: Style,
     out: &mut W,
 ) -> io::Result<()> {
     match look {
-        Look::Plain => writeln!(out, "{message}"),
-        Look::Coloured => writeln!(out, "{}", ColouredLine { message }),
+        Style::Plain => writeln!(out, "{message}"),
+        Style::Coloured => writeln!(out, "{}", ColouredLine { message }),
     }
 }
 

@@ -2,12 +2,12 @@
 
 use crate::costs::lines::write_breakdown;
 use crate::costs::parts::is_over;
-use crate::program::{Look, is_read, put_message};
+use crate::program::{Style, is_read, put_message};
 use std::alloc::Global;
 use std::io::{self, Write};
 use vt_cli::{Open, Status, read_names, read_pool_file};
 use vt_costs::break_down;
-use vt_findings_text::{Item, Source};
+use vt_findings_text::{CheckedPool, Item};
 use vt_inspect::{Finding, inspect};
 use vt_inspector_words::WhyOptions;
 use vt_objects::{ObjectId, Store};
@@ -16,7 +16,7 @@ use vt_objects::{ObjectId, Store};
 pub(crate) fn run_why<F: Open, W: Write, E: Write>(
     alloc: Global,
     options: &WhyOptions<'_>,
-    look: Look,
+    look: Style,
     files: &mut F,
     out: &mut W,
     errors: &mut E,
@@ -28,7 +28,7 @@ pub(crate) fn run_why<F: Open, W: Write, E: Write>(
         return Ok(Status::NotJudged);
     };
     let inspection = inspect(alloc, bytes.as_slice())?;
-    let source = Source {
+    let source = CheckedPool {
         path: options.pool,
         inspection: &inspection,
         names: &names,
@@ -54,7 +54,7 @@ pub(crate) fn run_why<F: Open, W: Write, E: Write>(
 }
 
 /// Whether an object is in the pool. If not, `errors` receives the reason.
-fn is_there<E: Write>(source: &Source<'_>, id: ObjectId, errors: &mut E) -> bool {
+fn is_there<E: Write>(source: &CheckedPool<'_>, id: ObjectId, errors: &mut E) -> bool {
     let is_there = source.inspection.objects.get(id).is_some();
     if !is_there {
         let _ = writeln!(
@@ -70,8 +70,8 @@ fn is_there<E: Write>(source: &Source<'_>, id: ObjectId, errors: &mut E) -> bool
 /// Prints why no costs are known: macros that end inside a command, or circles of macros.
 fn put_unknown<W: Write>(
     alloc: Global,
-    source: &Source<'_>,
-    look: Look,
+    source: &CheckedPool<'_>,
+    look: Style,
     out: &mut W,
 ) -> io::Result<()> {
     for finding in source.inspection.findings.iter() {

@@ -1,7 +1,7 @@
 -- The lines of a log that print another text than is expected.
 use Rattle.std.specs.Prelude.{◌≡◌, ℕ, ◌+◌, false, if◌then◌else◌, List, [], ◌∷◌, ◌++◌}
 use Rattle.std.specs.Str.{bytes_eq}
-use Rattle.vt_log_bench.specs.declared.difference.Difference.{Difference}
+use Rattle.vt_log_bench.specs.declared.difference.LineDifference.{LineDifference}
 use Rattle.vt_log_bench.specs.Expectations.{is_expectation, expected_by}
 use Rattle.vt_log_bench.specs.LineTexts.{Prints}
 use Rattle.vt_logs.specs.Lines.{lines_of}
@@ -13,7 +13,7 @@ pub record DiffersAt : Type 0 where
   pub expected : List ℕ
   pub printed : List ℕ
 
-abbrev pub difference_seen : Difference → DiffersAt
+abbrev pub difference_seen : LineDifference → DiffersAt
 difference_seen difference = record { line = difference.line; expected = difference.expected.items; printed = difference.printed.items }
 
 -- the difference at a line, if there is one

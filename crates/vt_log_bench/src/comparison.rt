@@ -7,7 +7,7 @@ ghost use Rattle.vt_log_bench.specs.Expectations.{expected_by};
 ghost use Rattle.vt_logs.specs.Lines.{lines_of};
 ghost use Rattle.vt_server.specs.States.{state_of};
 
-use crate::difference::Difference;
+use crate::difference::LineDifference;
 use crate::expectation::{expected_by, is_expectation, next_line};
 use std::alloc::{AllocError, Global};
 use vt_logs::{Progress, ReplayFault};
@@ -20,7 +20,7 @@ pub fn differences(
     alloc: Global,
     log: &[u8],
     terminal: &mut Terminal,
-) -> Result<Vec<Difference>, ReplayFault>
+) -> Result<Vec<LineDifference>, ReplayFault>
     requires few { length log.now ≤ 2 ^ 60 }
     // Each line prints what it prints in a replay of the log, and exactly the lines with another text than is expected are returned.
     ensures differences { IfOk result (λ differences. AreDifferences (state_of terminal.old) log.now (map difference_seen differences.items) (state_of terminal.new)) }
@@ -57,14 +57,14 @@ fn compare(
     line: u64,
     after: &[u8],
     printed: &[u8],
-    differences: &mut Vec<Difference>,
+    differences: &mut Vec<LineDifference>,
 ) -> Result<(), AllocError>
     ensures { OnOk result (map difference_seen differences.new.items ≡ map difference_seen differences.old.items ++ difference_at line (expected_by (lines_of after.now)) printed.now) }
 {
     let expected = expected_by(alloc, after)?;
     if expected.as_slice() != printed {
         let printed = Vec::from_slice(alloc, printed)?;
-        differences.push(Difference {
+        differences.push(LineDifference {
             line,
             expected,
             printed,

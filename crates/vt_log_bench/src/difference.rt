@@ -2,7 +2,7 @@
 
 /// A line that does not print what is expected.
 #[derive(Drop)]
-pub struct Difference {
+pub struct LineDifference {
     /// The number of the line, from 1; 0 for the first screen.
     pub line: u64,
     /// The text that is expected.

@@ -19,5 +19,5 @@ mod test;
 
 pub use blessing::{Blessed, bless};
 pub use comparison::differences;
-pub use difference::Difference;
+pub use difference::LineDifference;
 pub use test::run_test;

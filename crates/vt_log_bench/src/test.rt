@@ -3,7 +3,7 @@
 ghost use Rattle.std.specs.Prelude.{◌≡◌, IfOk};
 ghost use Rattle.vt_log_bench.specs.Statuses.{status_of};
 
-use crate::{Blessed, Difference, bless, differences};
+use crate::{Blessed, LineDifference, bless, differences};
 use std::alloc::{AllocError, Global};
 use std::io::{self, Error, ErrorKind, Write};
 use vt_cli::{Open, Program, Save, Status, save_file};
@@ -167,7 +167,7 @@ fn not_replayed<F: Program, E: Write>(
 fn put_differences<W: Write>(
     alloc: Global,
     path: &str,
-    differences: &[Difference],
+    differences: &[LineDifference],
     out: &mut W,
 ) -> io::Result<Status>
     ensures { IfOk result (λ status. status ≡ status_of differences.now) }
@@ -191,7 +191,11 @@ fn put_differences<W: Write>(
 }
 
 /// Writes the lines of an expected text and of a printed one, without those with which both begin and those with which both end.
-fn put_changed<W: Write>(alloc: Global, difference: &Difference, out: &mut W) -> io::Result<()> {
+fn put_changed<W: Write>(
+    alloc: Global,
+    difference: &LineDifference,
+    out: &mut W,
+) -> io::Result<()> {
     let expected = lines_in(alloc, &difference.expected)?;
     let printed = lines_in(alloc, &difference.printed)?;
     let pairs = expected.iter().zip(printed.iter());

@@ -9,7 +9,7 @@ use std::io::{self, Write};
 use vt_can::assigned::ECU_TO_VT;
 use vt_can::{Frame, Line, LineFault};
 use vt_cli::{Open, Save, Status, make_folder, read_names, save_file};
-use vt_findings_text::{Item, Names, Source};
+use vt_findings_text::{CheckedPool, Item, Names};
 use vt_frames_text::PoolRequest;
 use vt_inspect::inspect;
 use vt_listen::{Broken, Listener};
@@ -233,7 +233,7 @@ impl Report<'_> {
     /// Writes every fault of a pool, as `segyolant check` does.
     fn put_findings<W: Write>(&self, path: &str, bytes: &[u8], out: &mut W) -> io::Result<()> {
         let inspection = inspect(self.alloc, bytes)?;
-        let source = Source {
+        let source = CheckedPool {
             path,
             inspection: &inspection,
             names: self.names,

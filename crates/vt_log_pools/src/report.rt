@@ -8,7 +8,7 @@ use std::fmt;
 use std::io::{self, Write};
 use vt_cli::JsonLine;
 use vt_findings_json::item_json;
-use vt_findings_text::{Item, Source};
+use vt_findings_text::{CheckedPool, Item};
 use vt_frames_text::PoolRequest;
 use vt_listen::Broken;
 use vt_log_words::Format;
@@ -112,7 +112,7 @@ fn put_upload_fields<W: Write>(
 /// Writes the line of a fault of a pool.
 pub(crate) fn put_finding<W: Write>(
     alloc: Global,
-    source: &Source<'_>,
+    source: &CheckedPool<'_>,
     item: Item<'_>,
     format: Format,
     out: &mut W,

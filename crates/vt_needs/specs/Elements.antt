@@ -10,7 +10,7 @@ use Rattle.vt_stores.specs.Stores.{Objects, map_of}
 use Rattle.vt_needs.specs.declared.elements.Extent.{Extent}
 use Rattle.vt_needs.specs.declared.sizes.Area.{Area}
 use Rattle.vt_needs.specs.declared.sizes.Sizes.{Sizes}
-use Rattle.vt_needs.specs.declared.warning.Element.{Element}
+use Rattle.vt_needs.specs.declared.warning.PlacedElement.{PlacedElement}
 
 -- ---- the area that an object takes
 
@@ -53,20 +53,20 @@ IsSized width height = (width ≤ 4294836225) × (height ≤ 4294836225)
 
 -- ---- the elements of an object
 
-abbrev pub element_of : ℕ → ℕ → Child → ℕ → Extent → Element
+abbrev pub element_of : ℕ → ℕ → Child → ℕ → Extent → PlacedElement
 element_of parent index child id extent =
     record { parent = parent; index = index; id = id; x = child.x; y = child.y; width = extent.width; height = extent.height }
 
-abbrev pub element_for : Objects → ℕ → ℕ → Child → Option ℕ → Option Element
+abbrev pub element_for : Objects → ℕ → ℕ → Child → Option ℕ → Option PlacedElement
 element_for objects parent index child None = None
 element_for objects parent index child (Some id) = option_map (element_of parent index child id) (extent_in (finite.get (map_of objects) id))
 
 -- the element of a child: of its object, or of the value of its pointer
-abbrev pub element : Objects → ℕ → ℕ → Child → Option Element
+abbrev pub element : Objects → ℕ → ℕ → Child → Option PlacedElement
 element objects parent index child = element_for objects parent index child (resolves_to (map_of objects) child.id)
 
 -- the elements of children, with their indices
-abbrev pub elements_from : Objects → ℕ → ℕ → List Child → List Element
+abbrev pub elements_from : Objects → ℕ → ℕ → List Child → List PlacedElement
 elements_from objects parent index [] = []
 elements_from objects parent index (child ∷ children) =
     option_to_list (element objects parent index child) ++ elements_from objects parent (suc index) children
@@ -86,7 +86,7 @@ frame_of sizes (object.Button o) = framed (record { width = o.width; height = o.
 frame_of sizes o = None
 
 -- an element begins or ends outside of an area
-abbrev pub is_outside : Area → Element → Bool
+abbrev pub is_outside : Area → PlacedElement → Bool
 is_outside area e =
     int_lt e.x (pos 0) || int_lt e.y (pos 0) || int_lt (pos area.width) (e.x +ℤ pos e.width)
     || int_lt (pos area.height) (e.y +ℤ pos e.height)

@@ -14,7 +14,7 @@ use Rattle.vt_needs.specs.declared.needs.Lack.TheVariants as lacks
 use Rattle.vt_needs.specs.declared.needs.Needs.{Needs}
 use Rattle.vt_needs.specs.declared.sizes.Area.{Area}
 use Rattle.vt_needs.specs.declared.sizes.Sizes.{Sizes}
-use Rattle.vt_needs.specs.declared.warning.Element.{Element}
+use Rattle.vt_needs.specs.declared.warning.PlacedElement.{PlacedElement}
 use Rattle.vt_needs.specs.Elements.{element}
 
 -- ---- the greatest of some numbers
@@ -32,7 +32,7 @@ end_of (pos n) size = n + size
 end_of (negsuc n) size = size - suc n
 
 -- the right and the lower end of an element
-abbrev pub ends_of : Option Element → Extent
+abbrev pub ends_of : Option PlacedElement → Extent
 ends_of None = record { width = 0; height = 0 }
 ends_of (Some e) = record { width = end_of e.x e.width; height = end_of e.y e.height }
 

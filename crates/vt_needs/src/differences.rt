@@ -12,7 +12,7 @@ use vt_pool::write_object;
 
 /// A difference of two pools, by an ID.
 #[derive(Clone, Copy, PartialEq, Eq)]
-pub enum Difference {
+pub enum PoolDifference {
     /// Only the old pool has the object.
     Removed { id: ObjectId },
     /// The objects are of different kinds.
@@ -28,7 +28,7 @@ pub fn compare(
     alloc: Global,
     old: &SortedStore,
     new: &SortedStore,
-) -> Result<Vec<Difference>, AllocError>
+) -> Result<Vec<PoolDifference>, AllocError>
     ensures { IfOk result (λ found. found.items ≡ spec.differences_of old.now new.now) }
 {
     let mut found = Vec::new(alloc);
@@ -42,13 +42,13 @@ fn put_kept(
     alloc: Global,
     old: &SortedStore,
     new: &SortedStore,
-    found: &mut Vec<Difference>,
+    found: &mut Vec<PoolDifference>,
 ) -> Result<(), AllocError>
     ensures { OnOk result (found.new.items ≡ found.old.items ++ flat_map (λ e. spec.kept_or_removed e.0 e.1 (object_at new.now e.0)) old.now) }
 {
     for (id, object) in old.entries() {
         match new.get(*id) {
-            None => found.push(Difference::Removed { id: *id })?,
+            None => found.push(PoolDifference::Removed { id: *id })?,
             Some(other) => put_compared(alloc, *id, object, other, found)?,
         }
     }
@@ -61,14 +61,14 @@ fn put_compared(
     id: ObjectId,
     old: &Object<Vec<u8>>,
     new: &Object<Vec<u8>>,
-    found: &mut Vec<Difference>,
+    found: &mut Vec<PoolDifference>,
 ) -> Result<(), AllocError>
     ensures { OnOk result (found.new.items ≡ found.old.items ++ spec.compared id (seen old.now) (seen new.now)) }
 {
     if !are_of_one_kind(old, new) {
-        found.push(Difference::OtherKind { id })?;
+        found.push(PoolDifference::OtherKind { id })?;
     } else if !are_equal(alloc, old, new)? {
-        found.push(Difference::Changed { id })?;
+        found.push(PoolDifference::Changed { id })?;
     }
     Ok(())
 }
@@ -105,13 +105,13 @@ fn record_of(alloc: Global, object: &Object<Vec<u8>>) -> Result<Vec<u8>, AllocEr
 fn put_added(
     old: &SortedStore,
     new: &SortedStore,
-    found: &mut Vec<Difference>,
+    found: &mut Vec<PoolDifference>,
 ) -> Result<(), AllocError>
     ensures { OnOk result (found.new.items ≡ found.old.items ++ flat_map (λ e. spec.added e.0 (object_at old.now e.0)) new.now) }
 {
     for (id, _) in new.entries() {
         if old.get(*id).is_none() {
-            found.push(Difference::Added { id: *id })?;
+            found.push(PoolDifference::Added { id: *id })?;
         }
     }
     Ok(())

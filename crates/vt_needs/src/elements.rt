@@ -6,7 +6,7 @@ ghost use Rattle.vt_kinds.specs.Records.{seen};
 ghost use Rattle.vt_needs.specs.Elements as elements;
 
 use crate::sizes::{Area, Sizes};
-use crate::warning::Element;
+use crate::warning::PlacedElement;
 use vt_objects::{Child, Object, ObjectId, SortedStore};
 use vt_shown::resolve;
 
@@ -60,7 +60,7 @@ pub(crate) fn element(
     parent: ObjectId,
     index: u8,
     child: Child,
-) -> Option<Element>
+) -> Option<PlacedElement>
     ensures element { result ≡ elements.element objects.now parent index child }
     ensures most { IfSome result (λ e. elements.IsSized e.width e.height) }
 {
@@ -68,7 +68,7 @@ pub(crate) fn element(
         None => None,
         Some(found) => {
             let Extent { width, height } = extent_of(found.1)?;
-            Some(Element {
+            Some(PlacedElement {
                 parent,
                 index,
                 id: found.0,
@@ -82,7 +82,7 @@ pub(crate) fn element(
 }
 
 /// Whether an element begins or ends outside of an area.
-pub(crate) fn is_outside(element: &Element, area: Area) -> bool
+pub(crate) fn is_outside(element: &PlacedElement, area: Area) -> bool
     ensures { result ≡ elements.is_outside area element.now }
 {
     element.x < 0

@@ -3,7 +3,7 @@
 //! - `warnings` finds each `Warning` about the objects of a pool, which need not be an accepted one.
 //! - `needs_of` finds what a pool `Needs` of a terminal, and `lacks` finds each `Lack`: something of which a terminal has less.
 //! - `dearest_event` and `longest_chain` find the event with the most steps and the longest chain of inclusions of an accepted pool;
-//!   `compare` finds each `Difference` of two pools by their IDs.
+//!   `compare` finds each `PoolDifference` of two pools by their IDs.
 //! - `cell` is the area of a character of a font, and `extent_of` the area that an object takes.
 //! - `Sizes` are the sizes of a terminal; `TERMINAL_SIZES` are those of this one.
 //!
@@ -22,14 +22,14 @@ mod sizes;
 mod text_fields;
 mod warning;
 
-pub use differences::{Difference, compare};
+pub use differences::{PoolDifference, compare};
 pub use elements::{Extent, extent_of};
 pub use fonts::cell;
 pub use loads::{Dearest, dearest_event, longest_chain};
 pub use needs::{Lack, Needs, has_font, has_kind, lacks, needs_of};
 pub use rule::warnings;
 pub use sizes::{Area, Sizes, TERMINAL_SIZES};
-pub use warning::{Element, TextField, Warning};
+pub use warning::{PlacedElement, TextField, Warning};
 
 /// The error of a failed allocation.
 pub use std::alloc::AllocError as OutOfMemory;

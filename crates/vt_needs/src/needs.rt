@@ -7,7 +7,7 @@ ghost use Rattle.vt_needs.specs.Elements as elements;
 
 use crate::elements::{Extent, element};
 use crate::sizes::{Area, Sizes};
-use crate::warning::Element;
+use crate::warning::PlacedElement;
 use arrayvec::ArrayVec;
 use vt_objects::{Child, Kind, Object, ObjectId, SortedStore};
 
@@ -102,7 +102,7 @@ fn extent_needed(objects: &SortedStore, children: &[Child]) -> Extent
 }
 
 /// The right and the lower end of an element; 0 if it ends before the area, or if there is no element.
-fn end_of(element: Option<Element>) -> Extent
+fn end_of(element: Option<PlacedElement>) -> Extent
     requires { IfSome element (λ e. elements.IsSized e.width e.height) }
     ensures { result ≡ spec.ends_of element }
 {

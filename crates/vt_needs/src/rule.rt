@@ -14,7 +14,7 @@ use crate::id_set::IdSet;
 use crate::naming::named;
 use crate::sizes::{Area, Sizes};
 use crate::text_fields::{is_too_high, is_too_wide, text_field};
-use crate::warning::{Element, TextField, Warning};
+use crate::warning::{PlacedElement, TextField, Warning};
 use std::alloc::{AllocError, Global};
 use vt_objects::{Child, Kind, Object, ObjectId, SortedStore};
 
@@ -155,7 +155,7 @@ fn put_outside(
 /// Appends an element that reaches out of an area.
 fn put_if_outside(
     found: &mut Vec<Warning>,
-    element: Option<Element>,
+    element: Option<PlacedElement>,
     area: Area,
 ) -> Result<(), AllocError>
     ensures { OnOk result (found.new.items ≡ found.old.items ++ map (λ e. warnings.Outside e area) (filter (is_outside area) (option_to_list element))) }

@@ -20,7 +20,7 @@ pub struct TextField {
 
 /// A child of an object, by the area that it takes there.
 #[derive(Clone, Copy, PartialEq, Eq)]
-pub struct Element {
+pub struct PlacedElement {
     /// The object that has the child.
     pub parent: ObjectId,
     /// The index of the child in the object's list.
@@ -51,7 +51,7 @@ pub enum Warning {
     /// A child reaches out of the area of its mask, container, button or key.
     Outside {
         /// The child.
-        element: Element,
+        element: PlacedElement,
         /// The area of the object that has the child.
         area: Area,
     },

@@ -17,8 +17,8 @@ use Rattle.vt_svg.proofs.AppendedNodes.{AppendsNodes, around, around_spots, empt
 use Rattle.vt_images.proofs.ClosedImages.{images_after}
 use Rattle.vt_shapes.specs.Shapes.{shapes}
 use Rattle.vt_shapes.proofs.NoIds.{no_ids}
-use Rattle.vt_picture.specs.declared.frame.Frame.{Frame}
-use Rattle.vt_picture.specs.declared.frame.Frame.TheVariants as frames
+use Rattle.vt_picture.specs.declared.frame.Framing.{Framing}
+use Rattle.vt_picture.specs.declared.frame.Framing.TheVariants as frames
 use Rattle.vt_picture.specs.declared.walk.Tag.{Tag}
 use Rattle.vt_picture.specs.declared.walk.Tag.TheVariants.{Open, Close}
 use Rattle.vt_picture.specs.Documents.{IsPicture, background, beginning, gap, key_marks, keys_area, mask_and_keys, mask_area, mask_marks, mask_tags, picture_attributes, picture_size, pictures, with_area}
@@ -37,7 +37,7 @@ record AreOf (entry : Child) (attributes : List Attribute) : Type 0 where
   pub left : left_of attributes ≡ entry.x
   pub top : top_of attributes ≡ entry.y
 
-attributes_of : (entry : Child) (frame : Frame) → AreOf entry (element_attributes entry frame)
+attributes_of : (entry : Child) (frame : Framing) → AreOf entry (element_attributes entry frame)
 attributes_of entry frames.Whole = record { own = refl; left = refl; top = refl }
 attributes_of entry (frames.Clipped width height) = record { own = refl; left = refl; top = refl }
 attributes_of entry (frames.Fine area) = record { own = refl; left = refl; top = refl }

@@ -10,17 +10,17 @@ use Rattle.vt_shown.specs.ShownElements.{resolves_to, is_element}
 use Rattle.vt_layout.specs.Drawings.{entries_in}
 use Rattle.vt_needs.specs.declared.sizes.Sizes.{Sizes}
 use Rattle.vt_picture.specs.declared.listing.Around.{Around}
-use Rattle.vt_picture.specs.declared.listing.Element.{Element}
+use Rattle.vt_picture.specs.declared.listing.ListedElement.{ListedElement}
 use Rattle.vt_picture.specs.Listings.{Listing, each_listed, element_at, inside_of, listed, listed_at, listed_for, spot_of}
 use Rattle.vt_picture.specs.Marks.{Marks, Mark, each_marked, led_to, marked, marks, spots}
 
-abbrev pub spot : Element → ℕ × ℤ × ℤ
+abbrev pub spot : ListedElement → ℕ × ℤ × ℤ
 spot e = (e.id, e.at.x, e.at.y)
 
 module _ (sizes : Sizes) (store : ObjectMap) (within : List Child → Marks) (inside : Listing)
     (same : (entries : List Child) (around : Around) (index : ℕ) → map spot (inside entries around index) ≡ spots around.at.x around.at.y (within entries)) where
   -- an entry before others, for the object to which it leads
-  object_listed : (entry : Child) (id : ℕ) (object : Option Seen) (around : Around) (index : ℕ) (later : List Element) (others : Marks) → map spot later ≡ spots around.at.x around.at.y others
+  object_listed : (entry : Child) (id : ℕ) (object : Option Seen) (around : Around) (index : ℕ) (later : List ListedElement) (others : Marks) → map spot later ≡ spots around.at.x around.at.y others
       → map spot (listed_at inside sizes store id object (spot_of around entry) index ++ later)
       ≡ spots around.at.x around.at.y (cond (is_element object) (Mark (led_to entry id) (within (entries_in store object)) others) others)
   object_listed entry id None around index later others rest = rest
@@ -29,7 +29,7 @@ module _ (sizes : Sizes) (store : ObjectMap) (within : List Child → Marks) (in
       at : Around
       at = spot_of around entry
 
-      e : Element
+      e : ListedElement
       e = element_at sizes id object at
 
       by : (b : Bool) → map spot (cond b (e ∷ inside (entries_in store (Some object)) (inside_of index at e.bounds) (suc index)) [] ++ later)
@@ -41,7 +41,7 @@ module _ (sizes : Sizes) (store : ObjectMap) (within : List Child → Marks) (in
           )
       by false = rest
 
-  entry_listed : (entry : Child) (found : Option ℕ) (around : Around) (index : ℕ) (later : List Element) (others : Marks) → map spot later ≡ spots around.at.x around.at.y others
+  entry_listed : (entry : Child) (found : Option ℕ) (around : Around) (index : ℕ) (later : List ListedElement) (others : Marks) → map spot later ≡ spots around.at.x around.at.y others
       → map spot (listed_for inside sizes store found (spot_of around entry) index ++ later) ≡ spots around.at.x around.at.y (marked store within entry found others)
   entry_listed entry None around index later others rest = rest
   entry_listed entry (Some id) around index later others rest = object_listed entry id (finite.get store id) around index later others rest

@@ -6,8 +6,8 @@ use Rattle.vt_needs.specs.declared.sizes.Area.{Area}
 use Rattle.vt_needs.specs.declared.sizes.Sizes.{Sizes}
 use Rattle.vt_needs.specs.declared.elements.Extent.{Extent}
 use Rattle.vt_needs.specs.Elements.{extent_of}
-use Rattle.vt_picture.specs.declared.frame.Frame.{Frame}
-use Rattle.vt_picture.specs.declared.frame.Frame.TheVariants as frames
+use Rattle.vt_picture.specs.declared.frame.Framing.{Framing}
+use Rattle.vt_picture.specs.declared.frame.Framing.TheVariants as frames
 
 abbrev pub area : ℕ → ℕ → Option Area
 area width height = Some (record { width = width; height = height })
@@ -23,18 +23,18 @@ fine_area (objects.LinearBar o) = area o.width o.height
 fine_area (objects.ArchedBar o) = area o.width o.height
 fine_area _ = None
 
-abbrev pub clipped : Option Extent → Frame
+abbrev pub clipped : Option Extent → Framing
 clipped (Some e) = frames.Clipped e.width e.height
 clipped None = frames.Whole
 
 -- the area of an element that clips what is in it
-abbrev pub clipping : Sizes → Seen → Frame
+abbrev pub clipping : Sizes → Seen → Framing
 clipping sizes (objects.Key o) = frames.Clipped sizes.key.width sizes.key.height
 clipping sizes object = clipped (extent_of object)
 
-abbrev pub framed : Sizes → Seen → Option Area → Frame
+abbrev pub framed : Sizes → Seen → Option Area → Framing
 framed sizes object (Some area) = frames.Fine area
 framed sizes object None = clipping sizes object
 
-abbrev pub frame_of : Sizes → Seen → Frame
+abbrev pub frame_of : Sizes → Seen → Framing
 frame_of sizes object = framed sizes object (fine_area object)

@@ -10,11 +10,11 @@ use Rattle.vt_chains.specs.Limits.{terminal}
 use Rattle.vt_shown.specs.ShownElements.{resolves_to, is_element, soft_keys}
 use Rattle.vt_layout.specs.Drawings.{entries_in, mask_entries}
 use Rattle.vt_needs.specs.declared.sizes.Sizes.{Sizes}
-use Rattle.vt_picture.specs.declared.frame.Frame.{Frame}
-use Rattle.vt_picture.specs.declared.frame.Frame.TheVariants as frames
+use Rattle.vt_picture.specs.declared.frame.Framing.{Framing}
+use Rattle.vt_picture.specs.declared.frame.Framing.TheVariants as frames
 use Rattle.vt_picture.specs.declared.listing.Around.{Around}
 use Rattle.vt_picture.specs.declared.listing.Bounds.{Bounds}
-use Rattle.vt_picture.specs.declared.listing.Element.{Element}
+use Rattle.vt_picture.specs.declared.listing.ListedElement.{ListedElement}
 use Rattle.vt_picture.specs.declared.listing.Position.{Position}
 use Rattle.vt_picture.specs.Documents.{gap, key_places, most_marks, width_of}
 use Rattle.vt_picture.specs.Frames.{frame_of}
@@ -35,17 +35,17 @@ within around at width height = record {
 }
 
 -- what is shown of an element lies in its area, or in what is around it where its record has no size, or where its lines may reach out of it
-abbrev pub bounds_of : Frame → Position → Bounds → Bounds
+abbrev pub bounds_of : Framing → Position → Bounds → Bounds
 bounds_of frames.Whole at around = around
 bounds_of (frames.Clipped width height) at around = within around at width height
 bounds_of (frames.Fine area) at around = around
 
-abbrev pub width_in : Frame → ℕ
+abbrev pub width_in : Framing → ℕ
 width_in frames.Whole = 0
 width_in (frames.Clipped width height) = width
 width_in (frames.Fine area) = max 1 area.width
 
-abbrev pub height_in : Frame → ℕ
+abbrev pub height_in : Framing → ℕ
 height_in frames.Whole = 0
 height_in (frames.Clipped width height) = height
 height_in (frames.Fine area) = max 1 area.height
@@ -55,7 +55,7 @@ abbrev pub spot_of : Around → Child → Around
 spot_of around entry = record around { at = record { x = around.at.x +ℤ entry.x; y = around.at.y +ℤ entry.y } }
 
 -- the element of an object at a spot
-abbrev pub element_at : Sizes → ℕ → Seen → Around → Element
+abbrev pub element_at : Sizes → ℕ → Seen → Around → ListedElement
 element_at sizes id object spot = record {
   id = id;
   kind = kind_number (kind_of object);
@@ -75,14 +75,14 @@ inside_of index spot bounds = record { index = Some index; depth = suc spot.dept
 
 -- the elements of entries, by what is around them and the index of the first
 abbrev pub Listing : Type 0
-Listing = List Child → Around → ℕ → List Element
+Listing = List Child → Around → ℕ → List ListedElement
 
 -- a list from an index on, and then another one
-abbrev pub followed : List Element → (ℕ → List Element) → ℕ → List Element
+abbrev pub followed : List ListedElement → (ℕ → List ListedElement) → ℕ → List ListedElement
 followed first later index = first ++ later (index + length first)
 
 -- an element with those within it
-abbrev pub listed_at : Listing → Sizes → ObjectMap → ℕ → Option Seen → Around → ℕ → List Element
+abbrev pub listed_at : Listing → Sizes → ObjectMap → ℕ → Option Seen → Around → ℕ → List ListedElement
 listed_at inside sizes store id None spot index = []
 listed_at inside sizes store id (Some object) spot index =
     if is_element (Some object)
@@ -90,7 +90,7 @@ listed_at inside sizes store id (Some object) spot index =
     else []
 
 -- the element to which an entry leads
-abbrev pub listed_for : Listing → Sizes → ObjectMap → Option ℕ → Around → ℕ → List Element
+abbrev pub listed_for : Listing → Sizes → ObjectMap → Option ℕ → Around → ℕ → List ListedElement
 listed_for inside sizes store None spot index = []
 listed_for inside sizes store (Some id) spot index = listed_at inside sizes store id (finite.get store id) spot index
 
@@ -105,11 +105,11 @@ listed zero sizes store entries around index = []
 listed (suc levels) sizes store entries around index = each_listed (listed levels sizes store) sizes store entries around index
 
 -- as many elements as a picture has
-abbrev pub first_of : List Element → List Element
+abbrev pub first_of : List ListedElement → List ListedElement
 first_of list = take most_marks list
 
 -- a list has got others behind it, as many as fit
-abbrev pub Lists : (ℕ → List Element) → List Element → List Element → Type 0
+abbrev pub Lists : (ℕ → List ListedElement) → List ListedElement → List ListedElement → Type 0
 Lists more old new = new ≡ first_of (old ++ more (length old))
 
 -- ---- the elements of a picture
@@ -130,7 +130,7 @@ abbrev pub around_keys : Sizes → ℕ → Around
 around_keys sizes keys = from_corner (pos (sizes.mask.width + gap)) (end_of (pos 0) (width_of sizes keys)) sizes.mask.height
 
 -- the elements of a mask, and then its keys with what is in them
-abbrev pub elements_of : Sizes → ObjectMap → ℕ → List Element
+abbrev pub elements_of : Sizes → ObjectMap → ℕ → List ListedElement
 elements_of sizes store mask =
     first_of (followed (listed terminal.inclusions sizes store (mask_entries store mask) (around_mask sizes) 0)
     (listed terminal.inclusions sizes store (key_places sizes 0 (soft_keys store mask)) (around_keys sizes (length (soft_keys store mask)))) 0)
@@ -152,10 +152,10 @@ abbrev pub or_else : Option ℕ → Option ℕ → Option ℕ
 or_else None other = other
 or_else (Some id) other = Some id
 
-abbrev pub touched_at : ℤ → ℤ → Element → Option ℕ
+abbrev pub touched_at : ℤ → ℤ → ListedElement → Option ℕ
 touched_at x y e = if is_operated e.kind && lies_in x y e.bounds then Some e.id else None
 
 -- the key, button or input at a place: of several the one drawn last
-abbrev pub touched : ℤ → ℤ → List Element → Option ℕ
+abbrev pub touched : ℤ → ℤ → List ListedElement → Option ℕ
 touched x y [] = None
 touched x y (e ∷ elements) = or_else (touched x y elements) (touched_at x y e)

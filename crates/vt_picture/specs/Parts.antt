@@ -10,7 +10,7 @@ use Rattle.vt_shown.specs.ShownElements.{resolves_to}
 use Rattle.vt_layout.specs.Drawings.{unmoved}
 use Rattle.vt_needs.specs.declared.sizes.Area.{Area}
 use Rattle.vt_needs.specs.declared.sizes.Sizes.{Sizes}
-use Rattle.vt_picture.specs.declared.frame.Frame.{Frame}
+use Rattle.vt_picture.specs.declared.frame.Framing.{Framing}
 use Rattle.vt_picture.specs.declared.walk.Tag.{Tag}
 use Rattle.vt_picture.specs.Documents.{IsEnded, background, beginning, gap, key_places, most_marks, width_of}
 use Rattle.vt_picture.specs.Frames.{frame_of}
@@ -25,7 +25,7 @@ abbrev pub size_of_area : Area → ℕ × ℕ
 size_of_area area = (area.width, area.height)
 
 -- the size of an element, as the list of elements has it
-abbrev pub size_in : Frame → ℕ × ℕ
+abbrev pub size_in : Framing → ℕ × ℕ
 size_in frame = (width_in frame, height_in frame)
 
 -- the width of the columns that keys take beside a mask, with the pixels between them

@@ -10,8 +10,8 @@ use Rattle.vt_svg.specs.declared.attribute.Attribute.TheVariants as attributes
 use Rattle.vt_svg.specs.declared.attribute.Flag.TheVariants as flags
 use Rattle.vt_svg.specs.declared.element.Element.TheVariants as elements
 use Rattle.vt_svg.specs.Elements.{opened, closed, text_of}
-use Rattle.vt_picture.specs.declared.frame.Frame.{Frame}
-use Rattle.vt_picture.specs.declared.frame.Frame.TheVariants as frames
+use Rattle.vt_picture.specs.declared.frame.Framing.{Framing}
+use Rattle.vt_picture.specs.declared.frame.Framing.TheVariants as frames
 use Rattle.vt_picture.specs.declared.walk.Tag.{Tag}
 use Rattle.vt_picture.specs.declared.walk.Tag.TheVariants.{Open, Close}
 use Rattle.vt_picture.specs.Frames.{frame_of}
@@ -21,7 +21,7 @@ use Rattle.vt_shapes.specs.UsedPictures.{used_picture}
 -- ---- elements
 
 -- the size of an element; a fine one has coordinates in tenths of a pixel, and at least one pixel, without which nothing is shown
-abbrev pub sized : Frame → List Attribute
+abbrev pub sized : Framing → List Attribute
 sized frames.Whole = []
 sized (frames.Clipped width height) = attributes.Width width ∷ attributes.Height height ∷ []
 sized (frames.Fine area) =
@@ -29,7 +29,7 @@ sized (frames.Fine area) =
     ∷ attributes.Flag flags.Overflow ∷ []
 
 -- the ID, the position and the size of an element
-abbrev pub element_attributes : Child → Frame → List Attribute
+abbrev pub element_attributes : Child → Framing → List Attribute
 element_attributes entry frame = attributes.ObjectId entry.id ∷ attributes.X entry.x ∷ attributes.Y entry.y ∷ sized frame
 
 -- the most bytes of a text after which the shapes of another element are appended

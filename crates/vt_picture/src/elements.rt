@@ -7,7 +7,7 @@ ghost use Rattle.vt_svg.specs.declared.element.Element.TheVariants.{Svg};
 ghost use Rattle.vt_svg.specs.Elements.{opened};
 ghost use Rattle.vt_picture.specs.Pictures.{element_opening, picture_of, element_attributes, shapes_if, tag_text, with_id, with_picture, with_pictures, with_tag, with_tags, is_in};
 
-use crate::frame::{Frame, frame_of};
+use crate::frame::{Framing, frame_of};
 use crate::walk::Tag;
 use std::alloc::AllocError;
 use vt_needs::Sizes;
@@ -60,7 +60,7 @@ fn open_element<S: Store>(
     ensures { OnOk result (text.new.items ≡ text.old.items ++ element_opening has_room sizes (S.contents store.now) entry.now (finite.get (S.contents store.now) entry.now.id)) }
 {
     let Some(object) = store.get(entry.id) else {
-        return open_tag(text, entry, Frame::Whole);
+        return open_tag(text, entry, Framing::Whole);
     };
     open_tag(text, entry, frame_of(sizes, object))?;
     draw_shapes_if(text, store, sizes, entry.id, object, has_room)
@@ -83,20 +83,20 @@ fn draw_shapes_if<S: Store>(
 }
 
 /// Appends the tag of an element.
-fn open_tag(text: &mut Vec<u8>, entry: &Child, frame: Frame) -> Result<(), AllocError>
+fn open_tag(text: &mut Vec<u8>, entry: &Child, frame: Framing) -> Result<(), AllocError>
     ensures { OnOk result (text.new.items ≡ text.old.items ++ opened Svg (element_attributes entry.now frame)) }
 {
     let id = Attribute::ObjectId(entry.id.raw());
     let x = Attribute::X(i32::from(entry.x));
     let y = Attribute::Y(i32::from(entry.y));
     match frame {
-        Frame::Whole => open(text, Element::Svg, &[id, x, y]),
-        Frame::Clipped { width, height } => open(
+        Framing::Whole => open(text, Element::Svg, &[id, x, y]),
+        Framing::Clipped { width, height } => open(
             text,
             Element::Svg,
             &[id, x, y, Attribute::Width(width), Attribute::Height(height)],
         ),
-        Frame::Fine(area) => {
+        Framing::Fine(area) => {
             let width = u32::from(area.width).max(1);
             let height = u32::from(area.height).max(1);
             open(

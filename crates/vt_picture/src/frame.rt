@@ -9,7 +9,7 @@ use vt_objects::Object;
 
 /// The area of an element, in pixels.
 #[derive(Clone, Copy, PartialEq, Eq)]
-pub(crate) enum Frame {
+pub(crate) enum Framing {
     /// That of the element around it.
     Whole,
     /// An area outside of which nothing is shown.
@@ -19,24 +19,24 @@ pub(crate) enum Frame {
 }
 
 /// The area of an object as an element.
-pub(crate) fn frame_of(sizes: Sizes, object: &Object<Vec<u8>>) -> Frame
+pub(crate) fn frame_of(sizes: Sizes, object: &Object<Vec<u8>>) -> Framing
     ensures { result ≡ frame_of sizes (seen object.now) }
 {
     if let Some(area) = fine_area(object) {
-        return Frame::Fine(area);
+        return Framing::Fine(area);
     }
     if let Object::Key(_) = object {
-        return Frame::Clipped {
+        return Framing::Clipped {
             width: u32::from(sizes.key.width),
             height: u32::from(sizes.key.height),
         };
     }
     match extent_of(object) {
-        Some(extent) => Frame::Clipped {
+        Some(extent) => Framing::Clipped {
             width: extent.width,
             height: extent.height,
         },
-        None => Frame::Whole,
+        None => Framing::Whole,
     }
 }
 

@@ -17,7 +17,7 @@ mod touch;
 mod walk;
 
 pub use document::{draw, picture_size};
-pub use listing::{Bounds, Element, Position, list_elements};
+pub use listing::{Bounds, ListedElement, Position, list_elements};
 pub use part::draw_part;
 pub use touch::touched;
 

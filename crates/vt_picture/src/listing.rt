@@ -13,7 +13,7 @@ ghost use Rattle.vt_picture.specs.Listings.{Lists, listed, listed_for};
 ghost use Rattle.vt_picture.specs.NearPlaces.{IsNear, IsNearSpot};
 
 use crate::document::{GAP, MOST_INCLUSIONS, key_places, soft_keys, width_of};
-use crate::frame::{Frame, frame_of};
+use crate::frame::{Framing, frame_of};
 use crate::walk::{if_visible, item};
 use std::alloc::{AllocError, Global};
 use vt_needs::Sizes;
@@ -48,7 +48,7 @@ pub struct Bounds {
 
 /// An element of a picture.
 #[derive(Clone, Copy, PartialEq, Eq)]
-pub struct Element {
+pub struct ListedElement {
     /// The ID of the object. For a pointer, it is the ID of the object to which the pointer leads.
     pub id: ObjectId,
     /// The number of the object's kind (ISO 11783-6).
@@ -125,12 +125,12 @@ fn end_of(from: i32, count: u32) -> i32
 }
 
 /// What is shown of an element with a frame.
-fn bounds_of(frame: Frame, at: Position, around: Bounds) -> Bounds
+fn bounds_of(frame: Framing, at: Position, around: Bounds) -> Bounds
     ensures { result ≡ listings.bounds_of frame at around }
 {
     match frame {
-        Frame::Clipped { width, height } => within(around, at, width, height),
-        Frame::Whole | Frame::Fine(_) => around,
+        Framing::Clipped { width, height } => within(around, at, width, height),
+        Framing::Whole | Framing::Fine(_) => around,
     }
 }
 
@@ -159,33 +159,33 @@ fn less(a: i32, b: i32) -> i32
 }
 
 /// The width of a frame.
-pub(crate) fn width_in(frame: Frame) -> u32
+pub(crate) fn width_in(frame: Framing) -> u32
     ensures { result ≡ listings.width_in frame }
 {
     match frame {
-        Frame::Whole => 0,
-        Frame::Clipped { width, .. } => width,
-        Frame::Fine(area) => u32::from(area.width).max(1),
+        Framing::Whole => 0,
+        Framing::Clipped { width, .. } => width,
+        Framing::Fine(area) => u32::from(area.width).max(1),
     }
 }
 
 /// The height of a frame.
-pub(crate) fn height_in(frame: Frame) -> u32
+pub(crate) fn height_in(frame: Framing) -> u32
     ensures { result ≡ listings.height_in frame }
 {
     match frame {
-        Frame::Whole => 0,
-        Frame::Clipped { height, .. } => height,
-        Frame::Fine(area) => u32::from(area.height).max(1),
+        Framing::Whole => 0,
+        Framing::Clipped { height, .. } => height,
+        Framing::Fine(area) => u32::from(area.height).max(1),
     }
 }
 
 /// The element of an object at a spot.
-fn element_at(sizes: Sizes, id: ObjectId, object: &Object<Vec<u8>>, spot: Around) -> Element
+fn element_at(sizes: Sizes, id: ObjectId, object: &Object<Vec<u8>>, spot: Around) -> ListedElement
     ensures { result ≡ listings.element_at sizes id (seen object.now) spot }
 {
     let frame = frame_of(sizes, object);
-    Element {
+    ListedElement {
         id,
         kind: object.kind().number(),
         depth: spot.depth,
@@ -208,7 +208,7 @@ pub fn list_elements<S: Store>(
     store: &S,
     sizes: Sizes,
     mask: ObjectId,
-) -> Result<Vec<Element>, AllocError>
+) -> Result<Vec<ListedElement>, AllocError>
     ensures { IfOk result (λ list. list.items ≡ listings.elements_of sizes (S.contents store.now) mask) }
 {
     let keys = soft_keys(store, mask);
@@ -232,7 +232,7 @@ fn list_mask<S: Store>(
     store: &S,
     sizes: Sizes,
     mask: ObjectId,
-    list: &mut Vec<Element>,
+    list: &mut Vec<ListedElement>,
 ) -> Result<(), AllocError>
     requires { length list.old.items ≤ 2000 }
     ensures listed { OnOk result (Lists (listed 32 sizes (S.contents store.now) (mask_entries (S.contents store.now) mask) (listings.around_mask sizes)) list.old.items list.new.items) }
@@ -295,7 +295,7 @@ fn list_entries<S: Store>(
     levels: u8,
     entries: &[Child],
     around: Around,
-    list: &mut Vec<Element>,
+    list: &mut Vec<ListedElement>,
 ) -> Result<(), AllocError>
     requires near { IsNear levels around }
     requires short { length list.old.items ≤ 2000 }
@@ -326,7 +326,7 @@ fn list_entry<S: Store>(
     levels: u8,
     id: ObjectId,
     spot: Around,
-    list: &mut Vec<Element>,
+    list: &mut Vec<ListedElement>,
 ) -> Result<(), AllocError>
     requires near { IsNearSpot levels spot }
     requires short { length list.old.items ≤ 2000 }
@@ -356,7 +356,7 @@ fn list_within<S: Store>(
     levels: u8,
     object: &Object<Vec<u8>>,
     around: Around,
-    list: &mut Vec<Element>,
+    list: &mut Vec<ListedElement>,
 ) -> Result<(), AllocError>
     requires near { IsNear levels around }
     requires short { length list.old.items ≤ 2000 }
@@ -393,7 +393,7 @@ fn list_item<S: Store>(
     levels: u8,
     input: &InputList,
     around: Around,
-    list: &mut Vec<Element>,
+    list: &mut Vec<ListedElement>,
 ) -> Result<(), AllocError>
     requires near { IsNear levels around }
     requires short { length list.old.items ≤ 2000 }

@@ -8,7 +8,7 @@ use crate::document::{
     GAP, MOST_ELEMENTS, background_of, begin_picture, end_picture, key_places, walk_all, width_of,
 };
 use crate::elements::{add_pictures, draw_tags};
-use crate::frame::{Frame, frame_of};
+use crate::frame::{Framing, frame_of};
 use crate::listing::{height_in, width_in};
 use crate::walk::Walk;
 use std::alloc::{AllocError, Global};
@@ -96,7 +96,7 @@ fn part_size(sizes: Sizes, object: &Object<Vec<u8>>) -> (u32, u32)
 }
 
 /// The width and the height of a frame.
-fn size_in(frame: Frame) -> (u32, u32)
+fn size_in(frame: Framing) -> (u32, u32)
     ensures { result ≡ parts.size_in frame }
 {
     (width_in(frame), height_in(frame))

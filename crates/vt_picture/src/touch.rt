@@ -3,11 +3,11 @@
 ghost use Rattle.std.specs.Prelude.{◌≡◌};
 ghost use Rattle.vt_picture.specs.Listings as listings;
 
-use crate::listing::{Bounds, Element};
+use crate::listing::{Bounds, ListedElement};
 use vt_objects::ObjectId;
 
 /// The key, button or input that is shown at a place of a picture. If there are several, it is the one that is drawn last.
-pub fn touched(elements: &[Element], x: i32, y: i32) -> Option<ObjectId>
+pub fn touched(elements: &[ListedElement], x: i32, y: i32) -> Option<ObjectId>
     ensures { result ≡ listings.touched x y elements.now }
 {
     let mut found = None;

@@ -5,7 +5,7 @@ use Rattle.serde_json.specs.View.{items_of}
 use Rattle.vt_dialogs.specs.declared.limits.Limits.{Limits}
 use Rattle.vt_kinds.specs.Ids.{null_id}
 use Rattle.vt_names.specs.Registry.{Set}
-use Rattle.vt_picture.specs.declared.listing.Element.{Element}
+use Rattle.vt_picture.specs.declared.listing.ListedElement.{ListedElement}
 use Rattle.vt_server.specs.Terminals.{State}
 use Rattle.vt_session.specs.Dialogs.{limits_by}
 use Rattle.vt_session.specs.Readings.{elements_shown, pool_by, touched_of}
@@ -34,10 +34,10 @@ name_depth : (name : Option ℕ) → depth (name_data name) ≡ 0
 name_depth None = refl
 name_depth (Some name) = refl
 
-element_depth : (e : Element) → depth (element_data e) ≤ 1
+element_depth : (e : ListedElement) → depth (element_data e) ≤ 1
 element_depth e = simp number_depth (omega arith)
 
-elements_depth : (es : List Element) → items_depth (items_of (map element_data es)) ≤ 1
+elements_depth : (es : List ListedElement) → items_depth (items_of (map element_data es)) ≤ 1
 elements_depth [] = omega arith
 elements_depth (e ∷ es) = omega (arith, element_depth e, elements_depth es)
 

@@ -10,7 +10,7 @@ use Rattle.vt_dialogs.specs.declared.typed.Typed.{Typed}
 use Rattle.vt_kinds.specs.Ids.{null_id}
 use Rattle.vt_machine.specs.SetStates.{SetState, active_in}
 use Rattle.vt_names.specs.Registry.{Set}
-use Rattle.vt_picture.specs.declared.listing.Element.{Element}
+use Rattle.vt_picture.specs.declared.listing.ListedElement.{ListedElement}
 use Rattle.vt_server.specs.shown.Screens.{IsScreenOf}
 use Rattle.vt_server.specs.Terminals.{State, pool_of}
 use Rattle.vt_session.specs.Dialogs.{IsRawOf, limits_by, object_by, text_by}
@@ -22,7 +22,7 @@ use Rattle.vt_service.specs.declared.request.Question.TheVariants as questions
 
 -- ---- elements
 
-abbrev pub element_data : Element → Data
+abbrev pub element_data : ListedElement → Data
 element_data e =
     object (member (codes "around") (number_or_null e.around) (member (codes "bottom") (signed_data e.bounds.bottom)
     (member (codes "depth") (number_data e.depth) (member (codes "height") (number_data e.height)

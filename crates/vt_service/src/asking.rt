@@ -18,7 +18,7 @@ use vt_dialogs::{Limits, Typed};
 use vt_machine::Live;
 use vt_names::Set;
 use vt_objects::{ObjectId, SortedStore};
-use vt_picture::Element;
+use vt_picture::ListedElement;
 use vt_server::Terminal;
 use vt_session::{dialog, reading, words};
 
@@ -99,7 +99,7 @@ fn index_cell(index: Option<u16>) -> Cell<'static>
     }
 }
 
-fn element_value(alloc: Global, element: &Element) -> Result<Value, AllocError>
+fn element_value(alloc: Global, element: &ListedElement) -> Result<Value, AllocError>
     ensures { IfOk result (λ v. view v ≡ asking.element_data element.now) }
 {
     object_of(

@@ -13,7 +13,7 @@ use Rattle.vt_node.specs.declared.profile.Profile.{Profile}
 use Rattle.vt_shown.specs.ShownElements.{soft_key_mask_of}
 use Rattle.vt_machine.specs.SetStates.{SetState, active_in}
 use Rattle.vt_needs.specs.declared.sizes.Sizes.{Sizes}
-use Rattle.vt_picture.specs.declared.listing.Element.{Element}
+use Rattle.vt_picture.specs.declared.listing.ListedElement.{ListedElement}
 use Rattle.vt_picture.specs.Documents.{IsPicture, picture_size}
 use Rattle.vt_picture.specs.Listings.{elements_of, touched}
 use Rattle.vt_picture.specs.Parts.{IsPart}
@@ -141,34 +141,34 @@ TellsSize before address mask after size = (after ≡ before) × (size ≡ size_
 
 -- ---- the elements of the shown mask
 
-abbrev pub elements_in : Profile → Option SetState → List Element
+abbrev pub elements_in : Profile → Option SetState → List ListedElement
 elements_in profile None = []
 elements_in profile (Some set) = elements_of (sizes_of profile) set.objects (active_in set.objects)
 
 -- the elements of the active mask of the shown set
-abbrev pub elements_shown : State → List Element
+abbrev pub elements_shown : State → List ListedElement
 elements_shown s = elements_in s.profile (pool_at s s.shown)
 
 -- what an element is, in 8 bytes: its ID, its kind, how many elements are around it, the index of the one around it, or 65535, and two
 -- bytes of 0
-abbrev pub head_bytes : Element → List ℕ
+abbrev pub head_bytes : ListedElement → List ℕ
 head_bytes e = little_bytes 2 e.id ++ (e.kind ∷ e.depth ∷ (little_bytes 2 (unwrap_or e.around null_id) ++ (0 ∷ 0 ∷ [])))
 
 -- where it is, in numbers of four bytes: its place, its size, and the bounds of what is shown of it
-abbrev pub numbers_of : Element → List ℕ
+abbrev pub numbers_of : ListedElement → List ℕ
 numbers_of e =
     cast_unsigned w32 e.at.x ∷ cast_unsigned w32 e.at.y ∷ e.width ∷ e.height ∷ cast_unsigned w32 e.bounds.left ∷ cast_unsigned w32 e.bounds.top
     ∷ cast_unsigned w32 e.bounds.right ∷ cast_unsigned w32 e.bounds.bottom ∷ []
 
 -- an element in 40 bytes
-abbrev pub element_bytes : Element → List ℕ
+abbrev pub element_bytes : ListedElement → List ℕ
 element_bytes e = head_bytes e ++ flat_map (little_bytes 4) (numbers_of e)
 
 abbrev pub ListsElements : Session → Session → ℕ → Type 0
 ListsElements before after count = Writes (λ text. text ≡ flat_map element_bytes (elements_shown (state before))) before after count
 
 -- the key, button or input that is shown at a place, or NULL
-abbrev pub touched_of : List Element → ℕ → ℕ → ℕ
+abbrev pub touched_of : List ListedElement → ℕ → ℕ → ℕ
 touched_of elements x y = if nat_lt x (2 ^ 31) && nat_lt y (2 ^ 31) then unwrap_or (touched (pos x) (pos y) elements) null_id else null_id
 
 abbrev pub TellsTouched : Session → ℕ → ℕ → Session → ℕ → Type 0

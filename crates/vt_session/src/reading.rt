@@ -17,7 +17,7 @@ use vt_names::Set;
 use vt_needs::{Area, Sizes};
 use vt_node::Profile;
 use vt_objects::{ObjectId, SortedStore};
-use vt_picture::{Element, draw, draw_part, list_elements, picture_size, touched};
+use vt_picture::{ListedElement, draw, draw_part, list_elements, picture_size, touched};
 use vt_server::Terminal;
 use vt_writing::write_object;
 
@@ -286,7 +286,7 @@ fn write_elements(terminal: &Terminal, text: &mut Vec<u8>) -> Result<(), AllocEr
     Ok(())
 }
 
-fn write_element(text: &mut Vec<u8>, element: &Element) -> Result<(), AllocError>
+fn write_element(text: &mut Vec<u8>, element: &ListedElement) -> Result<(), AllocError>
     ensures { OnOk result (text.new.items ≡ text.old.items ++ element_bytes element.now) }
 {
     text.extend_from_slice(&head_bytes(element))?;
@@ -295,7 +295,7 @@ fn write_element(text: &mut Vec<u8>, element: &Element) -> Result<(), AllocError
 }
 
 /// What an element is: its ID, its kind, how many elements are around it, and the index of the one around it.
-fn head_bytes(element: &Element) -> [u8; 8]
+fn head_bytes(element: &ListedElement) -> [u8; 8]
     ensures { result ≡ head_bytes element.now }
 {
     let id = element.id.raw().to_le_bytes();
@@ -313,7 +313,7 @@ fn head_bytes(element: &Element) -> [u8; 8]
 }
 
 /// Where an element is: its place, its size and its bounds.
-fn numbers_of(element: &Element) -> [u32; 8]
+fn numbers_of(element: &ListedElement) -> [u32; 8]
     ensures { result ≡ numbers_of element.now }
 {
     [
@@ -339,7 +339,7 @@ pub(crate) fn write_numbers(text: &mut Vec<u8>, numbers: &[u32]) -> Result<(), A
 }
 
 /// The elements of the active mask of the shown set. None without a shown set.
-pub fn elements_of(alloc: Global, terminal: &Terminal) -> Result<Vec<Element>, AllocError>
+pub fn elements_of(alloc: Global, terminal: &Terminal) -> Result<Vec<ListedElement>, AllocError>
     ensures { IfOk result (λ list. list.items ≡ elements_shown (state_of terminal.now)) }
 {
     let Some(live) = shown_pool(terminal) else {
@@ -362,7 +362,7 @@ pub fn touch(session: &mut Session, x: u32, y: u32) -> u64
 }
 
 /// The ID of the key, button or input of some elements that is shown at a place, or NULL.
-pub fn touched_in(elements: &[Element], x: u32, y: u32) -> ObjectId
+pub fn touched_in(elements: &[ListedElement], x: u32, y: u32) -> ObjectId
     ensures { result ≡ touched_of elements.now x y }
 {
     let (Ok(x), Ok(y)) = (i32::try_from(x), i32::try_from(y)) else {

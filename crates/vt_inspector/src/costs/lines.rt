@@ -4,11 +4,11 @@ use crate::costs::parts::{end_line, write_event, write_listed, write_macro, writ
 use crate::costs::way::write_way;
 use std::io::{self, Write};
 use vt_costs::{Breakdown, EventCost, MacroCost, Share};
-use vt_findings_text::Source;
+use vt_findings_text::CheckedPool;
 
 /// Writes the event with its macros, then each macro that it can run with the shares of its commands, and then the dearest way.
 pub(crate) fn write_breakdown<W: Write>(
-    source: &Source<'_>,
+    source: &CheckedPool<'_>,
     breakdown: &Breakdown,
     out: &mut W,
 ) -> io::Result<()> {
@@ -21,7 +21,7 @@ pub(crate) fn write_breakdown<W: Write>(
 
 /// Writes the event with its macros.
 fn write_listing<W: Write>(
-    source: &Source<'_>,
+    source: &CheckedPool<'_>,
     breakdown: &Breakdown,
     out: &mut W,
 ) -> io::Result<()> {
@@ -41,7 +41,7 @@ fn write_listing<W: Write>(
 
 /// Writes a macro with the shares of its commands.
 fn write_shares<W: Write>(
-    source: &Source<'_>,
+    source: &CheckedPool<'_>,
     breakdown: &Breakdown,
     cost: &MacroCost,
     out: &mut W,
@@ -70,7 +70,7 @@ fn write_shares<W: Write>(
 
 /// Writes an event that a command raises, with the macros that run there.
 fn write_raised<W: Write>(
-    source: &Source<'_>,
+    source: &CheckedPool<'_>,
     breakdown: &Breakdown,
     verb: &str,
     event: &EventCost,

@@ -5,7 +5,7 @@ ghost use Rattle.vt_chains.specs.Limits.{terminal};
 
 use std::io::{self, Write};
 use vt_costs::{Breakdown, EventCost, MOST_STEPS};
-use vt_findings_text::{Source, event_name};
+use vt_findings_text::{CheckedPool, event_name};
 use vt_objects::ObjectId;
 use vt_verify::TERMINAL_LIMITS;
 
@@ -35,7 +35,7 @@ pub(crate) fn end_line<W: Write>(steps: u64, out: &mut W) -> io::Result<()> {
 
 /// Writes an event of an object.
 pub(crate) fn write_event<W: Write>(
-    source: &Source<'_>,
+    source: &CheckedPool<'_>,
     id: ObjectId,
     event: u8,
     out: &mut W,
@@ -44,7 +44,11 @@ pub(crate) fn write_event<W: Write>(
 }
 
 /// Writes a macro.
-pub(crate) fn write_macro<W: Write>(source: &Source<'_>, id: u8, out: &mut W) -> io::Result<()> {
+pub(crate) fn write_macro<W: Write>(
+    source: &CheckedPool<'_>,
+    id: u8,
+    out: &mut W,
+) -> io::Result<()> {
     write!(out, "{}", source.label(ObjectId::from_raw(u16::from(id))))
 }
 

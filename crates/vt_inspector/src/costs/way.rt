@@ -4,12 +4,12 @@
 use crate::costs::parts::{end_line, write_event, write_macro, write_steps};
 use std::io::{self, Write};
 use vt_costs::{Breakdown, MacroCost, Share};
-use vt_findings_text::Source;
+use vt_findings_text::CheckedPool;
 use vt_objects::ObjectId;
 
 /// Writes the dearest way of a breakdown, if it takes a step.
 pub(crate) fn write_way<W: Write>(
-    source: &Source<'_>,
+    source: &CheckedPool<'_>,
     breakdown: &Breakdown,
     out: &mut W,
 ) -> io::Result<()> {
@@ -49,7 +49,7 @@ pub(crate) fn write_way<W: Write>(
 
 /// Writes a macro of the way with its costliest command, by its index in the shares.
 fn write_command<W: Write>(
-    source: &Source<'_>,
+    source: &CheckedPool<'_>,
     cost: &MacroCost,
     command: usize,
     out: &mut W,

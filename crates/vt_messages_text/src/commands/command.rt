@@ -25,7 +25,16 @@ impl fmt::Display for CommandSentence<'_, '_> {
         if let Some(id) = self.command.object() {
             write!(f, ": {}", self.objects.object(id))?;
         }
+        self.write_fields(f)
+    }
+}
+
+impl CommandSentence<'_, '_> {
+    /// Writes the fields of the command behind its object.
+    fn write_fields<W: fmt::Write>(&self, f: &mut fmt::Formatter<W>) -> fmt::Result {
         match *self.command {
+            Command::HideShow { state, .. } => write_state(f, state, "hide", "show"),
+            Command::EnableDisable { state, .. } => write_state(f, state, "disable", "enable"),
             Command::ControlAudio {
                 count,
                 frequency,
@@ -36,75 +45,23 @@ impl fmt::Display for CommandSentence<'_, '_> {
                 ": count {count}, frequency {frequency} Hz, on {on} ms, off {off} ms"
             ),
             Command::SetVolume { volume } => write!(f, ": {volume} %"),
-            Command::DeletePool | Command::ExecuteMacro { .. } => Ok(()),
-            _ => self.write_places(f),
-        }
-    }
-}
-
-impl CommandSentence<'_, '_> {
-    /// Writes the fields of the commands that show, hide, move or place objects.
-    fn write_places<W: fmt::Write>(&self, f: &mut fmt::Formatter<W>) -> fmt::Result {
-        match *self.command {
-            Command::HideShow { state, .. } => write_state(f, state, "hide", "show"),
-            Command::EnableDisable { state, .. } => write_state(f, state, "disable", "enable"),
             Command::ChangeChildLocation { child, dx, dy, .. } => {
                 let child = self.objects.object(child);
                 let right = i16::from(dx) - NO_STEP;
                 let down = i16::from(dy) - NO_STEP;
                 write!(f, ", child {child}, dx {right}, dy {down}")
             }
-            Command::ChangeChildPosition { child, x, y, .. } => {
-                write!(f, ", child {}, x {x}, y {y}", self.objects.object(child))
-            }
-            Command::ChangeActiveMask { mask, .. } => {
-                write!(f, ", to {}", self.objects.object(mask))
-            }
-            Command::ChangeSoftKeyMask {
-                mask_type,
-                keys,
-                ..
-            } => {
-                let keys = self.objects.object(keys);
-                write!(f, ", type {mask_type}, to {keys}")
-            }
-            Command::ChangePriority { priority, .. } => write!(f, ", priority {priority}"),
-            Command::ChangeListItem { index, item, .. } => {
-                let item = self.objects.object(item);
-                write!(f, ", index {index}, item {item}")
-            }
-            _ => self.write_values(f),
-        }
-    }
-
-    /// Writes the fields of the commands that set values, sizes and looks.
-    fn write_values<W: fmt::Write>(&self, f: &mut fmt::Formatter<W>) -> fmt::Result {
-        match self.command {
             Command::ChangeSize { width, height, .. } => {
                 write!(f, ", width {width}, height {height}")
             }
             Command::ChangeBackgroundColour { colour, .. } => write!(f, ", colour {colour}"),
-            Command::ChangeNumericValue { id, value } => self.write_number(f, *id, *value),
-            Command::ChangeStringValue { length, text, .. } => {
-                let text = QuotedText(text.as_slice());
-                write!(f, ", length {length}, {text}")
-            }
+            Command::ChangeNumericValue { id, value } => self.write_number(f, id, value),
             Command::ChangeEndPoint {
                 width,
                 height,
                 direction,
                 ..
             } => write!(f, ", width {width}, height {height}, direction {direction}"),
-            Command::ChangeAttribute { id, number, value } => {
-                self.write_attribute(f, *id, *number, *value)
-            }
-            _ => self.write_looks(f),
-        }
-    }
-
-    /// Writes the fields of the commands that change fonts, lines and fillings.
-    fn write_looks<W: fmt::Write>(&self, f: &mut fmt::Formatter<W>) -> fmt::Result {
-        match *self.command {
             Command::ChangeFontAttributes {
                 colour,
                 size,
@@ -133,7 +90,33 @@ impl CommandSentence<'_, '_> {
                 let pattern = self.objects.object(pattern);
                 write!(f, ", type {fill_type}, colour {colour}, pattern {pattern}")
             }
-            _ => Ok(()),
+            Command::ChangeActiveMask { mask, .. } => {
+                write!(f, ", to {}", self.objects.object(mask))
+            }
+            Command::ChangeSoftKeyMask {
+                mask_type,
+                keys,
+                ..
+            } => {
+                let keys = self.objects.object(keys);
+                write!(f, ", type {mask_type}, to {keys}")
+            }
+            Command::ChangeAttribute { id, number, value } => {
+                self.write_attribute(f, id, number, value)
+            }
+            Command::ChangePriority { priority, .. } => write!(f, ", priority {priority}"),
+            Command::ChangeListItem { index, item, .. } => {
+                let item = self.objects.object(item);
+                write!(f, ", index {index}, item {item}")
+            }
+            Command::DeletePool | Command::ExecuteMacro { .. } => Ok(()),
+            Command::ChangeStringValue { length, ref text, .. } => {
+                let text = QuotedText(text.as_slice());
+                write!(f, ", length {length}, {text}")
+            }
+            Command::ChangeChildPosition { child, x, y, .. } => {
+                write!(f, ", child {}, x {x}, y {y}", self.objects.object(child))
+            }
         }
     }
 

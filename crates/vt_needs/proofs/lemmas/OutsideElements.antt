@@ -8,15 +8,15 @@ use Rattle.std.specs.Option.{option_to_list}
 use Rattle.vt_kinds.specs.declared.entries.Child.{Child}
 use Rattle.vt_stores.specs.Stores.{Objects}
 use Rattle.vt_needs.specs.declared.sizes.Area.{Area}
-use Rattle.vt_needs.specs.declared.warning.Element.{Element}
+use Rattle.vt_needs.specs.declared.warning.PlacedElement.{PlacedElement}
 use Rattle.vt_needs.specs.declared.warning.Warning.{Warning}
 use Rattle.vt_needs.specs.declared.warning.Warning.TheVariants as warnings
 use Rattle.vt_needs.specs.Elements.{element, elements_from, is_outside}
 
-abbrev pub put_of : Area → List Element → List Warning
+abbrev pub put_of : Area → List PlacedElement → List Warning
 put_of area es = map (λ e. warnings.Outside e area) (filter (is_outside area) es)
 
-both : (area : Area) (xs ys : List Element) → put_of area (xs ++ ys) ≡ put_of area xs ++ put_of area ys
+both : (area : Area) (xs ys : List PlacedElement) → put_of area (xs ++ ys) ≡ put_of area xs ++ put_of area ys
 both area xs ys = ap (map (λ e. warnings.Outside e area)) (filter-append (is_outside area) xs ys) ∙ map-append (λ e. warnings.Outside e area) _ _
 
 pub put_child : (objects : Objects) (parent : ℕ) (area : Area) (children : List Child) (all put more : List Warning) (index i : ℕ) (child : Child)

@@ -2,7 +2,7 @@ use Rattle.std.proofs.Common.{◌≡◌, ◌∙◌, ℕ, List, ◌++◌, map, So
 use Rattle.std.proofs.lemmas.Result.{err_from_is_err_and}
 use Rattle.vt_log_bench.proofs.LinesToCome.{IsUnderWay, line_difference, line_difference-other, line_difference-expectation, way-begun, way-end, way-few, way-long, way-step}
 use Rattle.vt_log_bench.specs.Differences.{DiffersAt, difference_at, difference_seen}
-use Rattle.vt_log_bench.specs.declared.difference.Difference.{Difference}
+use Rattle.vt_log_bench.specs.declared.difference.LineDifference.{LineDifference}
 use Rattle.vt_log_bench.specs.Expectations.{expected_by}
 use Rattle.vt_logs.specs.Lines.{lines_of}
 use Rattle.vt_logs.specs.Progress.{ReplayPoint, replay_point}
@@ -14,7 +14,7 @@ loop-line-init c =
     let start = state_of c.args.terminal.now in
     let first : map difference_seen c.compare.new.differences.items ≡ difference_at 0 (expected_by (lines_of c.args.log.now)) c.begin.new.self.screen.items =
     c.in_ok-compare.ensures
-    ∙ ap (λ (items : List Difference). map difference_seen items ++ difference_at 0 (expected_by (lines_of c.args.log.now)) c.deref.result.now) c.new-differences.ensures.items
+    ∙ ap (λ (items : List LineDifference). map difference_seen items ++ difference_at 0 (expected_by (lines_of c.args.log.now)) c.deref.result.now) c.new-differences.ensures.items
     ∙ ap (λ (text : List ℕ). difference_at 0 (expected_by (lines_of c.args.log.now)) text) (c.deref.ensures.value ∙ c.in_ok-begin.ensures.text ∙ ap (λ (text : List ℕ). text ++ c.begin.new.self.screen.items) c.new-printed.ensures.items) in
     record {
       way = way-begun start c.args.log.now c.begin.new.self.screen.items (map difference_seen c.compare.new.differences.items) c.begin.new.self.counts (c.begin.ensures.counts ∙ c.new-progress.ensures.counts) c.in_ok-begin.ensures.drawn first;

@@ -3,7 +3,7 @@ use Rattle.vt_kinds.specs.declared.entries.Child.{Child}
 use Rattle.vt_shown.specs.ShownElements.{soft_keys}
 use Rattle.vt_layout.specs.Drawings.{mask_entries}
 use Rattle.vt_picture.specs.declared.listing.Around.{Around}
-use Rattle.vt_picture.specs.declared.listing.Element.{Element}
+use Rattle.vt_picture.specs.declared.listing.ListedElement.{ListedElement}
 use Rattle.vt_picture.specs.Documents.{key_places}
 use Rattle.vt_picture.specs.Listings.{around_keys, around_mask, first_of, listed}
 use Rattle.vt_picture.proofs.Listed.{then_more}
@@ -19,9 +19,9 @@ returns g c =
     let empty : c.new-list.result.items ≡ [] = c.new-list.ensures.items in
     let places : c.as_slice.result.now ≡ key_places sizes 0 keys = search rules in
     let beside : c.around_keys-beside.result ≡ around_keys sizes (length keys) = search rules in
-    let mask_listed = c.in_ok-list_mask.ensures.listed ∙ ap (λ (l : List Element). first_of (l ++ of_mask (length l))) empty in
+    let mask_listed = c.in_ok-list_mask.ensures.listed ∙ ap (λ (l : List ListedElement). first_of (l ++ of_mask (length l))) empty in
     c.in_ok-list_entries.ensures.listed
     ∙ ap₂ (λ (entries : List Child) (around : Around). first_of (c.list_mask.new.list.items ++ listed 32 sizes store entries around (length c.list_mask.new.list.items))) places beside
-    ∙ ap (λ (l : List Element). first_of (l ++ of_keys (length l))) mask_listed
+    ∙ ap (λ (l : List ListedElement). first_of (l ++ of_keys (length l))) mask_listed
     ∙ then_more (of_mask 0) of_keys
     ∙ ap (λ (n : ℕ). first_of (of_mask 0 ++ of_keys n)) (let same : length (of_mask 0) ≡ 0 + length (of_mask 0) = omega arith in same)

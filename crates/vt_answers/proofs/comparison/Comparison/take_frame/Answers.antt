@@ -1,6 +1,6 @@
 use Rattle.std.proofs.Common.{◌≤◌, List, Ok, refl, subst, arith}
 use Rattle.vt_answers.specs.declared.said.Said.{Said}
-use Rattle.vt_answers.specs.Open.{Hears}
+use Rattle.vt_answers.specs.OpenQuestions.{Hears}
 use Rattle.vt_answers.proofs.InputsSent.{takes_and_sends}
 use Rattle.vt_answers.proofs.OneMoreLine.{taken-frame}
 use Rattle.vt_can.specs.lines.Readings.{FrameAt}

@@ -11,7 +11,7 @@ ghost use Rattle.vt_inspect.specs.Places.{place_of};
 use crate::codes::code_of;
 use crate::item::Item;
 use crate::label::Label;
-use crate::message::{Message, severity_of};
+use crate::message::{ItemLine, severity_of};
 use crate::names::Names;
 use crate::sentences::Sentence;
 use std::alloc::{AllocError, Global};
@@ -21,7 +21,7 @@ use vt_objects::{Kind, ObjectId, SortedStore, Store};
 
 /// An inspected pool with its path and its names.
 #[derive(Clone, Copy, Drop)]
-pub struct Source<'a> {
+pub struct CheckedPool<'a> {
     /// The path of the pool's file.
     pub path: &'a str,
     /// The pool.
@@ -30,7 +30,7 @@ pub struct Source<'a> {
     pub names: &'a Names,
 }
 
-impl<'a> Source<'a> {
+impl<'a> CheckedPool<'a> {
     /// The object with this ID, with its kind and its name.
     pub fn label(&self, id: ObjectId) -> Label<'a>
         ensures { label_seen result ≡ label_at self.now id }
@@ -43,14 +43,14 @@ impl<'a> Source<'a> {
     }
 
     /// The message of an item of this pool.
-    pub fn message(&self, alloc: Global, item: Item<'_>) -> Result<Message<'a>, AllocError>
+    pub fn message(&self, alloc: Global, item: Item<'_>) -> Result<ItemLine<'a>, AllocError>
         ensures { IfOk result (IsMessage self.now item.entry) }
     {
         let sentence = Sentence {
             source: *self,
             item,
         };
-        Ok(Message {
+        Ok(ItemLine {
             file: self.path,
             offset: self.offset(item),
             severity: severity_of(item),

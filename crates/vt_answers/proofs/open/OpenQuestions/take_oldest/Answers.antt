@@ -1,6 +1,6 @@
 use Rattle.std.proofs.Common.{◌∙◌, sym, arith, rules}
 use Rattle.vt_answers.proofs.Oldest.{none_on, taken_at}
-use Rattle.vt_answers.proofs.open.Open.take_oldest.Goals as goal
+use Rattle.vt_answers.proofs.open.OpenQuestions.take_oldest.Goals as goal
 
 pub returns-in-Some : goal.returns-in-Some
 returns-in-Some c =

@@ -1,6 +1,6 @@
 use Rattle.std.proofs.Common.{◌≡◌, ◌++◌, drop}
 use Rattle.vt_answers.specs.Messages.{said_by}
-use Rattle.vt_answers.proofs.open.Open.ask.Given as goal
+use Rattle.vt_answers.proofs.open.OpenQuestions.ask.Given as goal
 
 abbrev pub invariant-loop-output : goal.invariant-loop-output
 invariant-loop-output l =

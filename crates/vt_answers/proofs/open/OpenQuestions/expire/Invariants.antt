@@ -1,6 +1,6 @@
 use Rattle.std.proofs.Common.{length}
 use Rattle.vt_answers.proofs.Overdue.{IsExpiring}
-use Rattle.vt_answers.proofs.open.Open.expire.Given as goal
+use Rattle.vt_answers.proofs.open.OpenQuestions.expire.Given as goal
 
 abbrev pub invariant-loop-oldest : goal.invariant-loop-oldest
 invariant-loop-oldest l =

@@ -1,6 +1,6 @@
 use Rattle.std.proofs.Common.{◌≡◌, ◌++◌, map, length}
 use Rattle.vt_answers.specs.declared.difference.Difference.TheVariants.{OursAlone}
-use Rattle.vt_answers.proofs.open.Open.end.Given as goal
+use Rattle.vt_answers.proofs.open.OpenQuestions.end.Given as goal
 
 abbrev pub invariant-loop-question : goal.invariant-loop-question
 invariant-loop-question l =

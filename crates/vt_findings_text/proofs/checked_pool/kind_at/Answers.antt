@@ -2,7 +2,7 @@ use Rattle.std.proofs.Common.{Some, sym, ap, ◌∙◌}
 use Rattle.std.specs.Option.{option_map}
 use Rattle.vt_kinds.specs.Records.{kind_of}
 use Rattle.vt_stores.proofs.ObjectShapes.{seen_kind}
-use Rattle.vt_findings_text.proofs.source.kind_at.Goals as goal
+use Rattle.vt_findings_text.proofs.checked_pool.kind_at.Goals as goal
 
 pub returns-in-Some : goal.returns-in-Some
 returns-in-Some c =

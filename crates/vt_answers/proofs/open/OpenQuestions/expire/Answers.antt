@@ -1,7 +1,7 @@
 use Rattle.std.proofs.Common.{◌≡◌, ◌∙◌, ◌+◌, ◌<◌, List, ◌∷◌, slice_index_or, ap, arith}
 use Rattle.vt_answers.specs.declared.said.Said.{Said}
 use Rattle.vt_answers.proofs.Overdue.{one_expired}
-use Rattle.vt_answers.proofs.open.Open.expire.Goals as goal
+use Rattle.vt_answers.proofs.open.OpenQuestions.expire.Goals as goal
 
 pub loop-oldest-preserved-in-Continue-1 : goal.loop-oldest-preserved-in-Continue-1
 loop-oldest-preserved-in-Continue-1 c =

@@ -1,7 +1,7 @@
 use Rattle.std.proofs.Common.{◌≡◌, Option, None, Some, refl, subst, rules}
 use Rattle.vt_inspect.specs.declared.finding.FindingPlace.{FindingPlace}
 use Rattle.vt_inspect.specs.Places.{place_of, IsOffset}
-use Rattle.vt_findings_text.proofs.source.Source.finding_at.Goals as goal
+use Rattle.vt_findings_text.proofs.checked_pool.CheckedPool.finding_at.Goals as goal
 
 pub returns-in-Some : goal.returns-in-Some
 returns-in-Some c = record {

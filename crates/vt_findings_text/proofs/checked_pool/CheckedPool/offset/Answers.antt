@@ -1,7 +1,7 @@
 use Rattle.std.proofs.Common.{sym, subst}
 use Rattle.vt_findings_text.specs.declared.item.Item.{Item}
 use Rattle.vt_findings_text.specs.Messages.{IsItemOffset}
-use Rattle.vt_findings_text.proofs.source.Source.offset.Goals as goal
+use Rattle.vt_findings_text.proofs.checked_pool.CheckedPool.offset.Goals as goal
 
 pub returns-in-Finding : goal.returns-in-Finding
 returns-in-Finding c =
