@@ -70,7 +70,7 @@ def direct():
     made = {}
     for name, (kind, uses) in crates.items():
         found = named_in(name, names)
-        made[name] = kind, [it for it in uses if it in found] + sorted(it for it in found if it not in uses and it in crates)
+        made[name] = kind, [it for it in dict.fromkeys(uses) if it in found] + sorted(it for it in found if it not in uses and it in crates)
     return made
 
 

@@ -14,7 +14,7 @@ import sys
 TOP = os.path.dirname(os.path.dirname(os.path.abspath(__file__)))
 FOLDERS = ('bindings', 'crates', 'docs', 'examples', 'include', 'scripts', 'tests', 'wrong_bodies')
 PATH = re.compile(r'`((?:%s)/[\w./*-]+)`' % '|'.join(FOLDERS))
-SOURCE = re.compile(r'`((?:vt_\w+|segyolant\w*)/[\w./]+\.rt)`(?: \(((?:`\w+`(?:, )?)+)\))?')
+SOURCE = re.compile(r'`((?:(?:vt|check|draw|log)_\w+|segyolant\w*)/[\w./]+\.rt)`(?: \(((?:`\w+`(?:, )?)+)\))?')
 LINK = re.compile(r'\]\(([^)#:]+)\)')
 TARGET = re.compile(r'(?:`|^ {4})make ([a-z][a-z0-9-]*)')
 # A program with its words, at the beginning of a line of code or of a text in backquotes, up to a pipe, a remark or the end.

@@ -37,7 +37,7 @@ EXAMPLES = {
     'A subcommand of segyolant_log': {'Options::Compare|CompareOptions|run_compare|"compare"': 'crates/'},
     'A column of stats': {'seen_twice|seen twice|repeated_packets|masks_never': 'crates/'},
     'A warning of the checker': {'TextTooWide': ''},
-    'A subcommand of the checker': {'Options::Diff|DiffOptions|run_diff|"diff"': 'crates/', 'DrawOptions|"draw"': 'crates/vt_inspector'},
+    'A subcommand of the checker': {'Options::Diff|DiffOptions|run_diff|"diff"': 'crates/', 'DrawOptions|"draw"': 'crates/check_words'},
     'A call for C': {'vt_lost|TellsLost|screen::lost|vt_limits_of|vt_text_of_limits|WritesLimits|dialog::limits': ''},
 }
 

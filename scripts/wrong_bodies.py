@@ -6,7 +6,7 @@ different functions are tried together, by one check of these functions alone, o
 of the functions must be refused for an error of its own; one that calls another that is refused is tried once more alone. A line
 `function:` names the function as the checker does, where it is not plain from the place of the change.
 
---gate tries those that wrong_bodies/gate.txt lists. The last line is 'N passed, N failed'.
+--gate tries those that wrong_bodies/gate.txt lists. Without a try, an edit whose `old:` line is not in its file is named. The last line is 'N passed, N failed'.
 """
 import argparse
 import concurrent.futures
@@ -58,14 +58,16 @@ class Edit:
                 self.function = rest
         if not self.pairs:
             raise BadEdit(f'{path}: it has no pair of old: and new:')
+        for file, old, _ in self.pairs:
+            count = text_of(f'{ROOT}/crates/{self.crate}/{file}').count(old)
+            if count != 1:
+                raise BadEdit(f'{self}: an old: text is in {file} {count} times, and not once')
         self.function = self.function or self.found()
 
     def found(self):
         """The path of the function in which the first changed line stands."""
         file, old, _ = self.pairs[0]
         text = text_of(f'{ROOT}/crates/{self.crate}/{file}')
-        if text.count(old) != 1:
-            raise BadEdit(f'{self}: an old: text is in {file} {text.count(old)} times, and not once')
         at = text.index(old) + len(old)
         above = [it for it in FUNCTION.finditer(text) if it.start() < at]
         if not above:
@@ -163,7 +165,9 @@ def main():
     parser.add_argument('--gate', action='store_true', help='those that wrong_bodies/gate.txt lists')
     options = parser.parse_args()
     try:
-        edits = edits_of(options.crates, options.gate)
+        # (the lines of each edit have to be there, also of those that are not tried)
+        all_edits = edits_of([], False)
+        edits = edits_of(options.crates, options.gate) if options.crates or options.gate else all_edits
     except BadEdit as error:
         sys.exit(f'{error}\n0 passed, 1 failed')
     lacking = sorted({below.name for edit in edits for below in crate_of(edit.crate).below() if not os.path.isdir(below.rlib)})

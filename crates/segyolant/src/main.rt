@@ -3,10 +3,10 @@
 //! docs/POOLS.md, "Every fault at once", has the command lines, the statuses and the codes.
 #![tactic(auto)]
 
+use check_tool::{Style, run};
 use std::io::{self, BufWriter, IsTerminal};
 use std::process::ExitCode;
 use vt_cli::{Files, Status, exit_code, words_of};
-use vt_inspector::{Style, run};
 
 /// The name of the program.
 const NAME: &str = "segyolant";

@@ -1,8 +1,8 @@
 //! The error output of the process.
 
+use log_tool::Messages;
 use std::io::{self, IsTerminal, Stderr, Write};
 use std::time::Instant;
-use vt_log_tool::Messages;
 
 /// The milliseconds of a run before it shows how far it has come, and between two such texts.
 const BETWEEN: u128 = 1000;

@@ -6,10 +6,10 @@
 mod console;
 
 use console::Console;
+use log_tool::run;
 use std::io::{self, BufWriter};
 use std::process::ExitCode;
 use vt_cli::{Files, Status, exit_code, words_of};
-use vt_log_tool::run;
 
 /// The name of the program.
 const NAME: &str = "segyolant_log";

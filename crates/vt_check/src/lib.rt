@@ -5,12 +5,12 @@
 //! include/vt_check.h declares them for C.
 #![tactic(auto)]
 
-ghost use Rattle.vt_verdicts.specs.Findings.{Finds};
-ghost use Rattle.vt_verdicts.specs.Texts.{Draws, Reports};
-ghost use Rattle.vt_verdicts.specs.Verdicts.{Judges};
+ghost use Rattle.check_verdicts.specs.Findings.{Finds};
+ghost use Rattle.check_verdicts.specs.Texts.{Draws, Reports};
+ghost use Rattle.check_verdicts.specs.Verdicts.{Judges};
 
+use check_verdicts::{VtVerdict, judge_pool, write_findings, write_report, write_screen};
 use std::alloc::Global;
-use vt_verdicts::{VtVerdict, judge_pool, write_findings, write_report, write_screen};
 
 /// Judges an object pool: whether it is accepted, or why not.
 #[unsafe(no_mangle)]

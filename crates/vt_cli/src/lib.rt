@@ -10,7 +10,7 @@
 //! - A `JsonLine` is an object of JSON that is built member by member and written as a line.
 //! - `words_of` collects the words of the process, and `exit_code` ends it: with them, `main` of a program is a page.
 //!
-//! It has no subcommand and no option of one program: those are in vt_inspector_words and vt_log_words. vt_replay and vt_live have
+//! It has no subcommand and no option of one program: those are in check_words and log_words. vt_replay and vt_live have
 //! statuses and command lines of their own.
 //!
 //! Come here to ask why both programs refuse a word, name a file that cannot be read, or end with a status as they do.

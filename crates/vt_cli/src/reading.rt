@@ -1,9 +1,9 @@
 //! Files that are read whole.
 
 use crate::files::Open;
+use check_text::Names;
 use std::alloc::Global;
 use std::io::{self, ErrorKind, Read, Write};
-use vt_findings_text::Names;
 
 /// The bytes of a file. `None` if it cannot be read: then `errors` receives the reason.
 pub fn read_file<F: Open, E: Write>(

@@ -8,8 +8,8 @@ ghost use Rattle.vt_shown.specs.ShownElements.{number_shown};
 ghost use Rattle.vt_dialogs.specs.Texts.{shown_number, text_in};
 
 use crate::OutOfMemory;
+use draw_shapes::text_shown;
 use vt_objects::{Decimal, Decimals, Object, ObjectId, Scale, Store};
-use vt_shapes::text_shown;
 use vt_shown::number_shown;
 
 /// How a number is shown.

@@ -1,7 +1,7 @@
 //! The objects of a working set in words.
 
+use check_text::{Label, Names};
 use std::fmt;
-use vt_findings_text::{Label, Names};
 use vt_machine::Live;
 use vt_objects::{Kind, ObjectId, SortedStore};
 

@@ -3,13 +3,13 @@
 use crate::objects::Objects;
 use crate::replies::ReplySentence;
 use crate::requests::RequestSentence;
+use check_text::Names;
 use std::fmt;
 use vt_can::Frame;
 use vt_can::assigned::{
     ADDRESS_CLAIMED, ECU_TO_VT, ETP_CM, ETP_DT, REQUEST, TP_CM, TP_DT, VT_TO_ECU,
     WORKING_SET_MASTER, WORKING_SET_MEMBER,
 };
-use vt_findings_text::Names;
 use vt_frames_text::{
     ClaimSentence, Destination, EtpControl, GroupRequest, HexByte, HexBytes, MasterSentence,
     MemberSentence, Packet, ParameterGroup, TpControl,

@@ -2,7 +2,9 @@
 use Rattle.std.proofs.Common.{◌≡◌, ◌∙◌, ℕ, nat_cmp, false, List, [], inr, Option, Some, None, IfSome, refl, sym, ap, subst}
 use Rattle.std.specs.Io.KnownBytes.{Appends, Keeps}
 use Rattle.std.proofs.KnownBytes.{Appends-kept}
-use Rattle.vt_pool.specs.Pools.{PoolEntry, AreRecords, IsInForce, contents, joined}
+use Rattle.vt_judge.specs.Judgements.{IsPool, IsAcceptedPool}
+use Rattle.vt_judge.specs.Judgements as judgements
+use Rattle.vt_pool.specs.Pools.{PoolEntry, contents}
 use Rattle.std.specs.FinMap as finite
 use Rattle.std.specs.FinMap.{nat_cmp-IsAntisymmetric}
 use Rattle.std.proofs.lemmas.Cmp.{nat_cmp_total}
@@ -53,21 +55,24 @@ pub accepted_rising : (pool accepted : List PoolEntry) → accepted ≡ by_risin
 unfolding by_rising_id
 accepted_rising pool accepted is = is ∙ ap finite.entries (sym (same_objects pool accepted is))
 
-pub pool_of : (read : List ℕ) (pool : List PoolEntry) → (records : List PoolEntry) × AreRecords records × (read ≡ joined records) × IsInForce records pool
-    → IsPoolOf read (contents pool)
-pool_of read pool p = record { records = p.0; whole = p.1; spelled = p.2; in_force = p.3.last }
+-- The objects of judged bytes are those of a pool.
+pool_of : (read : List ℕ) (objects : List PoolEntry) → IsPool read objects → IsPoolOf read (contents objects)
+pool_of read objects p =
+    subst (IsPoolOf read) (sym (same_objects p.pool objects p.rising)) (record { records = p.records; whole = p.whole; spelled = p.spelled; in_force = p.in_force.last })
 
-pub accepted_pool : (read : List ℕ) (pool accepted : List PoolEntry) → (records : List PoolEntry) × AreRecords records × (read ≡ joined records) × IsInForce records pool
-    → accepted ≡ by_rising_id pool → IsVerified accepted → IsAcceptedPoolOf read (contents accepted)
-accepted_pool read pool accepted p is verified = (
-  subst (IsPoolOf read) (sym (same_objects pool accepted is)) (pool_of read pool p),
-  subst IsVerified (accepted_rising pool accepted is) verified,
-)
+pub rising : (read : List ℕ) (accepted : List PoolEntry) → IsAcceptedPool read accepted → accepted ≡ finite.entries (contents accepted)
+rising read accepted judged = accepted_rising judged.pool.pool accepted judged.pool.rising
 
-pub refused_pool : (read : List ℕ) (pool : List PoolEntry) (why : Refusal) → (records : List PoolEntry) × AreRecords records × (read ≡ joined records) × IsInForce records pool
-    → IsRefused terminal (by_rising_id pool) why → (IsWantOfMemory why → ⊥) → IsRefusedPool read why
-unfolding by_rising_id
-refused_pool read pool why p refused named = record { objects = contents pool; pool = pool_of read pool p; refused = refused; named = named }
+pub accepted_pool : (read : List ℕ) (accepted : List PoolEntry) → IsAcceptedPool read accepted → IsAcceptedPoolOf read (contents accepted)
+accepted_pool read accepted judged = (pool_of read accepted judged.pool, subst IsVerified (rising read accepted judged) judged.verified)
+
+pub refused_pool : (read : List ℕ) (why : Refusal) → judgements.IsRefusedPool read why → (IsWantOfMemory why → ⊥) → IsRefusedPool read why
+refused_pool read why judged named = record {
+  objects = contents judged.objects;
+  pool = pool_of read judged.objects judged.pool;
+  refused = subst (λ (objects : List PoolEntry). IsRefused terminal objects why) (accepted_rising judged.pool.pool judged.objects judged.pool.rising) judged.refused;
+  named = named;
+}
 
 -- An accepted pool of a file is a pool of the file.
 pool_of_file : (file : Option (List ℕ)) (objects : ObjectMap) → IfSome file (λ bytes. IsAcceptedPoolOf bytes objects) → IfSome file (λ bytes. IsPoolOf bytes objects)

@@ -18,11 +18,12 @@ use crate::sentences::ReplaySentence;
 use std::alloc::Global;
 use std::convert::AsStr;
 use std::io::{self, Read, Write};
+use vt_judge::{NotAccepted, judge};
 use vt_kinds::{Kind, ObjectId};
 use vt_logs::{Notes, ReplayFault, Sink, Stream, replay_with_notes};
 use vt_pool::{Pool, PoolFault, read_pool};
 use vt_server::Terminal;
-use vt_verify::{Accepted, verify_owned};
+use vt_verify::Accepted;
 
 /// Opens files by their paths.
 pub trait Open {
@@ -318,15 +319,14 @@ fn accepted<'a>(alloc: Global, bytes: &[u8]) -> Result<Accepted, Fault<'a>>
     ensures rising { IfOk result (λ pool. pool ≡ finite.entries (contents pool)) }
     ensures fault { IfErr result (IsFaultOfPool bytes.now) }
 {
-    let pool = match read_pool(alloc, bytes) {
-        Ok(pool) => pool,
-        Err(PoolFault::OutOfMemory { .. }) => return Err(Fault::Memory),
-        Err(fault) => return Err(Fault::Pool(fault)),
-    };
-    match verify_owned(alloc, pool) {
+    match judge(alloc, bytes) {
         Ok(accepted) => Ok(accepted),
-        Err(vt_verify::Refusal::OutOfMemory) => Err(Fault::Memory),
-        Err(why) => {
+        Err(
+            NotAccepted::Fault(PoolFault::OutOfMemory { .. })
+            | NotAccepted::Refused(vt_verify::Refusal::OutOfMemory),
+        ) => Err(Fault::Memory),
+        Err(NotAccepted::Fault(fault)) => Err(Fault::Pool(fault)),
+        Err(NotAccepted::Refused(why)) => {
             let named = named_in_bytes(alloc, bytes, &why)?;
             Err(Fault::Refused { why, named })
         }

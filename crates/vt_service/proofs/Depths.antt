@@ -5,7 +5,7 @@ use Rattle.serde_json.specs.View.{items_of}
 use Rattle.vt_dialogs.specs.declared.limits.Limits.{Limits}
 use Rattle.vt_kinds.specs.Ids.{null_id}
 use Rattle.vt_names.specs.Registry.{Set}
-use Rattle.vt_picture.specs.declared.listing.ListedElement.{ListedElement}
+use Rattle.draw_picture.specs.declared.listing.ListedElement.{ListedElement}
 use Rattle.vt_server.specs.Terminals.{State}
 use Rattle.vt_session.specs.Dialogs.{limits_by}
 use Rattle.vt_session.specs.Readings.{elements_shown, pool_by, touched_of}

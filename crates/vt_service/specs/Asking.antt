@@ -10,7 +10,7 @@ use Rattle.vt_dialogs.specs.declared.typed.Typed.{Typed}
 use Rattle.vt_kinds.specs.Ids.{null_id}
 use Rattle.vt_machine.specs.SetStates.{SetState, active_in}
 use Rattle.vt_names.specs.Registry.{Set}
-use Rattle.vt_picture.specs.declared.listing.ListedElement.{ListedElement}
+use Rattle.draw_picture.specs.declared.listing.ListedElement.{ListedElement}
 use Rattle.vt_server.specs.shown.Screens.{IsScreenOf}
 use Rattle.vt_server.specs.Terminals.{State, pool_of}
 use Rattle.vt_session.specs.Dialogs.{IsRawOf, limits_by, object_by, text_by}

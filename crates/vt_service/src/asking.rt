@@ -12,13 +12,13 @@ ghost use Rattle.vt_service.specs.Values as values;
 
 use crate::cells::{Cell, id_cell, object_of};
 use crate::request::Question;
+use draw_picture::ListedElement;
 use serde_json::Value;
 use std::alloc::{AllocError, Global};
 use vt_dialogs::{Limits, Typed};
 use vt_machine::Live;
 use vt_names::Set;
 use vt_objects::{ObjectId, SortedStore};
-use vt_picture::ListedElement;
 use vt_server::Terminal;
 use vt_session::{dialog, reading, words};
 

@@ -12,11 +12,11 @@ use Rattle.vt_names.specs.Registry.{Set}
 use Rattle.vt_node.specs.declared.profile.Profile.{Profile}
 use Rattle.vt_shown.specs.ShownElements.{soft_key_mask_of}
 use Rattle.vt_machine.specs.SetStates.{SetState, active_in}
-use Rattle.vt_needs.specs.declared.sizes.Sizes.{Sizes}
-use Rattle.vt_picture.specs.declared.listing.ListedElement.{ListedElement}
-use Rattle.vt_picture.specs.Documents.{IsPicture, picture_size}
-use Rattle.vt_picture.specs.Listings.{elements_of, touched}
-use Rattle.vt_picture.specs.Parts.{IsPart}
+use Rattle.check_needs.specs.declared.sizes.Sizes.{Sizes}
+use Rattle.draw_picture.specs.declared.listing.ListedElement.{ListedElement}
+use Rattle.draw_picture.specs.Documents.{IsPicture, picture_size}
+use Rattle.draw_picture.specs.Listings.{elements_of, touched}
+use Rattle.draw_picture.specs.Parts.{IsPart}
 use Rattle.vt_server.specs.shown.Screens.{redraws}
 use Rattle.vt_server.specs.Terminals.{State, pool_at, pool_of}
 use Rattle.vt_session.specs.declared.session.Session.{Session}

@@ -11,13 +11,13 @@ ghost use Rattle.vt_server.specs.Terminals.{pool_at};
 ghost use Rattle.vt_session.specs.Readings.{IsPartIn, IsPictureIn, Lists, ListsElements, Parts, Pictures, TellsActive, TellsPool, TellsSize, TellsTouched, WritesObject, active_of, element_bytes, elements_shown, four_ids, head_bytes, mask_in, numbers_of, pool_by, record_in, set_bytes, size_in, sizes_of, touched_of};
 
 use crate::session::Session;
+use check_needs::{Area, Sizes};
+use draw_picture::{ListedElement, draw, draw_part, list_elements, picture_size, touched};
 use std::alloc::{AllocError, Global};
 use vt_machine::Live;
 use vt_names::Set;
-use vt_needs::{Area, Sizes};
 use vt_node::Profile;
 use vt_objects::{ObjectId, SortedStore};
-use vt_picture::{ListedElement, draw, draw_part, list_elements, picture_size, touched};
 use vt_server::Terminal;
 use vt_writing::write_object;
 

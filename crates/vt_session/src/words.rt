@@ -4,9 +4,9 @@
 ghost use Rattle.vt_session.specs.Words.{WritesWords};
 
 use crate::session::{Session, frame_input};
+use check_text::Names;
 use std::alloc::{AllocError, Global};
 use vt_can::Frame;
-use vt_findings_text::Names;
 use vt_messages_text::{AddressedSentence, Sentence};
 use vt_server::{Input, Terminal};
 

@@ -110,7 +110,11 @@ impl CommandSentence<'_, '_> {
                 write!(f, ", index {index}, item {item}")
             }
             Command::DeletePool | Command::ExecuteMacro { .. } => Ok(()),
-            Command::ChangeStringValue { length, ref text, .. } => {
+            Command::ChangeStringValue {
+                length,
+                ref text,
+                ..
+            } => {
                 let text = QuotedText(text.as_slice());
                 write!(f, ", length {length}, {text}")
             }

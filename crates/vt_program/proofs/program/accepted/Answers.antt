@@ -1,17 +1,16 @@
 use Rattle.std.proofs.Common.{rules}
-use Rattle.vt_program.proofs.Loading.{accepted_pool, accepted_rising, refused_pool}
+use Rattle.vt_program.proofs.Loading.{accepted_pool, refused_pool, rising}
 use Rattle.vt_program.proofs.program.accepted.Goals as goal
 
-pub returns-in-Ok-verify_owned-clause-pool : goal.returns-in-Ok-verify_owned-clause-pool
-returns-in-Ok-verify_owned-clause-pool c =
-    accepted_pool c.args.bytes.now c.in-Ok.pool c.in-Ok-verify_owned.accepted c.in-Ok.ensures.pool c.in-Ok-verify_owned.ensures.accepted.0 c.in-Ok-verify_owned.ensures.verified
+pub returns-in-Ok-clause-pool : goal.returns-in-Ok-clause-pool
+returns-in-Ok-clause-pool c = accepted_pool c.args.bytes.now c.in-Ok.accepted c.in-Ok.ensures.accepted
 
-pub returns-in-Ok-verify_owned-clause-rising : goal.returns-in-Ok-verify_owned-clause-rising
-returns-in-Ok-verify_owned-clause-rising c = accepted_rising c.in-Ok.pool c.in-Ok-verify_owned.accepted c.in-Ok-verify_owned.ensures.accepted.0
+pub returns-in-Ok-clause-rising : goal.returns-in-Ok-clause-rising
+returns-in-Ok-clause-rising c = rising c.args.bytes.now c.in-Ok.accepted c.in-Ok.ensures.accepted
 
-pub returns-in_ok-named-in-Err-verify_owned : goal.returns-in_ok-named-in-Err-verify_owned
-returns-in_ok-named-in-Err-verify_owned c = record {
+pub returns-in_ok-named-in-Err-Refused : goal.returns-in_ok-named-in-Err-Refused
+returns-in_ok-named-in-Err-Refused c = record {
   pool = tt;
   rising = tt;
-  fault = refused_pool c.args.bytes.now c.in-Ok.pool c.in-Err-verify_owned.why c.in-Ok.ensures.pool c.in-Err-verify_owned.ensures.refused (λ w. search rules);
+  fault = refused_pool c.args.bytes.now c.in-Err-Refused.why (rw c.in-Err-Refused.field-0-is at c.in-Err-Refused.ensures.not_accepted) (λ w. search rules);
 }

@@ -1,0 +1,3 @@
+-- The lemmas of check_changes.
+pub mod Steps
+pub mod Unchanged

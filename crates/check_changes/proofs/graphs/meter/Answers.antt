@@ -1,0 +1,24 @@
+use Rattle.std.proofs.Common.{ap, refl}
+use Rattle.vt_kinds.specs.declared.object.Object.TheVariants as objects
+use Rattle.vt_kinds.specs.Records.{seen}
+use Rattle.check_changes.proofs.Steps.{also, compared, none, same_macros}
+use Rattle.check_changes.proofs.graphs.meter.Goals as goal
+
+pub returns : goal.returns
+returns c =
+    compared c.changed_among.result _ _ c.changed_among.ensures
+    (objects.Meter c.args.old.now) (objects.Meter c.in-Meter.new) (ap seen c.in-Meter.is) refl refl
+    (also refl
+    (also refl
+    (also refl
+    (also refl
+    (also refl
+    (also refl
+    (also refl
+    (also refl
+    (also refl
+    (also refl
+    (also c.eq.ensures
+    (also refl
+    (also (same_macros c.eq-2.ensures c.as_slice.ensures.value c.as_slice-2.ensures.value)
+    none)))))))))))))

@@ -1,0 +1,18 @@
+use Rattle.std.proofs.Common.{◌≡◌, ◌≤◌, ◌-◌, ◌++◌, length}
+use Rattle.std.specs.Prelude.{is_some, IsTrue}
+use Rattle.std.specs.List.{flat_map}
+use Rattle.vt_commands.specs.Pieces.{cut}
+use Rattle.vt_stores.specs.Shapes.{shape_of}
+use Rattle.vt_verify.specs.Macros.{with_offsets, pieces_of, cut_or_none}
+use Rattle.check_inspect.specs.Findings.{piece_findings}
+use Rattle.check_inspect.proofs.macros.put_commands_in.Given as goal
+
+abbrev pub invariant-loop-piece : goal.invariant-loop-piece
+invariant-loop-piece l =
+    (length l.rest ≤ length l.bytes)
+    × IsTrue (is_some (cut l.rest))
+    × (l.findings.items ++ flat_map (piece_findings l.rule (shape_of l.objects)) (with_offsets l.id (length l.bytes - length l.rest) (cut_or_none l.rest))
+    ≡ l.fn.findings.items ++ flat_map (piece_findings l.rule (shape_of l.objects)) (pieces_of (l.id, l.bytes)))
+
+abbrev pub decreases-loop-piece : goal.decreases-loop-piece
+decreases-loop-piece l = length l.rest

@@ -1,0 +1,15 @@
+use Rattle.std.proofs.Common.{◌≡◌, ℕ, ◌++◌, map, drop}
+use Rattle.std.specs.List.{flat_map}
+use Rattle.vt_kinds.specs.Records.{Seen}
+use Rattle.vt_stores.specs.Stores.{seen_entry}
+use Rattle.vt_stores.specs.Shapes.{shape_of, fixed}
+use Rattle.vt_verify.specs.Macros.{named_macro, is_whole}
+use Rattle.check_inspect.specs.declared.finding.Finding.TheVariants.{MacroBytes}
+use Rattle.check_inspect.specs.Lists.{all_failing}
+use Rattle.check_inspect.specs.Findings.{cut_findings}
+use Rattle.check_inspect.proofs.macros.put_cut_short.Given as goal
+
+abbrev pub invariant-loop-id : goal.invariant-loop-id
+invariant-loop-id l =
+    (map seen_entry l.id-items ≡ l.objects)
+    × (l.findings.items ++ flat_map (λ e. (λ (o : ℕ × Seen). map (λ m. MacroBytes m.0) (all_failing is_whole (named_macro (o.0, fixed o.1)))) (seen_entry e)) (drop l.id-index l.id-items) ≡ l.fn.findings.items ++ cut_findings (shape_of l.objects))

@@ -1,0 +1,2 @@
+-- The specifications that the contracts of check_json use.
+pub mod Json

@@ -1,0 +1,7 @@
+-- The lemmas of check_needs, by subject.
+pub mod Columns
+pub mod Dearer
+pub mod NamedIds
+pub mod Objects
+pub mod OutsideElements
+pub mod SeenRecords

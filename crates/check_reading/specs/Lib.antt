@@ -1,0 +1,2 @@
+-- The definitions used in the contracts of check_reading.
+pub mod Readings

@@ -1,0 +1,124 @@
+//! An inspected pool with its path and its names.
+
+ghost use Rattle.std.specs.Prelude.{◌≡◌, ◌≤◌, length, IfOk, IsSome};
+ghost use Rattle.std.specs.Option.{option_map};
+ghost use Rattle.vt_kinds.specs.Records.{kind_of};
+ghost use Rattle.vt_stores.specs.Stores.{object_at};
+ghost use Rattle.check_text.specs.Labels.{label_seen, label_at};
+ghost use Rattle.check_text.specs.Messages.{IsFirstByte, IsItemOffset, IsMessage, IsRecordAt, note_offset, object_of};
+ghost use Rattle.check_inspect.specs.Places.{place_of};
+
+use crate::codes::code_of;
+use crate::item::Item;
+use crate::label::Label;
+use crate::message::{ItemLine, severity_of};
+use crate::names::Names;
+use crate::sentences::Sentence;
+use check_inspect::{Finding, Inspection, Note};
+use check_needs::Warning;
+use std::alloc::{AllocError, Global};
+use vt_objects::{Kind, ObjectId, SortedStore, Store};
+
+/// An inspected pool with its path and its names.
+#[derive(Clone, Copy, Drop)]
+pub struct CheckedPool<'a> {
+    /// The path of the pool's file.
+    pub path: &'a str,
+    /// The pool.
+    pub inspection: &'a Inspection,
+    /// The names of objects.
+    pub names: &'a Names,
+}
+
+impl<'a> CheckedPool<'a> {
+    /// The object with this ID, with its kind and its name.
+    pub fn label(&self, id: ObjectId) -> Label<'a>
+        ensures { label_seen result ≡ label_at self.now id }
+    {
+        Label {
+            id,
+            kind: kind_at(&self.inspection.objects, id),
+            name: self.names.get(id),
+        }
+    }
+
+    /// The message of an item of this pool.
+    pub fn message(&self, alloc: Global, item: Item<'_>) -> Result<ItemLine<'a>, AllocError>
+        ensures { IfOk result (IsMessage self.now item.entry) }
+    {
+        let sentence = Sentence {
+            source: *self,
+            item,
+        };
+        Ok(ItemLine {
+            file: self.path,
+            offset: self.offset(item),
+            severity: severity_of(item),
+            code: code_of(item),
+            sentence: format!(in alloc; "{sentence}")?,
+        })
+    }
+
+    /// The index of the byte that an item is about; 0 for the whole pool.
+    fn offset(&self, item: Item<'_>) -> usize
+        ensures { IsItemOffset self.now.inspection.now item.entry result }
+    {
+        match item {
+            Item::Finding(finding) => self.finding_at(finding),
+            Item::Replaced(replaced) => replaced.at,
+            Item::Warning(warning) => self.record_at(warning_object(warning)),
+            Item::Note(note) => note_offset(note),
+        }
+    }
+
+    /// The index of the first byte of a finding; 0 for the whole pool.
+    fn finding_at(&self, finding: &Finding) -> usize
+        ensures { IsFirstByte self.now.inspection.now (place_of finding.now) result }
+    {
+        match self.inspection.offset(finding) {
+            Some(at) => at,
+            None => 0,
+        }
+    }
+
+    /// The index of the first byte of an object's record; 0 for a missing object.
+    fn record_at(&self, id: ObjectId) -> usize
+        ensures { length self.now.inspection.now.objects ≤ length self.now.inspection.now.records.items → IsSome (object_at self.now.inspection.now.objects id) → IsRecordAt self.now.inspection.now id result }
+    {
+        match self.inspection.record(id) {
+            Some(record) => record.at,
+            None => 0,
+        }
+    }
+}
+
+/// The kind of an object, or `None` if it is missing.
+fn kind_at(objects: &SortedStore, id: ObjectId) -> Option<Kind>
+    ensures { result ≡ option_map kind_of (object_at objects.now id) }
+{
+    match objects.get(id) {
+        None => None,
+        Some(object) => Some(object.kind()),
+    }
+}
+
+/// The object that a warning is about.
+fn warning_object(warning: &Warning) -> ObjectId
+    ensures { result ≡ object_of warning.now }
+{
+    match warning {
+        Warning::Unused { id } | Warning::ExtraKeys { id, .. } => *id,
+        Warning::TextTooWide(field) | Warning::TextTooHigh(field) => field.id,
+        Warning::Outside { element, .. } => element.parent,
+    }
+}
+
+/// The index of the first byte of a note; 0 for the whole pool.
+fn note_offset(note: Note) -> usize
+    ensures { result ≡ note_offset note }
+{
+    match note {
+        Note::Unread { at } => at,
+        Note::UnknownTriggers | Note::UnknownCosts => 0,
+    }
+}

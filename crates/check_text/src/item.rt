@@ -1,0 +1,17 @@
+//! What a line is about.
+
+use check_inspect::{Finding, Note, ReplacedRecord};
+use check_needs::Warning;
+
+/// A finding, a warning or a note about a pool.
+#[derive(Clone, Copy, Drop)]
+pub enum Item<'a> {
+    /// A fault of a record, or a rule that is broken.
+    Finding(&'a Finding),
+    /// A record that a later one replaces.
+    Replaced(&'a ReplacedRecord),
+    /// A warning about an object.
+    Warning(&'a Warning),
+    /// Rules that were not judged.
+    Note(Note),
+}

@@ -1,0 +1,76 @@
+//! The errors and warnings of a pool.
+
+use crate::item::Item;
+use check_inspect::{Finding, Inspection, Note};
+use check_needs::Warning;
+use std::alloc::{AllocError, Global};
+use vt_objects::{Kind, ObjectId};
+use vt_pool::PoolFault;
+
+/// The findings, then the replaced records, then the warnings. If bytes could not be read, no object is listed as unused. A number
+/// whose scale or decimals are wrong is not listed with a text that is too wide.
+pub fn items_of<'a>(
+    alloc: Global,
+    inspection: &'a Inspection,
+    warnings: &'a [Warning],
+) -> Result<Vec<Item<'a>>, AllocError> {
+    let mut items = Vec::new(alloc);
+    for finding in inspection.findings.iter() {
+        items.push(Item::Finding(finding))?;
+    }
+    for replaced in inspection.replaced.iter() {
+        items.push(Item::Replaced(replaced))?;
+    }
+    let is_read = !inspection.notes.iter().any(is_unread);
+    let mended = mended_bytes(alloc, inspection)?;
+    for warning in warnings {
+        let is_judged = match warning {
+            Warning::Unused { .. } => is_read,
+            Warning::TextTooWide(field) => !is_mended(inspection, mended.as_slice(), field.id),
+            _ => true,
+        };
+        if is_judged {
+            items.push(Item::Warning(warning))?;
+        }
+    }
+    Ok(items)
+}
+
+/// The indices of the bytes with a wrong scale or wrong decimals, in their order.
+fn mended_bytes(alloc: Global, inspection: &Inspection) -> Result<Vec<usize>, AllocError> {
+    let mut bytes = Vec::new(alloc);
+    for finding in inspection.findings.iter() {
+        if let Finding::Record(PoolFault::Scale { at } | PoolFault::Decimals { at }) = finding {
+            bytes.push(*at)?;
+        }
+    }
+    Ok(bytes)
+}
+
+/// The bytes of the record of an Input Number, without its macros (docs/PROFILE.md, "Kind 9, Input Number").
+const INPUT_NUMBER_BYTES: usize = 38;
+
+/// The bytes of the record of an Output Number, without its macros (docs/PROFILE.md, "Kind 12, Output Number").
+const OUTPUT_NUMBER_BYTES: usize = 29;
+
+/// Whether another scale or other decimals were read for an object than it has, so that its text is not known.
+fn is_mended(inspection: &Inspection, mended: &[usize], id: ObjectId) -> bool {
+    let Some(record) = inspection.record(id) else {
+        return false;
+    };
+    let size = match record.kind {
+        Kind::InputNumber => INPUT_NUMBER_BYTES,
+        Kind::OutputNumber => OUTPUT_NUMBER_BYTES,
+        _ => 0,
+    };
+    let next = mended.partition_point(|at| *at < record.at);
+    match mended.get(next) {
+        Some(at) => *at < record.at.saturating_add(size),
+        None => false,
+    }
+}
+
+/// Whether a note is on bytes that could not be read.
+fn is_unread(note: &Note) -> bool {
+    matches!(note, Note::Unread { .. })
+}

@@ -1,0 +1,41 @@
+//! Findings and warnings about a pool as lines for people and for GitHub.
+//!
+//! - `Names` are the names of objects, from files of lines `ID,NAME` or `#define NAME ID`.
+//! - A `CheckedPool` is an inspected pool with its path and its names. `CheckedPool::message` returns the `ItemLine` of an `Item`: the
+//!   offset in the file, the severity, the code, and a sentence with the cause.
+//! - An `ItemLine` writes its line for people by `Display`, in colours by `ColouredLine`, and for GitHub by `GithubLine`.
+//! - `items_of` returns the errors and warnings of a pool in the order of their lines, without warnings that cannot be judged, and
+//!   `summary_of` their counts.
+//!
+//! It finds nothing itself: findings are those of check_inspect, and warnings those of check_needs. Lines of JSON are in check_json.
+//!
+//! Come here to ask what a line of `segyolant check` says, and which lines there are. docs/POOLS.md has the codes.
+#![tactic(auto)]
+
+mod checked_pool;
+mod codes;
+mod colour;
+mod events;
+mod github;
+mod item;
+mod items;
+mod label;
+mod message;
+mod names;
+mod sentences;
+mod spot;
+mod summary;
+mod warning_sentences;
+
+pub use checked_pool::CheckedPool;
+pub use codes::{Code, code_of};
+pub use colour::ColouredLine;
+pub use events::event_name;
+pub use github::GithubLine;
+pub use item::Item;
+pub use items::items_of;
+pub use label::Label;
+pub use message::{ItemLine, Severity};
+pub use names::Names;
+pub use spot::SpotText;
+pub use summary::{Summary, summary_of};

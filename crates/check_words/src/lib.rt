@@ -1,0 +1,19 @@
+//! The command line of `segyolant`, and the options that it gives.
+//!
+//! `Options::parse` reads the words of a command line, and returns the `Options` of a subcommand or a `UsageError`, which may have a
+//! `WrongOption`. docs/POOLS.md, "Every fault at once", has the subcommands.
+//!
+//! It opens no file and runs nothing: that is done in check_tool, and in draw_gallery for `draw`.
+//!
+//! Come here to ask which words `segyolant` takes, and what its help and its refusals say.
+#![tactic(auto)]
+
+mod arguments;
+mod draw;
+mod options;
+mod subcommands;
+mod wrong_option;
+
+pub use draw::{DrawOptions, Drawing, Origin};
+pub use options::{CheckOptions, DiffOptions, Format, NeedsOptions, Options, WhyOptions};
+pub use wrong_option::WrongOption;

@@ -1,0 +1,234 @@
+//! The options that a command line gives.
+
+use crate::draw::{DrawOptions, Origin, area_of, draw_options};
+use crate::subcommands::SEGYOLANT;
+use crate::wrong_option::WrongOption;
+use check_needs::{Area, Sizes, TERMINAL_SIZES};
+use clap::ArgMatches;
+use std::alloc::{AllocError, Global};
+use std::convert::AsStr;
+use vt_cli::{StartSet, UsageError, all_of, inputs_among};
+use vt_objects::{Event, ObjectId};
+
+/// The options that a command line gives, by its subcommand.
+#[derive(Drop)]
+pub enum Options<'a> {
+    /// `check`.
+    Check(CheckOptions<'a>),
+    /// `why`.
+    Why(WhyOptions<'a>),
+    /// `needs`.
+    Needs(NeedsOptions<'a>),
+    /// `diff`.
+    Diff(DiffOptions<'a>),
+    /// `draw`.
+    Draw(DrawOptions<'a>),
+}
+
+/// The form of the output.
+#[derive(Clone, Copy, PartialEq, Eq)]
+pub enum Format {
+    /// Lines for people.
+    Text,
+    /// Lines of JSON.
+    Json,
+    /// A GitHub workflow's commands.
+    Github,
+}
+
+/// The options of `check`.
+#[derive(Drop)]
+pub struct CheckOptions<'a> {
+    /// The files of the pools.
+    pub pools: Vec<&'a str>,
+    /// The files of names.
+    pub names: Vec<&'a str>,
+    /// The form of the output.
+    pub format: Format,
+    /// The most lines with errors and warnings for a pool, or `None` for all.
+    pub most: Option<u32>,
+    /// Whether a run with a warning ends with status 1.
+    pub denies_warnings: bool,
+}
+
+/// The options of `why`.
+#[derive(Drop)]
+pub struct WhyOptions<'a> {
+    /// The file of the pool.
+    pub pool: &'a str,
+    /// The object of the event.
+    pub id: ObjectId,
+    /// The number of the event, at most 26.
+    pub event: u8,
+    /// The files of names.
+    pub names: Vec<&'a str>,
+}
+
+/// The options of `needs`.
+#[derive(Drop)]
+pub struct NeedsOptions<'a> {
+    /// The file of the pool.
+    pub pool: &'a str,
+    /// The files of names.
+    pub names: Vec<&'a str>,
+    /// The sizes of the terminal.
+    pub sizes: Sizes,
+}
+
+/// The options of `diff`.
+#[derive(Drop)]
+pub struct DiffOptions<'a> {
+    /// The file of the old pool.
+    pub old: &'a str,
+    /// The file of the new pool.
+    pub new: &'a str,
+    /// The files of names.
+    pub names: Vec<&'a str>,
+}
+
+/// The subcommands, and where to read about them.
+const SUBCOMMANDS: &str = "check, why, needs, diff or draw; segyolant --help says what each does";
+
+impl<'a> Options<'a> {
+    /// Reads the words of a command line, of which the first is the program's name.
+    pub fn parse<S: AsStr>(
+        alloc: Global,
+        words: &'a [S],
+    ) -> Result<Options<'a>, UsageError<WrongOption<'a>>> {
+        let matches = SEGYOLANT.command(alloc)?.try_get_matches_from(words)?;
+        // clap demands a subcommand; its contract does not say so.
+        let Some((name, matches)) = matches.subcommand() else {
+            return Err(UsageError::NoSubcommand(SUBCOMMANDS));
+        };
+        let options = Options::of_subcommand(alloc, name, matches)?;
+        if options.inputs() > 1 {
+            return Err(UsageError::InputTwice);
+        }
+        Ok(options)
+    }
+
+    /// The options of the subcommand with this name, from its matches.
+    fn of_subcommand(
+        alloc: Global,
+        name: &str,
+        matches: &ArgMatches<'a>,
+    ) -> Result<Options<'a>, UsageError<WrongOption<'a>>> {
+        Ok(match name {
+            "why" => Options::Why(why_options(alloc, matches)?),
+            "needs" => Options::Needs(needs_options(alloc, matches)?),
+            "diff" => Options::Diff(diff_options(alloc, matches)?),
+            "draw" => Options::Draw(draw_options(alloc, matches)?),
+            "check" => Options::Check(check_options(alloc, matches)?),
+            // clap takes no other name; its contract does not say so.
+            _ => return Err(UsageError::NoSubcommand(SUBCOMMANDS)),
+        })
+    }
+
+    /// How many of the files are the standard input.
+    fn inputs(&self) -> usize {
+        let (files, names) = match self {
+            Options::Check(options) => (inputs_among(options.pools.as_slice()), &options.names),
+            Options::Why(options) => (inputs_among(&[options.pool]), &options.names),
+            Options::Needs(options) => (inputs_among(&[options.pool]), &options.names),
+            Options::Diff(options) => (inputs_among(&[options.old, options.new]), &options.names),
+            Options::Draw(options) => (inputs_of(options.origin), &options.names),
+        };
+        files.saturating_add(inputs_among(names.as_slice()))
+    }
+}
+
+/// How many of the files from which objects come are the standard input.
+fn inputs_of(origin: Origin<'_>) -> usize {
+    match origin {
+        Origin::Pool(path)
+        | Origin::State {
+            log: path,
+            set: None,
+        } => inputs_among(&[path]),
+        Origin::State {
+            log,
+            set: Some(StartSet { pool, .. }),
+        } => inputs_among(&[log, pool]),
+    }
+}
+
+fn check_options<'a>(
+    alloc: Global,
+    matches: &ArgMatches<'a>,
+) -> Result<CheckOptions<'a>, AllocError> {
+    let format = match matches.get_str("format") {
+        Some("json") => Format::Json,
+        Some("github") => Format::Github,
+        _ => Format::Text,
+    };
+    Ok(CheckOptions {
+        pools: all_of(alloc, matches, "POOL")?,
+        names: all_of(alloc, matches, "names")?,
+        format,
+        most: matches.get_one::<u32>("most"),
+        denies_warnings: matches.contains_id("deny"),
+    })
+}
+
+fn why_options<'a>(
+    alloc: Global,
+    matches: &ArgMatches<'a>,
+) -> Result<WhyOptions<'a>, UsageError<WrongOption<'a>>> {
+    let word = matches.get_str("EVENT").unwrap_or("");
+    let Some((id, event)) = listing(word) else {
+        return Err(UsageError::Wrong(WrongOption::Event(word)));
+    };
+    Ok(WhyOptions {
+        pool: matches.get_str("POOL").unwrap_or(""),
+        id,
+        event,
+        names: all_of(alloc, matches, "names")?,
+    })
+}
+
+/// The object and the event of a text such as `2002:24`.
+fn listing(text: &str) -> Option<(ObjectId, u8)> {
+    let (id, event) = text.split_once(':')?;
+    let id = id.parse::<u16>().ok()?;
+    let event = event.parse::<u8>().ok()?;
+    if event > Event::LAST_NUMBER {
+        return None;
+    }
+    Some((ObjectId::from_raw(id), event))
+}
+
+fn needs_options<'a>(
+    alloc: Global,
+    matches: &ArgMatches<'a>,
+) -> Result<NeedsOptions<'a>, UsageError<WrongOption<'a>>> {
+    let mask = area_of(matches, "size", TERMINAL_SIZES.mask).map_err(WrongOption::Size)?;
+    let keys = matches.get_one::<u8>("keys").unwrap_or(TERMINAL_SIZES.keys);
+    Ok(NeedsOptions {
+        pool: matches.get_str("POOL").unwrap_or(""),
+        names: all_of(alloc, matches, "names")?,
+        sizes: Sizes {
+            mask,
+            keys,
+            ..TERMINAL_SIZES
+        },
+    })
+}
+
+/// The area of a text such as `480x480`.
+pub(crate) fn area(text: &str) -> Option<Area> {
+    let (width, height) = text.split_once('x')?;
+    let width = width.parse::<u16>().ok()?;
+    let height = height.parse::<u16>().ok()?;
+    Some(Area { width, height })
+}
+
+fn diff_options<'a>(
+    alloc: Global,
+    matches: &ArgMatches<'a>,
+) -> Result<DiffOptions<'a>, AllocError> {
+    Ok(DiffOptions {
+        old: matches.get_str("OLD").unwrap_or(""),
+        new: matches.get_str("NEW").unwrap_or(""),
+        names: all_of(alloc, matches, "names")?,
+    })
+}

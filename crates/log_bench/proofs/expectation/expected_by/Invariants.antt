@@ -1,0 +1,10 @@
+use Rattle.std.proofs.Common.{◌≡◌, ◌++◌, length}
+use Rattle.log_bench.specs.Expectations.{expected_by}
+use Rattle.vt_logs.specs.Lines.{lines_of}
+use Rattle.log_bench.proofs.expectation.expected_by.Given as goal
+
+abbrev pub invariant-loop-line : goal.invariant-loop-line
+invariant-loop-line l = l.expected.items ++ expected_by (lines_of l.rest) ≡ expected_by (lines_of l.text)
+
+abbrev pub decreases-loop-line : goal.decreases-loop-line
+decreases-loop-line l = length l.rest

@@ -1,0 +1,126 @@
+//! The subcommand `compare`.
+
+use crate::told::Telling;
+use log_answers::{Comparison, Difference};
+use log_replay::{Messages, Pass, Replay};
+use log_words::{CompareOptions, ReplayOptions};
+use std::alloc::Global;
+use std::io::{self, Write};
+use vt_can::{Line, LineFault};
+use vt_cli::{Open, Program, Status};
+use vt_server::Terminal;
+
+/// The microseconds of a millisecond.
+const MILLISECOND: u64 = 1000;
+
+/// Prints where the recorded terminal of a log answered differently than this one.
+pub fn run_compare<F: Open, W: Write, E: Messages>(
+    alloc: Global,
+    options: &CompareOptions<'_>,
+    files: &mut F,
+    out: &mut W,
+    errors: &mut E,
+) -> io::Result<Status> {
+    let Some(replay) = Replay::read(alloc, &options.replay, files, errors)? else {
+        return Ok(Status::NotJudged);
+    };
+    if !replay.recorded.has_frames {
+        replay.log.tell_no_frame(files, errors)?;
+        return Ok(Status::NotJudged);
+    }
+    if !replay.recorded.has_messages {
+        replay.log.pass(&mut (), files, out, errors)?;
+        tell_no_message(&options.replay, files, errors);
+        return Ok(Status::NotJudged);
+    }
+    let telling = Telling {
+        alloc,
+        names: &replay.names,
+        format: options.format,
+    };
+    for load in replay.recorded.loads.iter() {
+        if !replay.has_pool_of(load.source) {
+            telling.put_load(*load, out)?;
+        }
+    }
+    let mut run = Run::new(alloc, options.wait, replay.terminal()?, telling);
+    replay.log.pass(&mut run, files, out, errors)?;
+    run.end(out)?;
+    replay.tell_loss(&run.terminal, files, errors);
+    Ok(run.status)
+}
+
+/// Writes to `errors` that the log has no message of the recorded terminal.
+fn tell_no_message<F: Program, E: Write>(options: &ReplayOptions<'_>, files: &F, errors: &mut E) {
+    let _ = writeln!(
+        errors,
+        "{}: {}: the log has no message of a terminal at {:02X} to compare with; --own gives another address",
+        files.name(),
+        options.log,
+        options.terminal.own
+    );
+}
+
+/// A comparison in progress.
+#[derive(Drop)]
+struct Run<'a> {
+    terminal: Terminal,
+    comparison: Comparison,
+    differences: Vec<Difference>,
+    telling: Telling<'a>,
+    status: Status,
+}
+
+impl<'a> Run<'a> {
+    /// A comparison before the first line, in which an answer may take so many milliseconds.
+    fn new(alloc: Global, wait: u32, terminal: Terminal, telling: Telling<'a>) -> Run<'a> {
+        let wait = u64::from(wait) * MILLISECOND;
+        Run {
+            comparison: Comparison::new(alloc, wait, &terminal),
+            terminal,
+            differences: Vec::new(alloc),
+            telling,
+            status: Status::Clean,
+        }
+    }
+
+    /// Writes the differences that the end of the log brings about, and the counts of all.
+    fn end<W: Write>(&mut self, out: &mut W) -> io::Result<()> {
+        self.comparison.end(&mut self.differences)?;
+        self.put_differences(out)?;
+        self.telling.put_tally(self.comparison.tally, out)
+    }
+
+    /// Writes the differences that are certain, and removes them.
+    fn put_differences<W: Write>(&mut self, out: &mut W) -> io::Result<()> {
+        for difference in self.differences.iter() {
+            self.status = Status::Found;
+            self.telling.put_difference(difference, out)?;
+        }
+        self.differences.clear();
+        Ok(())
+    }
+}
+
+impl<F, W: Write, E> Pass<F, W, E> for Run<'_> {
+    /// Compares a line, and writes the differences that are certain then.
+    fn line(
+        &mut self,
+        _number: u64,
+        reading: Result<Line<'_>, LineFault>,
+        _files: &mut F,
+        out: &mut W,
+        _errors: &mut E,
+    ) -> io::Result<()> {
+        // A log has fewer lines than there are numbers.
+        let Some(line) = self.comparison.line.checked_add(1) else {
+            return Ok(());
+        };
+        self.comparison
+            .take_line(line, reading, &mut self.terminal, &mut self.differences)?;
+        if self.differences.is_empty() {
+            return Ok(());
+        }
+        self.put_differences(out)
+    }
+}

@@ -1,0 +1,89 @@
+//! A log with all that its replay needs.
+
+use crate::claims::Recorded;
+use crate::log::Log;
+use crate::start::{LoadedSet, new_terminal, read_set};
+use check_text::Names;
+use log_words::{ReplayOptions, TerminalOptions};
+use std::alloc::Global;
+use std::io::{self, Write};
+use vt_can::{Line, LineFault};
+use vt_cli::{Open, Program, read_names};
+use vt_server::{Input, Terminal};
+
+/// A log with all that its replay needs.
+#[derive(Drop)]
+pub struct Replay<'a> {
+    alloc: Global,
+    options: TerminalOptions<'a>,
+    set: Option<LoadedSet>,
+    /// The log.
+    pub log: Log<'a>,
+    /// The names of objects.
+    pub names: Names,
+    /// What the log says about the recorded terminal.
+    pub recorded: Recorded,
+}
+
+impl<'a> Replay<'a> {
+    /// Reads the files of a replay. `None` if one cannot be read or is refused: then `errors` receives the reason.
+    pub fn read<F: Open, E: Write>(
+        alloc: Global,
+        options: &ReplayOptions<'a>,
+        files: &mut F,
+        errors: &mut E,
+    ) -> io::Result<Option<Replay<'a>>> {
+        let Some(names) = read_names(alloc, options.names.as_slice(), files, errors)? else {
+            return Ok(None);
+        };
+        let Ok(set) = read_set(alloc, options.terminal.set, files, errors)? else {
+            return Ok(None);
+        };
+        let Some(log) = Log::read(alloc, options.log, options.interface, files, errors)? else {
+            return Ok(None);
+        };
+        let own = options.terminal.own;
+        let recorded = Recorded::in_log(alloc, log.text(), options.interface, own)?;
+        Ok(Some(Replay {
+            alloc,
+            options: options.terminal,
+            set,
+            log,
+            names,
+            recorded,
+        }))
+    }
+
+    /// The terminal before the first line. Its NAME is that of the recorded terminal, unless the options give another.
+    pub fn terminal(&self) -> io::Result<Terminal> {
+        let set = self.set.as_ref();
+        new_terminal(self.alloc, self.options, self.recorded.name, set)
+    }
+
+    /// Whether a node has a pool from the start.
+    pub fn has_pool_of(&self, source: u8) -> bool {
+        self.set.as_ref().is_some_and(|set| set.owner == source)
+    }
+
+    /// Writes to `errors` that the terminal has lost its address, if it has.
+    pub fn tell_loss<F: Program, E: Write>(&self, terminal: &Terminal, files: &F, errors: &mut E) {
+        if terminal.is_lost() {
+            let _ = writeln!(
+                errors,
+                "{}: {}: the terminal lost its address {:02X} to a lower NAME, and was silent from then on; --name gives it another NAME",
+                files.name(),
+                self.log.path(),
+                self.options.own
+            );
+        }
+    }
+}
+
+/// The input of a line: its frame, or the action of its operator. `None` for any other line.
+pub fn input_of<'a>(reading: Result<Line<'a>, LineFault>) -> Option<Input<'a>> {
+    match reading {
+        Ok(Line::Frame { time, frame }) => Some(Input::Frame { time, frame }),
+        Ok(Line::Operator(action)) => Some(Input::Operator(action)),
+        Ok(Line::Skipped(_) | Line::Comment) | Err(_) => None,
+    }
+}

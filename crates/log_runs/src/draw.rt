@@ -1,0 +1,129 @@
+//! The subcommand `draw`.
+
+use crate::picture::picture_shown;
+use check_needs::TERMINAL_SIZES;
+use log_replay::{Messages, Pass, Replay, input_of};
+use log_words::DrawOptions;
+use std::alloc::Global;
+use std::io::{self, Write};
+use std::mem;
+use vt_can::{Line, LineFault};
+use vt_cli::{Open, Save, Status, make_folder, save_file};
+use vt_server::{Output, Terminal};
+
+/// Draws the screen after each line of a log that changes the screen's text.
+pub fn run_draw<F: Open + Save, W: Write, E: Messages>(
+    alloc: Global,
+    options: &DrawOptions<'_>,
+    files: &mut F,
+    out: &mut W,
+    errors: &mut E,
+) -> io::Result<Status> {
+    let Some(replay) = Replay::read(alloc, &options.replay, files, errors)? else {
+        return Ok(Status::NotJudged);
+    };
+    let folder = options.folder.trim_end_matches('/');
+    if !replay.recorded.has_frames {
+        replay.log.tell_no_frame(files, errors)?;
+        return Ok(Status::NotJudged);
+    }
+    if !make_folder(folder, files, errors)? {
+        return Ok(Status::NotJudged);
+    }
+    let mut gallery = Gallery {
+        alloc,
+        folder,
+        terminal: replay.terminal()?,
+        screen: Vec::new(alloc),
+        drawn: Vec::new(alloc),
+        outputs: Vec::new(alloc),
+        status: Status::Clean,
+    };
+    gallery.look(0, files, out, errors)?;
+    replay.log.pass(&mut gallery, files, out, errors)?;
+    replay.tell_loss(&gallery.terminal, files, errors);
+    Ok(gallery.status)
+}
+
+/// The pictures of a replay.
+#[derive(Drop)]
+struct Gallery<'a> {
+    alloc: Global,
+    folder: &'a str,
+    terminal: Terminal,
+    /// The text of the screen that was drawn last.
+    screen: Vec<u8>,
+    /// The buffer for the next text.
+    drawn: Vec<u8>,
+    outputs: Vec<Output>,
+    status: Status,
+}
+
+impl<F: Save, W: Write, E: Messages> Pass<F, W, E> for Gallery<'_> {
+    /// Gives the input of a line to the terminal, and draws the screen if its text has changed.
+    fn line(
+        &mut self,
+        number: u64,
+        reading: Result<Line<'_>, LineFault>,
+        files: &mut F,
+        out: &mut W,
+        errors: &mut E,
+    ) -> io::Result<()> {
+        let Some(input) = input_of(reading) else {
+            return Ok(());
+        };
+        self.outputs.clear();
+        self.terminal.step(&input, &mut self.outputs)?;
+        self.look(number, files, out, errors)
+    }
+}
+
+impl Gallery<'_> {
+    /// Draws the screen after a line, if its text has changed.
+    fn look<F: Save, W: Write, E: Write>(
+        &mut self,
+        number: u64,
+        files: &mut F,
+        out: &mut W,
+        errors: &mut E,
+    ) -> io::Result<()> {
+        if !self.terminal.redraws() {
+            return Ok(());
+        }
+        self.drawn.clear();
+        self.terminal.screen(&mut self.drawn)?;
+        if self.drawn == self.screen {
+            return Ok(());
+        }
+        mem::swap(&mut self.screen, &mut self.drawn);
+        self.status = self
+            .status
+            .and(self.put_picture(number, files, out, errors)?);
+        Ok(())
+    }
+
+    /// Writes the picture of the screen after a line, and names it by the first line of the screen's text.
+    fn put_picture<F: Save, W: Write, E: Write>(
+        &self,
+        number: u64,
+        files: &mut F,
+        out: &mut W,
+        errors: &mut E,
+    ) -> io::Result<Status> {
+        let end = self.screen.iter().position(|byte| *byte == b'\n');
+        let head = self.screen.get(..end.unwrap_or(0)).unwrap_or(&[]);
+        write!(out, "line {number}: ")?;
+        out.write_all(head)?;
+        let Some(picture) = picture_shown(self.alloc, &self.terminal, TERMINAL_SIZES)? else {
+            writeln!(out)?;
+            return Ok(Status::Clean);
+        };
+        let path = format!(in self.alloc; "{}/line-{number}.svg", self.folder)?;
+        writeln!(out, " -> {path}")?;
+        if save_file(path.as_str(), &picture, files, errors)? {
+            Ok(Status::Clean)
+        } else {
+            Ok(Status::NotJudged)
+        }
+    }
+}

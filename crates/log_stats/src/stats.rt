@@ -1,0 +1,105 @@
+//! The subcommand `stats`.
+
+use crate::Traffic;
+use crate::fields::Fields;
+use check_text::Names;
+use log_reach::{Reach, ReachText};
+use log_replay::{Messages, Pass, Replay, input_of};
+use log_words::{Format, StatsOptions};
+use std::alloc::Global;
+use std::io::{self, Write};
+use vt_can::{Line, LineFault};
+use vt_cli::{Open, Status};
+use vt_server::{Output, Terminal};
+
+/// Prints the numbers of a log, and what it reached of each pool.
+pub fn run_stats<F: Open, W: Write, E: Messages>(
+    alloc: Global,
+    options: &StatsOptions<'_>,
+    files: &mut F,
+    out: &mut W,
+    errors: &mut E,
+) -> io::Result<Status> {
+    let Some(replay) = Replay::read(alloc, &options.replay, files, errors)? else {
+        return Ok(Status::NotJudged);
+    };
+    if !replay.recorded.has_frames {
+        replay.log.tell_no_frame(files, errors)?;
+        return Ok(Status::NotJudged);
+    }
+    let terminal = replay.terminal()?;
+    let reach = Reach::new(alloc, &terminal)?;
+    let mut run = Run {
+        terminal,
+        traffic: Traffic::new(alloc),
+        reach,
+        outputs: Vec::new(alloc),
+    };
+    replay.log.pass(&mut run, files, out, errors)?;
+    run.put(&replay.names, options.format, alloc, out)?;
+    replay.tell_loss(&run.terminal, files, errors);
+    Ok(Status::Clean)
+}
+
+/// The numbers of a log so far, and what it reached.
+#[derive(Drop)]
+struct Run {
+    terminal: Terminal,
+    traffic: Traffic,
+    reach: Reach,
+    outputs: Vec<Output>,
+}
+
+impl<F, W, E> Pass<F, W, E> for Run {
+    /// Counts a line, and notes what it reaches.
+    fn line(
+        &mut self,
+        number: u64,
+        reading: Result<Line<'_>, LineFault>,
+        _files: &mut F,
+        _out: &mut W,
+        _errors: &mut E,
+    ) -> io::Result<()> {
+        self.reach.before(&reading, &self.terminal);
+        if let Ok(Line::Frame { time, frame }) = &reading {
+            self.traffic.take(number, *time, frame)?;
+        }
+        let Some(input) = input_of(reading) else {
+            return Ok(());
+        };
+        self.outputs.clear();
+        self.terminal.step(&input, &mut self.outputs)?;
+        self.reach.after(&self.outputs, &self.terminal)?;
+        Ok(())
+    }
+}
+
+impl Run {
+    /// Writes the numbers of the log, and what it reached.
+    fn put<W: Write>(
+        &self,
+        names: &Names,
+        format: Format,
+        alloc: Global,
+        out: &mut W,
+    ) -> io::Result<()> {
+        let report = self.traffic.report()?;
+        let sets = self.reach.sets()?;
+        match format {
+            Format::Text => {
+                write!(out, "{report}")?;
+                for set in sets.iter() {
+                    write!(out, "{}", ReachText { set, names })?;
+                }
+            }
+            Format::Json => {
+                let fields = Fields { alloc, names };
+                fields.put_report(&report, out)?;
+                for set in sets.iter() {
+                    fields.put_set(set, out)?;
+                }
+            }
+        }
+        Ok(())
+    }
+}

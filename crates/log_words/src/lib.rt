@@ -1,0 +1,21 @@
+//! The command line of `segyolant_log`, and the options that it gives.
+//!
+//! `Options::parse` reads the words of a command line, and returns the `Options` of a subcommand or a `UsageError`, which may have a
+//! `WrongOption`. docs/LOGS.md has the subcommands.
+//!
+//! It opens no file and runs nothing: that is done in log_tool and the crates of the subcommands.
+//!
+//! Come here to ask which words `segyolant_log` takes, and what its help and its refusals say.
+#![tactic(auto)]
+
+mod arguments;
+mod options;
+mod replays;
+mod subcommands;
+mod wrong_option;
+
+pub use options::{
+    CompareOptions, DrawOptions, Format, OperatorOptions, Options, PoolsOptions, ReplayOptions,
+    StatsOptions, TerminalOptions, TestOptions,
+};
+pub use wrong_option::WrongOption;

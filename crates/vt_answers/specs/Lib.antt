@@ -1,9 +1,0 @@
--- The definitions used in the contracts of vt_answers.
-pub mod Topics
-pub mod Messages
-pub mod OpenQuestions
-pub mod Tellings
-pub mod Conversations
-pub mod Matches
-pub mod Comparisons
-pub mod Laws

@@ -1,3 +1,0 @@
--- The lemmas of vt_changes.
-pub mod Steps
-pub mod Unchanged

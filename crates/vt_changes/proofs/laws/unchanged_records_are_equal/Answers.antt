@@ -1,5 +1,0 @@
-use Rattle.vt_changes.proofs.Unchanged.{one_record}
-use Rattle.vt_changes.proofs.laws.unchanged_records_are_equal.Goals as goal
-
-pub returns : goal.returns
-returns c = one_record

@@ -1,6 +1,0 @@
-use Rattle.std.proofs.Common.{ℕ, [], ◌∷◌}
-use Rattle.vt_circles.proofs.lemmas.Marks.{IsMarking}
-use Rattle.vt_circles.proofs.reduced_graph.mark.Given as goal
-
-abbrev pub invariant-loop-node : goal.invariant-loop-node
-invariant-loop-node l = IsMarking (λ (n : ℕ). n ∷ []) l.nodes l.node-index l.fn.marks l.marks

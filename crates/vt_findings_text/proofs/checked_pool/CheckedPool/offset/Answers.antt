@@ -1,8 +1,0 @@
-use Rattle.std.proofs.Common.{sym, subst}
-use Rattle.vt_findings_text.specs.declared.item.Item.{Item}
-use Rattle.vt_findings_text.specs.Messages.{IsItemOffset}
-use Rattle.vt_findings_text.proofs.checked_pool.CheckedPool.offset.Goals as goal
-
-pub returns-in-Finding : goal.returns-in-Finding
-returns-in-Finding c =
-    subst (λ (item : Item). IsItemOffset c.args.self.now.inspection.now item c.finding_at.result) (sym c.in-Finding.is) c.finding_at.ensures

@@ -1,7 +1,0 @@
--- The specifications that the contracts of vt_findings_text use.
-pub mod Codes
-pub mod Events
-pub mod Labels
-pub mod Messages
-pub mod Severities
-pub mod Spots

@@ -1,4 +1,0 @@
-pub mod ClosedImages
-pub mod FilledRows
-pub mod Places
-mod StrokesOfBytes

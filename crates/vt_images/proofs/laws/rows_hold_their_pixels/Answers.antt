@@ -1,5 +1,0 @@
-use Rattle.vt_images.proofs.Places.{pixels_in_rows}
-use Rattle.vt_images.proofs.laws.rows_hold_their_pixels.Goals as goal
-
-pub returns : goal.returns
-returns c = pixels_in_rows

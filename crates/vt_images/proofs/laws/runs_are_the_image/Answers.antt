@@ -1,5 +1,0 @@
-use Rattle.vt_images.proofs.Places.{image_of_runs}
-use Rattle.vt_images.proofs.laws.runs_are_the_image.Goals as goal
-
-pub returns : goal.returns
-returns c = image_of_runs

@@ -1,6 +1,0 @@
-use Rattle.std.proofs.Common.{take}
-use Rattle.vt_inspect.specs.Missing.{AreMissingIds}
-use Rattle.vt_inspect.proofs.inclusions.missing_ids.Given as goal
-
-abbrev pub invariant-loop-found : goal.invariant-loop-found
-invariant-loop-found l = AreMissingIds (take l.found-index l.absent) l.ids.keys

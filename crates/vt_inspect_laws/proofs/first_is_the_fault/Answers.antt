@@ -1,5 +1,0 @@
-use Rattle.vt_inspect_laws.proofs.FirstFault.{first_fault}
-use Rattle.vt_inspect_laws.proofs.first_is_the_fault.Goals as goal
-
-pub returns : goal.returns
-returns c = first_fault

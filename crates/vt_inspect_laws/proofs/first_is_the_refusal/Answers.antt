@@ -1,5 +1,0 @@
-use Rattle.vt_inspect_laws.proofs.FirstRefusal.{first_refusal}
-use Rattle.vt_inspect_laws.proofs.first_is_the_refusal.Goals as goal
-
-pub returns : goal.returns
-returns c = first_refusal

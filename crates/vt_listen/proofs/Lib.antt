@@ -1,8 +1,0 @@
--- The lemmas of vt_listen.
-pub mod Bytes
-pub mod Channels
-pub mod Entries
-pub mod Hearing
-pub mod Maps
-pub mod Packets
-pub mod Requests

@@ -1,7 +1,0 @@
--- The definitions used in the contracts of vt_log_bench.
-pub mod Blessings
-pub mod Differences
-pub mod Expectations
-pub mod Laws
-pub mod LineTexts
-pub mod Statuses

@@ -1,7 +1,0 @@
--- The lemmas of vt_needs, by subject.
-pub mod Columns
-pub mod Dearer
-pub mod NamedIds
-pub mod Objects
-pub mod OutsideElements
-pub mod SeenRecords

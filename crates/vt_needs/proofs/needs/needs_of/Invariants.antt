@@ -1,9 +1,0 @@
-use Rattle.std.proofs.Common.{◌≡◌, map, drop}
-use Rattle.vt_stores.specs.Stores.{seen_entry}
-use Rattle.vt_needs.specs.Needs.{both, all_of, needs_of, needs_at}
-use Rattle.vt_needs.proofs.needs.needs_of.Given as goal
-
-abbrev pub invariant-loop-object : goal.invariant-loop-object
-invariant-loop-object l =
-    (map seen_entry l.object-items ≡ l.objects)
-    × (needs_of l.objects ≡ both l.needs (all_of (map (λ e. needs_at l.objects e.1) (map seen_entry (drop l.object-index l.object-items)))))

@@ -1,6 +1,0 @@
-use Rattle.std.proofs.Common.{◌≡◌, ◌++◌, drop}
-use Rattle.vt_picture.specs.Documents.{key_places}
-use Rattle.vt_picture.proofs.document.key_places.Given as goal
-
-abbrev pub invariant-loop-index : goal.invariant-loop-index
-invariant-loop-index l = l.places.items ++ key_places l.sizes l.index (drop l.index l.keys) ≡ key_places l.sizes 0 l.keys

@@ -1,9 +1,0 @@
--- The definitions used in the contracts of vt_picture.
-pub mod Documents
-pub mod Frames
-pub mod Listings
-pub mod Marks
-pub mod NearPlaces
-pub mod Parts
-pub mod Pictures
-pub mod Tags

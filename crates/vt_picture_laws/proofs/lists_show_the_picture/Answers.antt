@@ -1,5 +1,0 @@
-use Rattle.vt_picture_laws.proofs.ListedMarks.{lists_shown}
-use Rattle.vt_picture_laws.proofs.lists_show_the_picture.Goals as goal
-
-pub returns : goal.returns
-returns c = lists_shown

@@ -1,5 +1,0 @@
-use Rattle.vt_picture_laws.proofs.PlacedMarks.{marks_placed}
-use Rattle.vt_picture_laws.proofs.marks_are_drawn.Goals as goal
-
-pub returns : goal.returns
-returns c = marks_placed

@@ -1,5 +1,0 @@
-use Rattle.vt_picture.proofs.WrittenPictures.{picture_written, pictures_once}
-use Rattle.vt_picture_laws.proofs.pictures_are_written_once.Goals as goal
-
-pub returns : goal.returns
-returns c = record { once = pictures_once; written = picture_written }

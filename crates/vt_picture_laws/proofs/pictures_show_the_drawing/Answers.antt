@@ -1,5 +1,0 @@
-use Rattle.vt_picture_laws.proofs.WholePictures.{picture_shows}
-use Rattle.vt_picture_laws.proofs.pictures_show_the_drawing.Goals as goal
-
-pub returns : goal.returns
-returns c = picture_shows

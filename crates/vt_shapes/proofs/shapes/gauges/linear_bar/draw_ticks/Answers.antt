@@ -1,6 +1,0 @@
-use Rattle.vt_shapes.specs.Gauges.{bar_tick}
-use Rattle.vt_shapes.proofs.Gauges.{next_below}
-use Rattle.vt_shapes.proofs.shapes.gauges.linear_bar.draw_ticks.Goals as goal
-
-pub loop-i-preserved : goal.loop-i-preserved
-loop-i-preserved c = next_below (bar_tick c.args.bar.now) c.loop-i.i _ _ _ c.loop-i.invariant c.in_ok-draw_tick.ensures

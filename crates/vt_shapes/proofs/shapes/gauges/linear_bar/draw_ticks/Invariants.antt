@@ -1,7 +1,0 @@
-use Rattle.std.proofs.Common.{◌≡◌, ◌++◌}
-use Rattle.vt_svg.specs.Elements.{text_of}
-use Rattle.vt_shapes.specs.Gauges.{bar_tick, each_below}
-use Rattle.vt_shapes.proofs.shapes.gauges.linear_bar.draw_ticks.Given as goal
-
-abbrev pub invariant-loop-i : goal.invariant-loop-i
-invariant-loop-i l = l.text.items ≡ l.fn.text.items ++ text_of (each_below (bar_tick l.bar) l.i)

@@ -1,6 +1,0 @@
-use Rattle.vt_shapes.specs.Gauges.{meter_tick}
-use Rattle.vt_shapes.proofs.Gauges.{next_below}
-use Rattle.vt_shapes.proofs.shapes.gauges.meter.draw_ticks.Goals as goal
-
-pub loop-i-preserved : goal.loop-i-preserved
-loop-i-preserved c = next_below (meter_tick c.args.meter.now) c.loop-i.i _ _ _ c.loop-i.invariant c.in_ok-draw_tick.ensures

@@ -1,4 +1,0 @@
-pub mod AppendedNodes
-pub mod Bits
-pub mod Followed
-pub mod NoMarkup

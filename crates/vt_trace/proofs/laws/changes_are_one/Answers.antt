@@ -1,5 +1,0 @@
-use Rattle.vt_trace.proofs.OneDifference.{changes-one}
-use Rattle.vt_trace.proofs.laws.changes_are_one.Goals as goal
-
-pub returns : goal.returns
-returns c = changes-one

@@ -1,5 +1,0 @@
-use Rattle.vt_trace.proofs.OneDifference.{replaced-line}
-use Rattle.vt_trace.proofs.laws.one_replaced_line.Goals as goal
-
-pub returns : goal.returns
-returns c = replaced-line

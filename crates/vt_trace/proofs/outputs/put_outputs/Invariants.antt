@@ -1,7 +1,0 @@
-use Rattle.std.proofs.Common.{take}
-use Rattle.vt_trace.specs.Lines.{Gains}
-use Rattle.vt_trace.specs.Traces.{AreOutputLines}
-use Rattle.vt_trace.proofs.outputs.put_outputs.Given as goal
-
-abbrev pub invariant-loop-output : goal.invariant-loop-output
-invariant-loop-output l = Gains (AreOutputLines (take l.output-index l.outputs)) l.initial.text.items l.text.items
