@@ -1,4 +1,5 @@
 pub mod AllowedPointersAndItems
+mod BitsOfRefusals
 pub mod ChainTestPasses
 pub mod DoneIfInOrder
 pub mod EventsOfEntries

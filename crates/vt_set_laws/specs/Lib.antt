@@ -5,3 +5,4 @@ pub mod CommandOrder
 pub mod MacroOrder
 pub mod NewValues
 pub mod PoolFaults
+pub mod RefusalBits

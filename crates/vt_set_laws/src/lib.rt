@@ -10,6 +10,7 @@ ghost use Rattle.vt_set_laws.specs.CommandOrder.{OrderDecides};
 ghost use Rattle.vt_set_laws.specs.MacroOrder.{TriggeredStandBefore};
 ghost use Rattle.vt_set_laws.specs.NewValues.{NewValuesAreNew};
 ghost use Rattle.vt_set_laws.specs.PoolFaults.{FaultsAreOne};
+ghost use Rattle.vt_set_laws.specs.RefusalBits.{RefusalsAreInTheirRows};
 
 /// The law that a command is done exactly if the references and chains of the objects are in order after its change; only
 /// a new value of a pointer and a new item of a list can break that order. docs/PROFILE.md, "What every store keeps".
@@ -49,4 +50,9 @@ pub fn faults_are_one()
 /// none triggers itself or a later one. docs/PROFILE.md, "Triggers and circles".
 pub fn triggered_stand_before()
     ensures { TriggeredStandBefore }
+{}
+
+/// The law that the error byte of a refused command has one bit, which the row of the command has.
+pub fn refusals_are_in_their_rows()
+    ensures { RefusalsAreInTheirRows }
 {}
