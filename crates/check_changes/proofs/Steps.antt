@@ -1,55 +1,32 @@
--- The names of fields one after the other, and the equality of values.
-use Rattle.std.proofs.Common.{◌≡◌, refl, Bool, true, false, ◌&&◌, ◌==◌, ℕ, List, [], ◌∷◌, ◌++◌, map, ◌∙◌, ap, ap₂, int_eq, Result, Ok, Err, IfOk, flat_map, if◌then◌else◌, sym}
+-- The equality of values, and the names of those that differ.
+use Rattle.std.proofs.Common.{◌≡◌, refl, Bool, true, false, not, ◌&&◌, ◌==◌, ℕ, List, [], ◌∷◌, ◌++◌, map, ◌∙◌, ap, ap₂, int_eq, Bor, cond, if◌then◌else◌, ◌≢◌, sym, eq-eqb, Some, Result, Ok, Err, IfOk}
+use Rattle.std.proofs.lemmas.Bool.{ne_eqb}
 use Rattle.std.specs.Cmp.Lexicographic.{pointwise}
-use Rattle.std.specs.Str.{bytes_eq}
 use Rattle.vt_kinds.specs.declared.scale.Scale.{Scale}
 use Rattle.vt_kinds.specs.declared.scale.Scale.TheVariants.{One, Tenth, Hundredth, Thousandth}
 use Rattle.vt_kinds.specs.declared.entries.Child.{Child}
 use Rattle.vt_kinds.specs.declared.entries.Language.{Language}
 use Rattle.vt_kinds.specs.declared.entries.MacroEntry.{MacroEntry}
 use Rattle.vt_kinds.specs.declared.entries.Point.{Point}
-use Rattle.vt_kinds.specs.contracts.scale.ScalePartialEq.TheImpl.{ghosts}
-use Rattle.vt_kinds.specs.Kinds.{kind_number}
-use Rattle.vt_kinds.specs.Layout.{Numeral, Value}
-use Rattle.vt_kinds.specs.Records.{Seen, kind_of}
+use Rattle.vt_kinds.specs.contracts.scale.ScalePartialEq.TheImpl as scales
+use Rattle.vt_kinds.specs.declared.kind.Kind.{Kind}
+use Rattle.vt_kinds.specs.declared.kind.Kind.TheVariants as kinds
+use Rattle.vt_kinds.specs.declared.object.Object.{Object}
+use Rattle.vt_kinds.specs.declared.object.Object.TheVariants as objects
+use Rattle.vt_kinds.specs.Kinds.{kind_number, kind_of_type}
+use Rattle.vt_kinds.specs.Layout.{Numeral}
+use Rattle.vt_kinds.specs.Records.{Seen, seen, kind_of}
 use Rattle.vt_kinds.specs.Scales.{scale_number}
 use Rattle.vt_kinds.specs.Tables.{child_numbers, macro_numbers, language_numbers, id_numbers, point_numbers}
 use Rattle.check_changes.specs.FieldNames.{field_names}
-use Rattle.check_changes.specs.Names.{Name, named}
+use Rattle.check_changes.specs.Names.{Name, named, name_bytes}
 use Rattle.check_changes.specs.Changes.{same_numeral, same_value, named_values, differing, changed}
+use Rattle.check_changes.specs.Values.{value_of, field_of, named_fields, names_unlike, AreValuesOf}
+use Rattle.check_changes.specs.declared.values.Value.{Value}
+use Rattle.check_changes.specs.declared.values.Value.TheVariants as values
+use Rattle.check_changes.specs.contracts.values.ValuePartialEq.TheImpl.{ghosts}
 
--- ---- names
-
--- each row says whether a value is equal in both objects
-pub data Compared : List Value → List Value → List (Name × Bool) → Type 0 where
-  none : Compared [] [] []
-  also : {a b : Value} {old new : List Value} {row : Name × Bool} {rows : List (Name × Bool)} → row.1 ≡ same_value a b → Compared old new rows
-      → Compared (a ∷ old) (b ∷ new) (row ∷ rows)
-
-in_rows : {old new : List Value} {rows : List (Name × Bool)} → Compared old new rows
-    → flat_map (λ f. named f.0 f.1) rows ≡ differing (map (λ f. f.0) rows) old new
-in_rows none = refl
-in_rows (also {row = row} equal each) = ap₂ (λ same rest. named row.0 same ++ rest) equal (in_rows each)
-
-in_changed : (old new : Seen) (rows : List (Name × Bool)) → (kind_number (kind_of old) == kind_number (kind_of new)) ≡ true
-    → map (λ f. f.0) rows ≡ field_names (kind_of old) → Compared (named_values old) (named_values new) rows
-    → flat_map (λ f. named f.0 f.1) rows ≡ changed old new
-in_changed old new rows of_one_kind names each =
-    in_rows each
-    ∙ ap (λ (ns : List Name). differing ns (named_values old) (named_values new)) names
-    ∙ ap (λ (same : Bool). if same then differing (field_names (kind_of old)) (named_values old) (named_values new) else []) (sym of_one_kind)
-
--- the names in rows of the named values of two objects of one kind
-pub compared : {A E : Type 0} (r : Result A E) (found : A → List Name) (rows : List (Name × Bool)) → IfOk r (λ a. found a ≡ flat_map (λ f. named f.0 f.1) rows)
-    → (old new : Seen) {other : Seen} → other ≡ new → (kind_number (kind_of old) == kind_number (kind_of new)) ≡ true
-    → map (λ f. f.0) rows ≡ field_names (kind_of old) → Compared (named_values old) (named_values new) rows → IfOk r (λ a. found a ≡ changed old other)
-compared (Ok a) found rows is old new same of_one_kind names each = is ∙ in_changed old new rows of_one_kind names each ∙ sym (ap (changed old) same)
-compared (Err e) found rows is old new same of_one_kind names each = is
-
--- ---- values
-
-pub same_bytes : {xs ys us vs : List ℕ} {r : Bool} → r ≡ bytes_eq xs ys → xs ≡ us → ys ≡ vs → r ≡ bytes_eq us vs
-same_bytes {xs} {ys} {us} {vs} e f g = e ∙ ap₂ bytes_eq f g
+-- ---- the equality of values
 
 -- rows of numbers are equal where the elements are
 same_rows : {X : Type 0} (numbers : X → List Numeral) (same : X → X → Bool) → ((a b : X) → same a b ≡ pointwise same_numeral (numbers a) (numbers b))
@@ -63,60 +40,104 @@ and_true : (b : Bool) → b ≡ (b && true)
 and_true true = refl
 and_true false = refl
 
-abbrev pub same_child : Child → Child → Bool
-same_child a b = (a.id == b.id) && ((int_eq a.x b.x) && (int_eq a.y b.y))
+same_child : (a b : Child) → ((a.id == b.id) && ((int_eq a.x b.x) && (int_eq a.y b.y))) ≡ pointwise same_numeral (child_numbers a) (child_numbers b)
+same_child a b = ap (λ y. (a.id == b.id) && ((int_eq a.x b.x) && y)) (and_true (int_eq a.y b.y))
 
-pub same_children : {xs ys us vs : List Child} {r : Bool} → r ≡ pointwise same_child xs ys → xs ≡ us → ys ≡ vs
-    → r ≡ pointwise (pointwise same_numeral) (map child_numbers us) (map child_numbers vs)
-same_children {xs} {ys} {us} {vs} e f g =
-    e ∙ ap₂ (pointwise same_child) f g
-    ∙ same_rows child_numbers same_child (λ a b. ap (λ y. (a.id == b.id) && ((int_eq a.x b.x) && y)) (and_true (int_eq a.y b.y))) us vs
+same_id : (a b : ℕ) → (a == b) ≡ pointwise same_numeral (id_numbers a) (id_numbers b)
+same_id a b = and_true (a == b)
 
-abbrev pub same_entry : MacroEntry → MacroEntry → Bool
-same_entry a b = (a.event == b.event) && (a.macro_id == b.macro_id)
+same_entry : (a b : MacroEntry) → ((a.event == b.event) && (a.macro_id == b.macro_id)) ≡ pointwise same_numeral (macro_numbers a) (macro_numbers b)
+same_entry a b = ap (λ m. (a.event == b.event) && m) (and_true (a.macro_id == b.macro_id))
 
-pub same_macros : {xs ys us vs : List MacroEntry} {r : Bool} → r ≡ pointwise same_entry xs ys → xs ≡ us → ys ≡ vs
-    → r ≡ pointwise (pointwise same_numeral) (map macro_numbers us) (map macro_numbers vs)
-same_macros {xs} {ys} {us} {vs} e f g =
-    e ∙ ap₂ (pointwise same_entry) f g
-    ∙ same_rows macro_numbers same_entry (λ a b. ap (λ m. (a.event == b.event) && m) (and_true (a.macro_id == b.macro_id))) us vs
+same_language : (a b : Language) → ((a.first == b.first) && (a.second == b.second)) ≡ pointwise same_numeral (language_numbers a) (language_numbers b)
+same_language a b = ap (λ m. (a.first == b.first) && m) (and_true (a.second == b.second))
 
-abbrev pub same_language : Language → Language → Bool
-same_language a b = (a.first == b.first) && (a.second == b.second)
+same_point : (a b : Point) → ((a.x == b.x) && (a.y == b.y)) ≡ pointwise same_numeral (point_numbers a) (point_numbers b)
+same_point a b = ap (λ m. (a.x == b.x) && m) (and_true (a.y == b.y))
 
-pub same_languages : {xs ys us vs : List Language} {r : Bool} → r ≡ pointwise same_language xs ys → xs ≡ us → ys ≡ vs
-    → r ≡ pointwise (pointwise same_numeral) (map language_numbers us) (map language_numbers vs)
-same_languages {xs} {ys} {us} {vs} e f g =
-    e ∙ ap₂ (pointwise same_language) f g
-    ∙ same_rows language_numbers same_language (λ a b. ap (λ m. (a.first == b.first) && m) (and_true (a.second == b.second))) us vs
+same_scale : (a b : Scale) → scales.ghosts.eq a b ≡ (scale_number a == scale_number b)
+same_scale One One = refl
+same_scale One Tenth = refl
+same_scale One _ = refl
+same_scale Tenth One = refl
+same_scale Tenth _ = refl
+same_scale Hundredth One = refl
+same_scale Hundredth _ = refl
+same_scale Thousandth One = refl
+same_scale Thousandth _ = refl
 
-abbrev pub same_point : Point → Point → Bool
-same_point a b = (a.x == b.x) && (a.y == b.y)
+-- values of one field are equal where they are equal in the record
+pub same_values : (a b : Value) → field_of a ≡ field_of b → ghosts.eq a b ≡ same_value (value_of a) (value_of b)
+same_values (values.Byte a) (values.Byte b) h = refl
+same_values (values.Word a) (values.Word b) h = refl
+same_values (values.Long a) (values.Long b) h = refl
+same_values (values.SignedLong a) (values.SignedLong b) h = refl
+same_values (values.Scale a) (values.Scale b) h = same_scale a b
+same_values (values.Decimals a) (values.Decimals b) h = refl
+same_values (values.Children a) (values.Children b) h = same_rows child_numbers _ same_child a.now b.now
+same_values (values.Keys a) (values.Keys b) h = same_rows id_numbers _ same_id a.now b.now
+same_values (values.Items a) (values.Items b) h = same_rows id_numbers _ same_id a.now b.now
+same_values (values.Macros a) (values.Macros b) h = same_rows macro_numbers _ same_entry a.now b.now
+same_values (values.Languages a) (values.Languages b) h = same_rows language_numbers _ same_language a.now b.now
+same_values (values.Points a) (values.Points b) h = same_rows point_numbers _ same_point a.now b.now
+same_values (values.Bytes a) (values.Bytes b) h = refl
+same_values a b h = absurd (cc)
 
-pub same_points : {xs ys us vs : List Point} {r : Bool} → r ≡ pointwise same_point xs ys → xs ≡ us → ys ≡ vs
-    → r ≡ pointwise (pointwise same_numeral) (map point_numbers us) (map point_numbers vs)
-same_points {xs} {ys} {us} {vs} e f g =
-    e ∙ ap₂ (pointwise same_point) f g
-    ∙ same_rows point_numbers same_point (λ a b. ap (λ m. (a.x == b.x) && m) (and_true (a.y == b.y))) us vs
+-- ---- the names of the values that differ
 
-pub same_ids : {xs ys us vs : List ℕ} {r : Bool} → r ≡ bytes_eq xs ys → xs ≡ us → ys ≡ vs
-    → r ≡ pointwise (pointwise same_numeral) (map id_numbers us) (map id_numbers vs)
-same_ids {xs} {ys} {us} {vs} e f g = same_bytes e f g ∙ same_rows id_numbers (λ a b. a == b) (λ a b. and_true (a == b)) us vs
+abbrev Row : Type 0
+Row = (Bor Name × Value) × Value
 
-pub same_scales : (a b : Scale) → ghosts.eq a b ≡ (scale_number a == scale_number b)
-same_scales One One = refl
-same_scales One Tenth = refl
-same_scales One Hundredth = refl
-same_scales One Thousandth = refl
-same_scales Tenth One = refl
-same_scales Tenth Tenth = refl
-same_scales Tenth Hundredth = refl
-same_scales Tenth Thousandth = refl
-same_scales Hundredth One = refl
-same_scales Hundredth Tenth = refl
-same_scales Hundredth Hundredth = refl
-same_scales Hundredth Thousandth = refl
-same_scales Thousandth One = refl
-same_scales Thousandth Tenth = refl
-same_scales Thousandth Hundredth = refl
-same_scales Thousandth Thousandth = refl
+abbrev names_in : List Row → List Name
+names_in rows = name_bytes (map (λ row. row.0.0) rows)
+
+in_row : (equal : Bool) (row : Row) (rest : List Row) → names_in (cond (not equal) (row ∷ rest) rest) ≡ named row.0.0.now equal ++ names_in rest
+in_row true row rest = refl
+in_row false row rest = refl
+
+pub in_rows : (same : Value → Value → Bool) → ((a b : Value) → field_of a ≡ field_of b → same a b ≡ same_value (value_of a) (value_of b))
+    → (names : List (Bor Name)) (old new : List Value) → map field_of old ≡ map field_of new
+    → name_bytes (names_unlike same names old new) ≡ differing (name_bytes names) (map value_of old) (map value_of new)
+in_rows same each [] old new h = refl
+in_rows same each (n ∷ ns) [] new h = refl
+in_rows same each (n ∷ ns) (a ∷ old) [] h = refl
+in_rows same each (n ∷ ns) (a ∷ old) (b ∷ new) h =
+    let first : field_of a ≡ field_of b = cc in
+    let others : map field_of old ≡ map field_of new = cc in
+    in_row (same a b) ((n, a), b) _ ∙ ap₂ (λ equal rest. named n.now equal ++ rest) (each a b first) (in_rows same each ns old new others)
+
+-- ---- the names of the fields in which two objects differ
+
+known : (k : Kind) → kind_of_type (kind_number k) ≡ Some k
+known kinds.WorkingSet = refl
+known _ = refl
+
+one_kind : (j k : Kind) → kind_number j ≡ kind_number k → j ≡ k
+one_kind j k same = let some : Some j ≡ Some k = sym (known j) ∙ ap kind_of_type same ∙ known k in cc
+
+kind_seen : {B : Type 0} (o : Object B) → kind_of (seen o) ≡ kind_of o
+kind_seen (objects.WorkingSet o) = refl
+kind_seen _ = refl
+
+abbrev by_kind : Seen → Seen → Bool → List Name
+by_kind old new of_one_kind = if of_one_kind then differing (field_names (kind_of old)) (named_values old) (named_values new) else []
+
+pub in_changed : {A E B : Type 0} (r : Result A E) (found : A → List (Bor Name)) (old new : Object B) (names : List (Bor Name)) (olds news : List Value)
+    → kind_number (kind_of old) ≡ kind_number (kind_of new) → name_bytes names ≡ field_names (kind_of old) → AreValuesOf (seen old) olds → AreValuesOf (seen new) news
+    → IfOk r (λ a. found a ≡ names_unlike ghosts.eq names olds news)
+    → IfOk r (λ a. name_bytes (found a) ≡ changed (seen old) (seen new))
+in_changed (Err e) found old new names olds news same called of_old of_new is = is
+in_changed (Ok a) found old new names olds news same called of_old of_new is =
+    let kinds : kind_of (seen old) ≡ kind_of (seen new) = kind_seen old ∙ one_kind _ _ same ∙ sym (kind_seen new) in
+    let fields : map field_of olds ≡ map field_of news = of_old.1 ∙ ap named_fields kinds ∙ sym of_new.1 in
+    let names_seen : name_bytes names ≡ field_names (kind_of (seen old)) = called ∙ ap field_names (sym (kind_seen old)) in
+    ap name_bytes is
+    ∙ in_rows ghosts.eq same_values names olds news fields
+    ∙ ap (λ ns. differing ns (map value_of olds) (map value_of news)) names_seen
+    ∙ ap₂ (λ os ns. differing (field_names (kind_of (seen old))) os ns) of_old.0 of_new.0
+    ∙ sym (ap (by_kind (seen old) (seen new)) (eq-eqb _ _ (ap kind_number kinds)))
+
+pub unlike : {B : Type 0} (old new : Object B) → kind_number (kind_of old) ≢ kind_number (kind_of new) → [] ≡ changed (seen old) (seen new)
+unlike old new other =
+    sym (ap (by_kind (seen old) (seen new))
+    (ne_eqb _ _ (λ same. other (sym (ap kind_number (kind_seen old)) ∙ same ∙ ap kind_number (kind_seen new)))))

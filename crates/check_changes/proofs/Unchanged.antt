@@ -1,6 +1,6 @@
 -- Objects of one kind for which no field is named have one record: their named values are equal, and a count is the length of
 -- the list that it counts.
-use Rattle.std.proofs.Common.{◌≡◌, refl, Bool, true, false, ◌&&◌, ◌==◌, ℕ, suc, List, [], ◌∷◌, ◌++◌, map, length, ◌∙◌, sym, ap, ap₂, subst, true≢false, if◌then◌else◌, eqb-true, eq-eqb}
+use Rattle.std.proofs.Common.{◌≡◌, refl, Bool, true, false, ◌&&◌, ◌==◌, ℕ, suc, List, [], ◌∷◌, ◌++◌, length, ◌∙◌, sym, ap, ap₂, subst, true≢false, if◌then◌else◌, eqb-true, eq-eqb}
 use Rattle.std.proofs.lemmas.Bool.Decides.{Decides-int_eq}
 use Rattle.std.specs.Cmp.Lexicographic.{pointwise}
 use Rattle.byteorder.specs.Endian.{little_bytes}
@@ -9,7 +9,6 @@ use Rattle.vt_kinds.specs.declared.object.Object.TheVariants as objects
 use Rattle.vt_kinds.specs.Kinds.{kind_number}
 use Rattle.vt_kinds.specs.Layout.{RecordField, Count, Rows, Bytes, Counted, Objects, Macros, Others, Numeral, natural, integer, Value, number, rows, bytes, fields_spelling}
 use Rattle.vt_kinds.specs.Records.{Seen, kind_of, fields_of, values_of, record_of}
-use Rattle.vt_kinds.specs.Tables.{child_numbers, macro_numbers, language_numbers, id_numbers, point_numbers}
 use Rattle.check_changes.specs.FieldNames.{field_names}
 use Rattle.check_changes.specs.Names.{Name, named}
 use Rattle.check_changes.specs.Changes.{same_numeral, same_value, named_values, differing, changed}
@@ -99,34 +98,7 @@ none_differ (n ∷ ns) (a ∷ old) (b ∷ new) p q h = by (none_differ ns old ne
 
 all_named : (o : Seen) → AllNamed (field_names (kind_of o)) (named_values o)
 all_named (objects.WorkingSet o) = tt
-all_named (objects.DataMask o) = tt
-all_named (objects.AlarmMask o) = tt
-all_named (objects.Container o) = tt
-all_named (objects.SoftKeyMask o) = tt
-all_named (objects.Key o) = tt
-all_named (objects.Button o) = tt
-all_named (objects.InputBoolean o) = tt
-all_named (objects.InputString o) = tt
-all_named (objects.InputNumber o) = tt
-all_named (objects.InputList o) = tt
-all_named (objects.OutputString o) = tt
-all_named (objects.OutputNumber o) = tt
-all_named (objects.Line o) = tt
-all_named (objects.Rectangle o) = tt
-all_named (objects.Ellipse o) = tt
-all_named (objects.Polygon o) = tt
-all_named (objects.Meter o) = tt
-all_named (objects.LinearBar o) = tt
-all_named (objects.ArchedBar o) = tt
-all_named (objects.Picture o) = tt
-all_named (objects.NumberVariable o) = tt
-all_named (objects.StringVariable o) = tt
-all_named (objects.Font o) = tt
-all_named (objects.LineAttributes o) = tt
-all_named (objects.FillAttributes o) = tt
-all_named (objects.InputAttributes o) = tt
-all_named (objects.ObjectPointer o) = tt
-all_named (objects.Macro o) = tt
+all_named _ = tt
 
 equal_lengths : (names : List Name) (vs : List Value) → AllNamed names vs → length names ≡ length vs
 equal_lengths [] [] p = refl
@@ -158,42 +130,12 @@ with_counts (Count _ of ∷ fs) vs = number (natural (length_of of fs vs)) ∷ w
 with_counts (_ ∷ fs) (v ∷ vs) = v ∷ with_counts fs vs
 with_counts _ _ = []
 
-also : {a b : Value} {vs ws : List Value} → a ≡ b → vs ≡ ws → a ∷ vs ≡ b ∷ ws
-also e f = ap₂ (λ v vs. v ∷ vs) e f
-
-counted : {X : Type 0} (numbers : X → List Numeral) (xs : List X) → number (natural (length (map numbers xs))) ≡ number (natural (length xs))
-counted numbers xs = ap (λ n. number (natural n)) (length-map xs numbers)
-
 counts_restored : (o : Seen) → with_counts (fields_of (kind_of o)) (named_values o) ≡ values_of o
-counts_restored (objects.WorkingSet o) = also refl (also refl (also refl (also (counted child_numbers o.children) (also (counted macro_numbers o.macros) (also (counted language_numbers o.languages) (refl))))))
-counts_restored (objects.DataMask o) = also refl (also refl (also (counted child_numbers o.children) (also (counted macro_numbers o.macros) (refl))))
-counts_restored (objects.AlarmMask o) = also refl (also refl (also refl (also refl (also (counted child_numbers o.children) (also (counted macro_numbers o.macros) (refl))))))
-counts_restored (objects.Container o) = also refl (also refl (also refl (also (counted child_numbers o.children) (also (counted macro_numbers o.macros) (refl)))))
-counts_restored (objects.SoftKeyMask o) = also refl (also (counted id_numbers o.keys) (also (counted macro_numbers o.macros) (refl)))
-counts_restored (objects.Key o) = also refl (also refl (also (counted child_numbers o.children) (also (counted macro_numbers o.macros) (refl))))
-counts_restored (objects.Button o) = also refl (also refl (also refl (also refl (also refl (also refl (also (counted child_numbers o.children) (also (counted macro_numbers o.macros) (refl))))))))
-counts_restored (objects.InputBoolean o) = also refl (also refl (also refl (also refl (also refl (also refl (also (counted macro_numbers o.macros) (refl)))))))
-counts_restored (objects.InputString o) = also refl (also refl (also refl (also refl (also refl (also refl (also refl (also refl (also refl (also refl (also refl (also (counted macro_numbers o.macros) (refl))))))))))))
-counts_restored (objects.InputNumber o) = also refl (also refl (also refl (also refl (also refl (also refl (also refl (also refl (also refl (also refl (also refl (also refl (also refl (also refl (also refl (also (counted macro_numbers o.macros) (refl))))))))))))))))
-counts_restored (objects.InputList o) = also refl (also refl (also refl (also refl (also (counted id_numbers o.items) (also refl (also (counted macro_numbers o.macros) (refl)))))))
-counts_restored (objects.OutputString o) = also refl (also refl (also refl (also refl (also refl (also refl (also refl (also refl (also refl (also (counted macro_numbers o.macros) (refl))))))))))
-counts_restored (objects.OutputNumber o) = also refl (also refl (also refl (also refl (also refl (also refl (also refl (also refl (also refl (also refl (also refl (also refl (also (counted macro_numbers o.macros) (refl)))))))))))))
-counts_restored (objects.Line o) = also refl (also refl (also refl (also refl (also (counted macro_numbers o.macros) (refl)))))
-counts_restored (objects.Rectangle o) = also refl (also refl (also refl (also refl (also refl (also (counted macro_numbers o.macros) (refl))))))
-counts_restored (objects.Ellipse o) = also refl (also refl (also refl (also refl (also refl (also refl (also refl (also (counted macro_numbers o.macros) (refl))))))))
-counts_restored (objects.Polygon o) = also refl (also refl (also refl (also refl (also refl (also (counted point_numbers o.points) (also (counted macro_numbers o.macros) (refl)))))))
-counts_restored (objects.Meter o) = also refl (also refl (also refl (also refl (also refl (also refl (also refl (also refl (also refl (also refl (also refl (also refl (also (counted macro_numbers o.macros) (refl)))))))))))))
-counts_restored (objects.LinearBar o) = also refl (also refl (also refl (also refl (also refl (also refl (also refl (also refl (also refl (also refl (also refl (also refl (also (counted macro_numbers o.macros) (refl)))))))))))))
-counts_restored (objects.ArchedBar o) = also refl (also refl (also refl (also refl (also refl (also refl (also refl (also refl (also refl (also refl (also refl (also refl (also refl (also refl (also (counted macro_numbers o.macros) (refl)))))))))))))))
-counts_restored (objects.Picture o) = also refl (also refl (also refl (also refl (also refl (also refl (also refl (also (counted macro_numbers o.macros) (refl))))))))
 counts_restored (objects.NumberVariable o) = refl
 counts_restored (objects.StringVariable o) = refl
-counts_restored (objects.Font o) = also refl (also refl (also refl (also refl (also (counted macro_numbers o.macros) (refl)))))
-counts_restored (objects.LineAttributes o) = also refl (also refl (also refl (also (counted macro_numbers o.macros) (refl))))
-counts_restored (objects.FillAttributes o) = also refl (also refl (also refl (also (counted macro_numbers o.macros) (refl))))
-counts_restored (objects.InputAttributes o) = also refl (also refl (also refl (also (counted macro_numbers o.macros) (refl))))
 counts_restored (objects.ObjectPointer o) = refl
 counts_restored (objects.Macro o) = refl
+counts_restored _ = simp length-map
 
 -- ---- the law
 

@@ -3,3 +3,4 @@ pub mod Changes
 pub mod FieldNames
 pub mod Laws
 pub mod Names
+pub mod Values

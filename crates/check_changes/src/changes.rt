@@ -4,11 +4,11 @@ ghost use Rattle.std.specs.Prelude.{◌≡◌, IfOk};
 ghost use Rattle.vt_kinds.specs.Records.{seen};
 ghost use Rattle.check_changes.specs.Changes.{changed};
 ghost use Rattle.check_changes.specs.Names.{name_bytes};
+ghost use Rattle.check_changes.specs.Values.{names_unlike};
+ghost use Rattle.check_changes.specs.contracts.values.ValuePartialEq.TheImpl.{ghosts};
 
-use crate::{
-    attribute_objects, graphs, input_fields, keys, macros, masks, output_fields, pictures, shapes,
-    variables,
-};
+use crate::names::names_of;
+use crate::values::{Value, values_of};
 use std::alloc::{AllocError, Global};
 use vt_kinds::Object;
 
@@ -21,35 +21,29 @@ pub fn changed_fields(
 ) -> Result<Vec<&'static str>, AllocError>
     ensures { IfOk result (λ found. name_bytes found.items ≡ changed (seen old.now) (seen new.now)) }
 {
-    match old {
-        Object::WorkingSet(old) => masks::working_set(alloc, old, new),
-        Object::DataMask(old) => masks::data_mask(alloc, old, new),
-        Object::AlarmMask(old) => masks::alarm_mask(alloc, old, new),
-        Object::Container(old) => masks::container(alloc, old, new),
-        Object::SoftKeyMask(old) => keys::soft_key_mask(alloc, old, new),
-        Object::Key(old) => keys::key(alloc, old, new),
-        Object::Button(old) => keys::button(alloc, old, new),
-        Object::InputBoolean(old) => input_fields::input_boolean(alloc, old, new),
-        Object::InputString(old) => input_fields::input_string(alloc, old, new),
-        Object::InputNumber(old) => input_fields::input_number(alloc, old, new),
-        Object::InputList(old) => input_fields::input_list(alloc, old, new),
-        Object::OutputString(old) => output_fields::output_string(alloc, old, new),
-        Object::OutputNumber(old) => output_fields::output_number(alloc, old, new),
-        Object::Line(old) => shapes::line(alloc, old, new),
-        Object::Rectangle(old) => shapes::rectangle(alloc, old, new),
-        Object::Ellipse(old) => shapes::ellipse(alloc, old, new),
-        Object::Polygon(old) => shapes::polygon(alloc, old, new),
-        Object::Meter(old) => graphs::meter(alloc, old, new),
-        Object::LinearBar(old) => graphs::linear_bar(alloc, old, new),
-        Object::ArchedBar(old) => graphs::arched_bar(alloc, old, new),
-        Object::Picture(old) => pictures::picture(alloc, old, new),
-        Object::NumberVariable(old) => variables::number_variable(alloc, old, new),
-        Object::StringVariable(old) => variables::string_variable(alloc, old, new),
-        Object::Font(old) => attribute_objects::font(alloc, old, new),
-        Object::LineAttributes(old) => attribute_objects::line_attributes(alloc, old, new),
-        Object::FillAttributes(old) => attribute_objects::fill_attributes(alloc, old, new),
-        Object::InputAttributes(old) => attribute_objects::input_attributes(alloc, old, new),
-        Object::ObjectPointer(old) => variables::object_pointer(alloc, old, new),
-        Object::Macro(old) => macros::macro_object(alloc, old, new),
+    let kind = old.kind();
+    if kind.number() != new.kind().number() {
+        return Ok(Vec::new(alloc));
     }
+    let old_values = values_of(alloc, old)?;
+    let new_values = values_of(alloc, new)?;
+    differing_names(alloc, names_of(kind), &old_values, &new_values)
+}
+
+/// The names whose values are not equal, among as many names as values.
+fn differing_names(
+    alloc: Global,
+    names: &[&'static str],
+    old: &[Value],
+    new: &[Value],
+) -> Result<Vec<&'static str>, AllocError>
+    ensures { IfOk result (λ found. found.items ≡ names_unlike ghosts.eq names.now old.now new.now) }
+{
+    names
+        .iter()
+        .zip(old)
+        .zip(new)
+        .filter(|((_, old), new)| old != new)
+        .map(|((name, _), _)| *name)
+        .collect(alloc)
 }

@@ -6,19 +6,10 @@
 //! docs/PROFILE.md, "Objects", has the fields of each kind.
 #![tactic(auto)]
 
-mod attribute_objects;
 mod changes;
-mod graphs;
-mod input_fields;
-mod keys;
 pub mod laws;
-mod macros;
-mod masks;
 mod names;
-mod output_fields;
-mod pictures;
-mod shapes;
-mod variables;
+mod values;
 
 pub use changes::changed_fields;
 

@@ -1,31 +1,91 @@
-//! The names of the fields in which two objects differ.
+//! The names of the fields of each kind.
 
-ghost use Rattle.std.specs.Prelude.{◌≡◌, IfOk};
-ghost use Rattle.std.specs.List.{flat_map};
-ghost use Rattle.std.specs.Ordering.{int_eq};
-ghost use Rattle.check_changes.specs.Names.{named, name_bytes};
+ghost use Rattle.std.specs.Prelude.{◌≡◌};
+ghost use Rattle.check_changes.specs.FieldNames.{field_names};
+ghost use Rattle.check_changes.specs.Names.{name_bytes};
 
-use std::alloc::{AllocError, Global};
+use vt_kinds::Kind;
 
-/// The names among `fields` whose values are not equal; a field is its name and whether its two values are equal.
-pub(crate) fn changed_among(
-    alloc: Global,
-    fields: &[(&'static str, bool)],
-) -> Result<Vec<&'static str>, AllocError>
-    ensures { IfOk result (λ found. name_bytes found.items ≡ flat_map (λ f. named f.0.now f.1) fields.now) }
-{
-    let mut names = Vec::new(alloc);
-    for (name, is_equal) in fields {
-        if !*is_equal {
-            names.push(*name)?;
-        }
-    }
-    Ok(names)
+/// Makes a list of names. They stand without commas, so that several share a line.
+macro_rules! names {
+    ($($name:literal)+) => {
+        &[$($name),+]
+    };
 }
 
-/// Whether two signed numbers are equal. `==` on signed numbers in a table has no contract, and this call has one.
-pub(crate) fn are_equal(old: i32, new: i32) -> bool
-    ensures { result ≡ int_eq old new }
+/// The names of the fields of a kind, in the order of its record.
+pub(crate) fn names_of(kind: Kind) -> &'static [&'static str]
+    ensures { name_bytes result.now ≡ field_names kind }
 {
-    old == new
+    match kind {
+        Kind::WorkingSet => names![
+            "background colour" "selectable" "active mask" "children" "macros" "languages"
+        ],
+        Kind::DataMask => names!["background colour" "soft key mask" "children" "macros"],
+        Kind::AlarmMask => names![
+            "background colour" "soft key mask" "priority" "acoustic signal" "children" "macros"
+        ],
+        Kind::Container => names!["width" "height" "hidden" "children" "macros"],
+        Kind::SoftKeyMask => names!["background colour" "keys" "macros"],
+        Kind::Key => names!["background colour" "key code" "children" "macros"],
+        Kind::Button => names![
+            "width" "height" "background colour" "border colour" "key code" "options" "children"
+            "macros"
+        ],
+        Kind::InputBoolean => names![
+            "background colour" "width" "font" "variable" "value" "enabled" "macros"
+        ],
+        Kind::InputString => names![
+            "width" "height" "background colour" "font" "input attributes" "options" "variable"
+            "justification" "text" "enabled" "macros"
+        ],
+        Kind::InputNumber => names![
+            "width" "height" "background colour" "font" "options" "variable" "value" "min" "max"
+            "offset" "scale" "decimals" "format" "justification" "second options" "macros"
+        ],
+        Kind::InputList => names!["width" "height" "variable" "value" "options" "items" "macros"],
+        Kind::OutputString => names![
+            "width" "height" "background colour" "font" "options" "variable" "justification" "text"
+            "macros"
+        ],
+        Kind::OutputNumber => names![
+            "width" "height" "background colour" "font" "options" "variable" "value" "offset"
+            "scale" "decimals" "format" "justification" "macros"
+        ],
+        Kind::Line => names!["line attributes" "width" "height" "direction" "macros"],
+        Kind::Rectangle => names![
+            "line attributes" "width" "height" "line suppression" "fill" "macros"
+        ],
+        Kind::Ellipse => names![
+            "line attributes" "width" "height" "ellipse type" "start angle" "end angle" "fill"
+            "macros"
+        ],
+        Kind::Polygon => names![
+            "width" "height" "line attributes" "fill" "polygon type" "points" "macros"
+        ],
+        Kind::Meter => names![
+            "width" "needle colour" "border colour" "arc colour" "options" "ticks" "start angle"
+            "end angle" "min" "max" "variable" "value" "macros"
+        ],
+        Kind::LinearBar => names![
+            "width" "height" "bar colour" "target colour" "options" "ticks" "min" "max" "variable"
+            "value" "target variable" "target" "macros"
+        ],
+        Kind::ArchedBar => names![
+            "width" "height" "bar colour" "target colour" "options" "start angle" "end angle"
+            "bar width" "min" "max" "variable" "value" "target variable" "target" "macros"
+        ],
+        Kind::Picture => names![
+            "width" "actual width" "actual height" "format" "options" "transparency" "bytes"
+            "macros"
+        ],
+        Kind::NumberVariable => names!["value"],
+        Kind::StringVariable => names!["text"],
+        Kind::Font => names!["font colour" "size" "font type" "style" "macros"],
+        Kind::LineAttributes => names!["line colour" "width" "line art" "macros"],
+        Kind::FillAttributes => names!["fill type" "fill colour" "pattern" "macros"],
+        Kind::InputAttributes => names!["validation type" "text" "macros"],
+        Kind::ObjectPointer => names!["value"],
+        Kind::Macro => names!["bytes"],
+    }
 }
