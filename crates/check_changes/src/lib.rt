@@ -3,6 +3,8 @@
 //! - `changed_fields` returns their names, in the order of the record.
 //! - `laws` has the theorems that no difference is left out, and that equal objects have none.
 //!
+//! Which objects of two pools differ is in check_needs. Come here to ask which fields of an object have changed.
+//!
 //! docs/PROFILE.md, "Objects", has the fields of each kind.
 #![tactic(auto)]
 

@@ -4,6 +4,8 @@
 //!   `Share` of each command.
 //! - `laws` has the theorem that each number is the sum of those below it.
 //!
+//! How the costs are printed is in check_tool. Come here to ask how many steps an event costs, and by which commands.
+//!
 //! docs/PROFILE.md, "Costs and budgets", has the rules. The pool need not be acceptable.
 #![tactic(auto)]
 

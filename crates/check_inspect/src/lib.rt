@@ -6,6 +6,8 @@
 //!
 //! The laws about the definitions are in the crate vt_tool_laws. docs/PROFILE.md, "Verification of a pool", has the rules, "Pools
 //! and faults" the faults of records, and "All faults" what is found after the first of them.
+//!
+//! The words of a finding are in check_text. Come here to ask what is found in a pool, and at which byte.
 #![tactic(auto)]
 
 mod finding;

@@ -3,6 +3,8 @@
 //! - `item_json` returns the line of an item: it reads back as the item's message with its details.
 //! - `summary_json` returns the line of a pool's counts.
 //!
+//! Lines for people are in check_text. Come here to ask which members a line of JSON of `segyolant` has.
+//!
 //! docs/POOLS.md, "Every fault at once", has the members.
 #![tactic(auto)]
 

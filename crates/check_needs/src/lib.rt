@@ -7,6 +7,9 @@
 //! - `cell` is the area of a character of a font, and `extent_of` the area that an object takes.
 //! - `Sizes` are the sizes of a terminal; `TERMINAL_SIZES` are those of this one.
 //!
+//! The faults of a pool are in check_inspect, and the words of a warning in check_text. Come here to ask which warnings a pool has, and
+//! what terminal it needs.
+//!
 //! docs/PROFILE.md, "Warnings", has the meaning of each warning.
 #![tactic(auto)]
 

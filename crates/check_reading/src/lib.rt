@@ -4,6 +4,8 @@
 //!   replaced records, each fault, and the index of the first unread byte. `read_pool` of vt_pool stops at the first
 //!   fault.
 //!
+//! The rules of a whole pool are in check_inspect. Come here to ask how a pool is read past a faulty record.
+//!
 //! docs/PROFILE.md, "Pools and faults", has the faults of records, and "All faults" what is read after them.
 #![tactic(auto)]
 

@@ -7,6 +7,8 @@
 //! - `write_screen` writes the screen of a mask.
 //!
 //! Each function reads the bytes of a pool, and keeps nothing after it returns. docs/EMBEDDING.md has the numbers.
+//!
+//! The exported functions of C are in vt_check. Come here to ask which numbers and texts a caller gets for a pool.
 #![tactic(auto)]
 
 ghost use Rattle.std.specs.Prelude.{◌≡◌, IfOk};

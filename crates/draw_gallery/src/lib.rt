@@ -5,6 +5,8 @@
 //!   docs/POOLS.md, "Pictures of masks", has the options and the messages.
 //! - `pool_left` replays a log to a new terminal, and returns the objects of the working set that is shown at its end as the bytes of
 //!   a pool, or a `StateFault`. A `GivenSet` is a working set that the terminal has before the first line.
+//!
+//! How a mask looks is in draw_picture. Come here to ask which masks `segyolant draw` draws, and into which files.
 #![tactic(auto)]
 
 mod bytes;

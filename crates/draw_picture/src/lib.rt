@@ -6,6 +6,8 @@
 //! - `list_elements` lists the same elements with their places, and `touched` finds the one at a place.
 //!
 //! The laws about the definitions are in the crate vt_tool_laws. docs/PROFILE.md, "Pictures", says how each kind looks.
+//!
+//! Which mask is drawn is decided by its callers. Come here to ask how a mask is drawn, and which element is at a place.
 #![tactic(auto)]
 
 mod document;

@@ -5,6 +5,8 @@
 //! - `text_shown` is the text that a field shows.
 //! - `used_picture` returns the Picture to which the shapes of an object may refer.
 //!
+//! Where an element stands in its mask is in draw_picture. Come here to ask how a kind of object looks.
+//!
 //! docs/PROFILE.md, "Pictures", says how each kind looks.
 #![tactic(auto)]
 

@@ -8,6 +8,9 @@
 //!   and the colour number of each.
 //! - `laws` has the theorems about the definitions.
 //!
+//! It draws no object but Picture objects: shapes are in draw_shapes. Come here to ask how a tag is written, or how the pixels of a picture
+//! are drawn.
+//!
 //! docs/PROFILE.md, "Image data" and "Picture objects", has the formats and the run lengths, and says how pictures look.
 #![tactic(auto)]
 

@@ -7,6 +7,8 @@
 //!   without an answer, and answers without a question.
 //! - `laws` has the theorem that a log has no differences exactly if each question has an equal answer in time, and each answer a question.
 //!
+//! How a difference is printed is in log_compare. Come here to ask when an answer of the recorded terminal counts as the same.
+//!
 //! docs/PROFILE.md, "Answers", has the rules.
 #![tactic(auto)]
 

@@ -8,6 +8,8 @@
 //! - `differences` replays a log, and returns each line that does not print what is expected; `bless` writes a log with the expectations
 //!   that it meets. docs/PROFILE.md, "Expectations", has the rules.
 //! - `laws` has the theorem that a log without differences prints what it expects.
+//!
+//! What a line prints is decided in vt_logs. Come here to ask how `test` compares a log with its expectations.
 #![tactic(auto)]
 
 mod blessing;

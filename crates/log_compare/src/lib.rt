@@ -1,6 +1,8 @@
 //! The subcommand `compare` of `segyolant_log`: where a recorded terminal answered differently than this one.
 //!
 //! `run_compare` runs it with its options, and returns the `Status` with which the program ends. docs/LOGS.md has the subcommand.
+//!
+//! What differs is decided in log_answers. Come here to ask how `compare` prints a difference.
 #![tactic(auto)]
 
 mod compare;

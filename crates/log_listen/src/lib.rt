@@ -4,6 +4,8 @@
 //!   received twice does no harm, and returns each `SentMessage` when it has received the last of its packets.
 //! - `Broken` is a transfer that ended before it was whole, with the first packet that is missing.
 //!
+//! The receivers of the terminal, which have times and aborts, are vt_transport and vt_extended. Come here to ask which messages a log has.
+//!
 //! docs/PROFILE.md, "Transport messages", has the frames, and "Listening" the rules.
 #![tactic(auto)]
 

@@ -3,6 +3,9 @@
 //! - `run_pools` runs it with its options, and returns the `Status` with which the program ends. docs/LOGS.md has the subcommand.
 //! - `Uploads` puts uploads together from the messages of implements to terminals: `Uploads::take` receives a `Message`, and returns
 //!   the `Upload` that it ends. docs/PROFILE.md, "Uploads in a log", has the rules.
+//!
+//! Whether a pool is accepted is decided in vt_verify, and its faults are found in check_inspect. Come here to ask which uploads `pools`
+//! finds in a log.
 #![tactic(auto)]
 
 mod message;

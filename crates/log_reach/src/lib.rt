@@ -5,6 +5,8 @@
 //! - `Reach::sets` returns a `SetReach` for each working set that had a pool: the masks that were shown, the objects that were drawn,
 //!   the macros that may have run, and the others of each, as `PoolObject`s. A `ReachText` writes it with the names of objects.
 //!
+//! How it is printed as JSON is in log_stats. Come here to ask which masks, objects and macros a log reaches.
+//!
 //! docs/PROFILE.md, "The drawing", has what a mask draws, and "Event numbers" what raises an event.
 #![tactic(auto)]
 

@@ -5,6 +5,9 @@
 //!   the input of a line. `Recorded` is what the log says about the recorded terminal.
 //! - `read_set` and `new_terminal` begin a replay. `Messages` receives a run's messages and its progress.
 //!
+//! What is done with a line is in the crates of the subcommands. Come here to ask how a log is read for a subcommand, and with which
+//! terminal it is replayed.
+//!
 //! docs/LOGS.md has the subcommands.
 #![tactic(auto)]
 

@@ -5,6 +5,8 @@
 //! - `Traffic::report` returns a `TrafficReport`: the times of the first and the last frame, the least load of the bus, the `Share` of each
 //!   source, the `Transfers` of both transport protocols, and how many frames were seen twice. Its `Display` is the text of the report.
 //!
+//! What a log reaches of a pool is in log_reach. Come here to ask what `stats` counts, and how it is printed.
+//!
 //! docs/PROFILE.md, "A log in numbers", has the numbers, and "Transport messages" the frames of transfers.
 #![tactic(auto)]
 

@@ -4,6 +4,8 @@
 //! itself, a line for each output, and the difference of the screen's lines. It puts messages in packets together. `laws` has
 //! theorems about such differences.
 //!
+//! The words of a message are in vt_messages_text. Come here to ask which lines `segyolant_log trace` prints.
+//!
 //! docs/PROFILE.md, "Traces", has the lines.
 #![tactic(auto)]
 

@@ -10,6 +10,9 @@
 //! - `assigned` has the numbers assigned by the standard and the timeouts, and `laws` theorems about the definitions in
 //!   specs/.
 //!
+//! The protocols that use its sessions are in vt_transport and vt_extended, and what a frame means is in vt_node. Come here to ask what a
+//! line of a log is, or what the bits of an identifier say.
+//!
 //! docs/PROFILE.md, "Identifiers" and "Log lines", has the rules.
 #![tactic(auto)]
 

@@ -5,6 +5,8 @@
 //! - `Levels` certify that no chain is too long; `take_up` updates them for a new inclusion.
 //! - `TERMINAL_LIMITS` are the `Limits` of this terminal.
 //!
+//! What a mask shows is in vt_shown. Come here to ask how deep objects include each other, and how deep they may.
+//!
 //! docs/PROFILE.md, "Inclusions and chains", has the rules.
 #![tactic(auto)]
 

@@ -3,6 +3,8 @@
 //!
 //! Each function reads the bytes of a pool, and keeps nothing after it returns. docs/EMBEDDING.md explains the calls, and
 //! include/vt_check.h declares them for C.
+//!
+//! What each function returns is decided in check_verdicts. Come here to ask which functions C sees.
 #![tactic(auto)]
 
 ghost use Rattle.check_verdicts.specs.Findings.{Finds};

@@ -8,6 +8,9 @@
 //! - `function` has the functions of commands, and of the messages that report the operator's actions to an implement.
 //! - `laws` has the theorems about the definitions.
 //!
+//! What a command changes is in vt_effects, and the bytes of its reply are in vt_server. Come here to ask how a command is read, where its
+//! reply has what, and which events it raises.
+//!
 //! docs/PROFILE.md has the tables: "Commands" for the bytes of the commands, "Attributes" for Change Attribute.
 #![tactic(auto)]
 

@@ -4,6 +4,8 @@
 //! - `write_text` appends the text of a number or a string as the terminal shows it.
 //! - `typed_of` reads a `Typed` number from its text, and `raw_of` returns its exact raw value.
 //! - `laws` has the theorem that the limits are those of the terminal, and the theorem that a typed number has one raw value at most.
+//!
+//! Whether a value is accepted is decided in vt_machine. Come here to ask which numbers an input takes, and how its text looks.
 #![tactic(auto)]
 
 pub mod laws;

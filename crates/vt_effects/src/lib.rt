@@ -6,6 +6,8 @@
 //!   it writes no field that this text shows, by the kind of its object.
 //! - `laws` has the theorems about the definitions.
 //!
+//! Which macros a command sets off is in vt_macros. Come here to ask what a command changes, and with which bit it is refused.
+//!
 //! docs/PROFILE.md, "Commands: all rows" and the section of each command, "Attributes", "What every store keeps".
 #![tactic(auto)]
 

@@ -4,6 +4,8 @@
 //!   whole message with its `Bytes`.
 //! - `laws` has theorems about the definitions in specs/.
 //!
+//! The terminal sends no message by it: its sender is in vt_transport. Come here to ask how a long message is received.
+//!
 //! docs/PROFILE.md, "Transport", has the rules. Times are in microseconds.
 #![tactic(auto)]
 

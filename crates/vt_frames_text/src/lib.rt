@@ -6,6 +6,8 @@
 //!   `MasterSentence` and `MemberSentence` those of addresses and working sets. Each is written by its `Display`.
 //! - `HexByte`, `HexBytes`, `QuotedText`, `Destination`, `Count`, `ShownScale` and `PlainMessage` are their parts.
 //!
+//! Messages with objects are in vt_messages_text. Come here to ask how a claim, a packet or a request is told.
+//!
 //! docs/PROFILE.md, "Commands" and "Other messages", has the messages.
 #![tactic(auto)]
 

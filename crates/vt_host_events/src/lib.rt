@@ -6,6 +6,8 @@
 //!
 //! The events of an input are a function of the terminal before it, the input, what was sent, and the terminal after it with the end of the
 //! upload that it reports. docs/PROFILE.md, "Events for a host", has them all.
+//!
+//! The calls by which a host takes them are in vt_session. Come here to ask when a host is told of something.
 #![tactic(auto)]
 
 mod event;

@@ -6,6 +6,9 @@
 //! - `slots` yields each reference of an object as a `Slot`, with its `Place`.
 //! - An `Attribute` is a `Field` of a kind's record, with the `ValueType` that Change Attribute writes there.
 //!
+//! Records are read in vt_records and written in vt_writing, and commands change objects in vt_effects. Come here to ask which fields,
+//! references and attributes a kind has.
+//!
 //! docs/PROFILE.md has the tables: "Records" for the kinds and their fields, "References and inclusions" for the references.
 #![tactic(auto)]
 

@@ -3,6 +3,9 @@
 //! Each law is the contract of a function that changes nothing. It is a statement about the definitions of vt_server and the
 //! crates below; the contracts of the code carry it over to the code. `the_machine_never_sticks` is the headline. docs/PROOFS.md
 //! explains each law.
+//!
+//! The laws about one working set are in vt_set_laws. Come here to ask what holds of the terminal for every pool and every sequence of
+//! inputs.
 #![tactic(auto)]
 
 ghost use Rattle.vt_laws.specs.UniqueSteps.{StepsAreOne};

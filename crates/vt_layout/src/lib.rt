@@ -3,6 +3,8 @@
 //!
 //! - `draw` appends the screen of a working set.
 //! - `laws` has the theorems about the definitions.
+//!
+//! Pictures of masks are in draw_picture. Come here to ask which lines a screen has.
 #![tactic(auto)]
 
 mod drawing;

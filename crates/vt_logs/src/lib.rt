@@ -5,6 +5,8 @@
 //! these two the faults Read and Write never occur for a log of fewer than 1,000,000,000 bytes. `Stream` makes a source or a sink of
 //! any other reader or writer, for which this is not promised. `Notes` are for messages to people. `refusal_name` returns a refusal
 //! to the operator as a replay prints it. docs/PROFILE.md, "Log lines" and "The program", has the output.
+//!
+//! The subcommands of `segyolant_log` are in the crates log_*. Come here to ask what a replay writes for a line.
 #![tactic(auto)]
 
 mod counts;

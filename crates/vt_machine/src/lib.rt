@@ -7,6 +7,9 @@
 //!   `Live::replace` puts its objects in place.
 //! - `laws` has the theorems about the definitions.
 //!
+//! It has no address and no frame: vt_server gives it the commands of one set. Come here to ask what a command or an action of the operator
+//! does to a working set.
+//!
 //! docs/PROFILE.md, "Commands: all rows" and the section of each command, "Attributes", "Runs", "Steps", "The operator".
 #![tactic(auto)]
 

@@ -8,6 +8,9 @@
 //! - `Audio` has the audio commands that are done, for a host that sounds them.
 //! - `laws` has the theorems: the specified machine never gets stuck, and each run ends within the budgets of its events.
 //!
+//! What one command changes is in vt_effects, and what an action of the operator does in vt_machine. Come here to ask which macros run at
+//! an event, and in which order.
+//!
 //! docs/PROFILE.md, "Runs", "Steps", "Costs and budgets".
 #![tactic(auto)]
 

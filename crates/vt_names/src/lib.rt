@@ -5,6 +5,8 @@
 //! - `Registry` has the working sets, each a `Set`. `RegistryFault` is the reason of a refused change.
 //! - `laws` has theorems about the definitions in specs/.
 //!
+//! It has no frame and no pool. Come here to ask which node holds an address, and which working sets are registered.
+//!
 //! docs/PROFILE.md, "Addresses and NAMEs" and "Working sets", has the rules.
 #![tactic(auto)]
 

@@ -6,6 +6,9 @@
 //!   silent.
 //! - `message_to`, `claim_from` and `technical_reply` make messages, and a `Profile` has the technical data of a terminal.
 //!
+//! It has no object and no pool: vt_server joins it with vt_machine. Come here to ask what a frame means for the terminal, and when a
+//! working set is silent.
+//!
 //! docs/PROFILE.md, "Messages of address claim", "Working sets", "Silence", "Other messages".
 #![tactic(auto)]
 

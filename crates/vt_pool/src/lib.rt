@@ -4,6 +4,9 @@
 //! - `Reading` is a pool upload in pieces.
 //! - `laws` has the theorems.
 //!
+//! Whether the objects of a pool fit each other is decided in vt_verify. Come here to ask which objects the bytes of a pool have, and which
+//! fault is the first.
+//!
 //! docs/PROFILE.md, "Pools and faults", has the rules, and "Records" the layout of each kind.
 #![tactic(auto)]
 

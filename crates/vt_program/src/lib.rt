@@ -4,6 +4,8 @@
 //! `run` takes the words of the command line, opens files by an `Open`, such as the `Files` of the system, and returns a `Status`.
 //! `Options::parse` reads the words, and returns `Options` or a `UsageError`. docs/PROFILE.md, "The program", has the words and the
 //! statuses.
+//!
+//! How a log is replayed is in vt_logs. Come here to ask what the options of `vt_replay` do, and which messages it has.
 #![tactic(auto)]
 
 mod fault;

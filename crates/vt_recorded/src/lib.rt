@@ -7,6 +7,8 @@
 //!   is the likely cause of a line's fault, and a `LineHint` says at which line. A `Survey` counts the faults of a log.
 //! - `laws` has a theorem about the definitions in specs/: the reading of a line is unique.
 //!
+//! It gives no line to a terminal. Come here to ask which lines can be read, and why one cannot.
+//!
 //! docs/PROFILE.md, "Lines of other recorders", has the forms.
 #![tactic(auto)]
 

@@ -4,6 +4,9 @@
 //!   `PoolFault` of the pool; `Reader` reads numbers from the front, and `kind_with` maps a type to its kind.
 //! - `laws` has the theorem about records.
 //!
+//! Records are written in vt_writing, and joined to a pool in vt_pool. Come here to ask how the record of a kind is read, and which fault a
+//! record has.
+//!
 //! docs/PROFILE.md, "Records", has the layout of each kind, and "Pools and faults" the faults.
 #![tactic(auto)]
 

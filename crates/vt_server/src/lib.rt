@@ -6,6 +6,8 @@
 //!   does more. A `Profile` has the technical data of the terminal.
 //! - `laws` has the invariants of every terminal; the laws about its steps are in vt_laws.
 //!
+//! It reads no log and no file, and has no clock: time is an argument. Come here to ask what the terminal does with an input.
+//!
 //! docs/PROFILE.md, "The step", has the rules.
 #![tactic(auto)]
 

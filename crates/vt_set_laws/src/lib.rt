@@ -2,6 +2,8 @@
 //!
 //! Each function is a law: its contract is a statement over the definitions of vt_machine and the crates below, which the
 //! code meets by its contracts, and calling it changes nothing. docs/PROOFS.md explains each law.
+//!
+//! The laws about the whole terminal are in vt_laws. Come here to ask what holds of every command, entry and pool of one working set.
 #![tactic(auto)]
 
 ghost use Rattle.vt_set_laws.specs.AttributeWrites.{AttributesAreWritten};

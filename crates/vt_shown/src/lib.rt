@@ -4,6 +4,8 @@
 //! that it visits. `soft_key_mask` returns the soft key mask of a mask. `resolve` returns the object that an ID in a list
 //! resolves to, `is_element` whether that is drawn, and `number_shown` the number that it shows.
 //!
+//! Where the objects stand is in vt_layout, and how they look in draw_picture. Come here to ask whether an object is shown.
+//!
 //! docs/PROFILE.md, "The drawing".
 #![tactic(auto)]
 

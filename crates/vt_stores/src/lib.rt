@@ -2,6 +2,8 @@
 //!
 //! `Store` is the trait; `SortedStore` and `ListStore` implement it, both by rising ID.
 //!
+//! It knows no rule that objects keep with each other. Come here to ask how an object is found by its ID.
+//!
 //! docs/PROFILE.md, "What every store keeps", has the rules.
 #![tactic(auto)]
 

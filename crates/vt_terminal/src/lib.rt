@@ -2,6 +2,8 @@
 //!
 //! Each function but `vt_version`, `vt_size`, `vt_init` and `vt_done` lends the session behind the pointer to one safe function.
 //! docs/EMBEDDING.md explains the calls, and include/vt_terminal.h declares them for C.
+//!
+//! What each call does is in vt_session. Come here to ask which functions C sees.
 #![tactic(auto)]
 
 ghost use Rattle.std.specs.Prelude.{◌≡◌};

@@ -2,6 +2,8 @@
 //!
 //! Each function is a law: its contract is a statement over the definitions of the crates below, which the code meets by its contracts,
 //! and calling it changes nothing. `replays_never_stick` is the main law about a replay. docs/PROOFS.md explains each law.
+//!
+//! The laws about the terminal are in vt_laws. Come here to ask what holds of every inspection, picture, listener and replay.
 #![tactic(auto)]
 
 ghost use Rattle.vt_tool_laws.specs.InspectLaws.{FindingsAreTrue, FindsNothing, FirstIsTheFault, FirstIsTheRefusal, LastRecordsCount, NoCulpritIsLeftOut};

@@ -6,6 +6,9 @@
 //! - `ends_message` returns whether a frame acknowledges the end of a message that was sent.
 //! - `laws` has theorems about the definitions in specs/.
 //!
+//! Longer messages are received by vt_extended. Come here to ask how a message in packets is received or sent, and when a session is
+//! aborted.
+//!
 //! docs/PROFILE.md, "Transport", has the rules. Times are in microseconds.
 #![tactic(auto)]
 

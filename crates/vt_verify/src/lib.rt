@@ -7,6 +7,8 @@
 //!   this terminal are `TERMINAL_LIMITS`.
 //! - `laws` has the theorems about the definitions.
 //!
+//! It ends at the first culprit; check_inspect finds all. Come here to ask which rules a pool has to meet, and by which it is refused.
+//!
 //! docs/PROFILE.md, "Verification of a pool", has the rules, "Costs and budgets" what an event costs, and "Reports"
 //! the texts.
 #![tactic(auto)]

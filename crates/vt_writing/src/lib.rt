@@ -3,6 +3,8 @@
 //! - `write_object` writes a record.
 //! - `laws` has the theorem that every object has a record.
 //!
+//! Records are read in vt_records. Come here to ask how an object is written.
+//!
 //! docs/PROFILE.md, "Records", has the layout of each kind.
 #![tactic(auto)]
 
