@@ -39,10 +39,7 @@ pub fn run_draw<F: Open + Save, W: Write, E: Messages>(
         outputs: Vec::new(alloc),
         status: Status::Clean,
     };
-    gallery.look(0, files, out, errors)?;
-    replay.log.pass(&mut gallery, files, out, errors)?;
-    replay.tell_loss(&gallery.terminal, files, errors);
-    Ok(gallery.status)
+    gallery.draw(&replay, files, out, errors)
 }
 
 /// The pictures of a replay.
@@ -79,6 +76,20 @@ impl<F: Save, W: Write, E: Messages> Pass<F, W, E> for Gallery<'_> {
 }
 
 impl Gallery<'_> {
+    /// Draws the screens of a log.
+    fn draw<F: Open + Save, W: Write, E: Messages>(
+        &mut self,
+        replay: &Replay<'_>,
+        files: &mut F,
+        out: &mut W,
+        errors: &mut E,
+    ) -> io::Result<Status> {
+        self.look(0, files, out, errors)?;
+        replay.log.pass(self, files, out, errors)?;
+        replay.tell_loss(&self.terminal, files, errors);
+        Ok(self.status)
+    }
+
     /// Draws the screen after a line, if its text has changed.
     fn look<F: Save, W: Write, E: Write>(
         &mut self,
