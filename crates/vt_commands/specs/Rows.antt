@@ -3,6 +3,7 @@ use Rattle.std.specs.Prelude.{◌≡◌, ◌⊎◌, ℕ, [], ◌∷◌, map, Opt
 use Rattle.vt_commands.specs.declared.command.Command.{Command}
 use Rattle.vt_commands.specs.declared.command.Command.TheVariants.{HideShow, EnableDisable, ChangeActiveMask}
 use Rattle.vt_commands.specs.declared.event.Event.{Event}
+use Rattle.vt_commands.specs.declared.event.Event.TheVariants as events
 use Rattle.vt_commands.specs.declared.row.Raises.{Raises}
 use Rattle.vt_commands.specs.declared.row.Raises.TheVariants.{Nothing, One, ByState, ActiveMask}
 use Rattle.vt_commands.specs.declared.row.CommandRow.{CommandRow}
@@ -21,7 +22,8 @@ pub data RaisesBy (command : Command) : Raises → Type 0 where
   one : {id : ℕ} {event : Event} → object_of command ≡ Some id → row_events command ≡ raise id event ∷ [] → RaisesBy command (One event)
   of_state : {id state : ℕ} {off on : Event} → (command ≡ HideShow id state) ⊎ (command ≡ EnableDisable id state)
       → row_events command ≡ by_state id state off on → RaisesBy command (ByState off on)
-  active_mask : {set mask : ℕ} → command ≡ ChangeActiveMask set mask → RaisesBy command ActiveMask
+  active_mask : {set mask : ℕ} → command ≡ ChangeActiveMask set mask
+      → row_events command ≡ raise set events.ActiveMask ∷ raise mask events.Show ∷ [] → RaisesBy command ActiveMask
 
 -- a row is there, and the command raises what it says
 pub data HasRow (command : Command) : Option Columns → Type 0 where

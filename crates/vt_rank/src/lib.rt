@@ -5,7 +5,7 @@
 //!   what is `OverBudget`. `reached` returns the nodes that some nodes trigger.
 //! - `laws` has theorems about the definitions in specs/.
 //!
-//! It knows no object and no command: vt_verify makes the graph of a pool. Come here to ask how macros are ranked, and what they cost.
+//! vt_verify makes the graph of a pool. Come here to ask how macros are ranked, and what they cost.
 //!
 //! docs/PROFILE.md has the rules: "Triggers and circles", "Costs and budgets". A node is a macro, an item the
 //! cost of one of its macro commands, and a group the macros listed at an event of an object.

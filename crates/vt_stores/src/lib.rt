@@ -2,7 +2,7 @@
 //!
 //! `Store` is the trait; `SortedStore` and `ListStore` implement it, both by rising ID.
 //!
-//! It knows no rule that objects keep with each other. Come here to ask how an object is found by its ID.
+//! The rules that the objects of a pool keep are in vt_verify. Come here to ask how an object is found by its ID.
 //!
 //! docs/PROFILE.md, "What every store keeps", has the rules.
 #![tactic(auto)]
