@@ -5,7 +5,8 @@ use crate::wrong_option::WrongOption;
 use check_needs::{Area, Sizes, TERMINAL_SIZES};
 use clap::ArgMatches;
 use std::alloc::Global;
-use vt_cli::{OWN_ADDRESS, StartSet, UsageError, all_of};
+use vt_can::assigned::TERMINAL_ADDRESS;
+use vt_cli::{StartSet, UsageError, all_of};
 use vt_objects::ObjectId;
 
 /// The options of `draw`.
@@ -88,7 +89,7 @@ fn origin_of<'a>(
 ) -> Result<Origin<'a>, WrongOption<'a>> {
     match (pool, log, owner) {
         (Some(pool), Some(log), owner) => {
-            let set = StartSet::new(pool, owner, OWN_ADDRESS).map_err(WrongOption::Owner)?;
+            let set = StartSet::new(pool, owner, TERMINAL_ADDRESS).map_err(WrongOption::Owner)?;
             Ok(Origin::State {
                 log,
                 set: Some(set),

@@ -8,16 +8,11 @@ use crate::bytes::bytes_of;
 use crate::fault::StateFault;
 use std::alloc::Global;
 use std::io;
+use vt_can::assigned::TERMINAL_ADDRESS;
 use vt_judge::judge;
 use vt_logs::{Source, Stream, replay};
-use vt_names::Name;
+use vt_names::{Name, TERMINAL_NAME};
 use vt_server::Terminal;
-
-/// The terminal's address.
-const OWN_ADDRESS: u8 = 0x26;
-
-/// The terminal's NAME.
-const OWN_NAME: u64 = 0x2000_1D00_0000_0001;
 
 /// A working set that is there from the start.
 #[derive(Clone, Copy, PartialEq, Eq)]
@@ -39,7 +34,7 @@ pub fn pool_left<R: Source>(
     ensures nothing { IsErrOf result StateFault.NothingShown → IfSome (R.remaining log.old) (LeavesNothing set.entry) }
 {
     // One way out of this body, since the end of a terminal takes a copy of it on the stack for each.
-    let mut terminal = Terminal::new(alloc, OWN_ADDRESS, Name::from_raw(OWN_NAME));
+    let mut terminal = Terminal::new(alloc, TERMINAL_ADDRESS, Name::from_raw(TERMINAL_NAME));
     pool_left_on(alloc, set, log, &mut terminal)
 }
 
@@ -83,7 +78,7 @@ fn load(alloc: Global, set: GivenSet<'_>, terminal: &mut Terminal) -> Result<(),
     ensures other { IfErr result (λ why. why ≢ StateFault.NothingShown) }
 {
     let GivenSet { pool, owner } = set;
-    if owner > 253 || owner == OWN_ADDRESS {
+    if owner > 253 || owner == TERMINAL_ADDRESS {
         return Err(StateFault::Owner);
     }
     let pool = match judge(alloc, pool) {

@@ -5,12 +5,9 @@ use std::alloc::Global;
 use std::io::{self, Error, ErrorKind, Write};
 use vt_cli::{Open, StartSet, Status, read_pool_file};
 use vt_judge::judge;
-use vt_names::Name;
+use vt_names::{Name, TERMINAL_NAME};
 use vt_server::Terminal;
 use vt_verify::Accepted;
-
-/// The terminal's NAME if neither the options nor the log give another.
-const OWN_NAME: u64 = 0x2000_1D00_0000_0001;
 
 /// A pool that is there from the start, and the address of its working set.
 #[derive(Drop)]
@@ -61,7 +58,7 @@ pub fn new_terminal(
     if own > 253 {
         return Err(Error::from(ErrorKind::InvalidInput));
     }
-    let name = options.name.or(name).unwrap_or(OWN_NAME);
+    let name = options.name.or(name).unwrap_or(TERMINAL_NAME);
     let mut terminal = Terminal::new(alloc, own, Name::from_raw(name));
     if let Some(LoadedSet { pool, owner }) = set {
         let owner = *owner;

@@ -6,7 +6,8 @@ use clap::ArgMatches;
 use hex::FromHex;
 use std::alloc::{AllocError, Global};
 use std::convert::AsStr;
-use vt_cli::{OWN_ADDRESS, StartSet, UsageError, address, all_of, inputs_among};
+use vt_can::assigned::TERMINAL_ADDRESS;
+use vt_cli::{StartSet, UsageError, address, all_of, inputs_among};
 
 /// The options that a command line gives, by its subcommand.
 #[derive(Drop)]
@@ -345,7 +346,7 @@ fn format_of(matches: &ArgMatches<'_>) -> Format {
 /// The address that the value of `--own` gives, or else the default.
 fn own_of<'a>(matches: &ArgMatches<'a>) -> Result<u8, WrongOption<'a>> {
     match matches.get_str("own") {
-        None => Ok(OWN_ADDRESS),
+        None => Ok(TERMINAL_ADDRESS),
         Some(value) => address(value).ok_or(WrongOption::Own(value)),
     }
 }

@@ -35,6 +35,9 @@ pub const ETP_DT: u32 = 0xC700;
 
 // Addresses
 
+/// The preferred address of a virtual terminal.
+pub const TERMINAL_ADDRESS: u8 = 0x26;
+
 /// The source address of Cannot Claim, sent by a node without an address.
 pub const NULL_ADDRESS: u8 = 254;
 

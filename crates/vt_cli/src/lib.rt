@@ -35,7 +35,7 @@ pub use json_line::JsonLine;
 pub use process::{exit_code, words_of};
 pub use reading::{read_file, read_names, read_pool_file};
 pub use refusal::{UsageError, refuse};
-pub use start_set::{OWN_ADDRESS, StartSet};
+pub use start_set::StartSet;
 pub use status::Status;
 pub use values::{address, all_of, inputs_among};
 pub use writing::{make_folder, save_file};

@@ -2,9 +2,6 @@
 
 use crate::values::address;
 
-/// The address of the terminal that replays a log, unless another is given.
-pub const OWN_ADDRESS: u8 = 0x26;
-
 /// The value of `--owner`, unless another is given.
 const OWNER: &str = "80";
 

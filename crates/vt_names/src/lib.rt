@@ -18,7 +18,7 @@ mod registry;
 mod set;
 
 pub use claims::{ClaimMeaning, Claims};
-pub use name::Name;
+pub use name::{Name, TERMINAL_NAME};
 pub use registry::{Registry, RegistryFault};
 pub use set::Set;
 

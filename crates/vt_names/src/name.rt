@@ -5,6 +5,9 @@ ghost use Rattle.vt_names.specs.Names.{name_fields};
 
 use std::marker::Model;
 
+/// The NAME of a terminal that is given no other: identity 1, and the function of a virtual terminal (29) in industry group 2.
+pub const TERMINAL_NAME: u64 = 0x2000_1D00_0000_0001;
+
 /// The 64-bit NAME of a node. Of two NAMEs that claim an address, the lower one keeps it. docs/PROFILE.md, "The NAME".
 #[derive(Clone, Copy, Default, PartialEq, Eq, PartialOrd, Ord, Hash)]
 pub struct Name {

@@ -14,13 +14,8 @@ use hex::FromHex;
 use std::alloc::{AllocError, Global};
 use std::convert::AsStr;
 use std::fmt;
-use vt_names::Name;
-
-/// The terminal's default address.
-const OWN_ADDRESS: u8 = 0x26;
-
-/// The terminal's default NAME.
-const OWN_NAME: u64 = 0x2000_1D00_0000_0001;
+use vt_can::assigned::TERMINAL_ADDRESS;
+use vt_names::{Name, TERMINAL_NAME};
 
 /// The options that the words give.
 #[derive(Drop)]
@@ -233,7 +228,7 @@ fn options_of<'a>(matches: &ArgMatches<'a>) -> Result<Options<'a>, UsageError<'a
     ensures apart { IfOk result HasValidAddresses }
     ensures refused { IfErr result (IsMistake (given_in (first_value (found_of matches.now)) (one_text (found_of matches.now)))) }
 {
-    let own = address_given(matches, "own")?.unwrap_or(OWN_ADDRESS);
+    let own = address_given(matches, "own")?.unwrap_or(TERMINAL_ADDRESS);
     let name = name_given(matches)?;
     let owner = address_given(matches, "owner")?;
     let preload = match (matches.get_str("pool"), owner) {
@@ -287,7 +282,7 @@ fn name_given<'a>(matches: &ArgMatches<'a>) -> Result<Name, UsageError<'a>>
     ensures refused { IfErr result (IsBadName (first_value (found_of matches.now) (codes "name"))) }
 {
     let Some(value) = matches.get_str("name") else {
-        return Ok(Name::from_raw(OWN_NAME));
+        return Ok(Name::from_raw(TERMINAL_NAME));
     };
     match name(value) {
         Some(name) => Ok(name),
