@@ -1,1 +1,3 @@
-pub mod TableEncoding
+-- The lemmas of vt_writing.
+pub mod Fitting
+pub mod Spelling

@@ -1,2 +1,2 @@
 -- The specifications that the contracts of vt_writing use.
-pub mod FieldWrites
+pub mod Values
