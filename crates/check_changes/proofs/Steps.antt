@@ -1,5 +1,5 @@
 -- The equality of values, and the names of those that differ.
-use Rattle.std.proofs.Common.{◌≡◌, refl, Bool, true, false, not, ◌&&◌, ◌==◌, ℕ, List, [], ◌∷◌, ◌++◌, map, ◌∙◌, ap, ap₂, int_eq, Bor, cond, if◌then◌else◌, ◌≢◌, sym, eq-eqb, Some, Result, Ok, Err, IfOk}
+use Rattle.std.proofs.Common.{◌≡◌, refl, Bool, true, false, not, ◌&&◌, ◌==◌, ℕ, List, [], ◌∷◌, ◌++◌, map, filter, ◌∙◌, ap, ap₂, int_eq, Bor, cond, if◌then◌else◌, ◌≢◌, sym, eq-eqb, Some, Result, Ok, Err, IfOk}
 use Rattle.std.proofs.lemmas.Bool.{ne_eqb}
 use Rattle.std.specs.Cmp.Lexicographic.{pointwise}
 use Rattle.vt_kinds.specs.declared.scale.Scale.{Scale}
@@ -14,17 +14,18 @@ use Rattle.vt_kinds.specs.declared.kind.Kind.TheVariants as kinds
 use Rattle.vt_kinds.specs.declared.object.Object.{Object}
 use Rattle.vt_kinds.specs.declared.object.Object.TheVariants as objects
 use Rattle.vt_kinds.specs.Kinds.{kind_number, kind_of_type}
-use Rattle.vt_kinds.specs.Layout.{Numeral}
-use Rattle.vt_kinds.specs.Records.{Seen, seen, kind_of}
+use Rattle.vt_kinds.specs.Layout.{RecordField, Number, Count, Rows, Bytes, ScaleBytes, DecimalPlaces, Numeral}
+use Rattle.vt_kinds.specs.Layout as layout
+use Rattle.vt_kinds.specs.Records.{Seen, seen, kind_of, fields_of}
 use Rattle.vt_kinds.specs.Scales.{scale_number}
 use Rattle.vt_kinds.specs.Tables.{child_numbers, macro_numbers, language_numbers, id_numbers, point_numbers}
 use Rattle.check_changes.specs.FieldNames.{field_names}
-use Rattle.check_changes.specs.Names.{Name, named, name_bytes}
-use Rattle.check_changes.specs.Changes.{same_numeral, same_value, named_values, differing, changed}
-use Rattle.check_changes.specs.Values.{value_of, field_of, named_fields, names_unlike, AreValuesOf}
-use Rattle.check_changes.specs.declared.values.Value.{Value}
-use Rattle.check_changes.specs.declared.values.Value.TheVariants as values
-use Rattle.check_changes.specs.contracts.values.ValuePartialEq.TheImpl.{ghosts}
+use Rattle.check_changes.specs.Names.{Name, named, name_bytes, names_unlike, not_counts}
+use Rattle.check_changes.specs.Changes.{same_numeral, same_value, without_counts, named_values, differing, changed}
+use Rattle.vt_writing.specs.Values.{value_of, field_of, counts, is_count, AreValuesOf}
+use Rattle.vt_writing.specs.declared.value.Value.{Value}
+use Rattle.vt_writing.specs.declared.value.Value.TheVariants as values
+use Rattle.vt_writing.specs.contracts.value.ValuePartialEq.TheImpl.{ghosts}
 
 -- ---- the equality of values
 
@@ -74,6 +75,11 @@ same_values (values.Long a) (values.Long b) h = refl
 same_values (values.SignedLong a) (values.SignedLong b) h = refl
 same_values (values.Scale a) (values.Scale b) h = same_scale a b
 same_values (values.Decimals a) (values.Decimals b) h = refl
+same_values (values.ObjectCount a) (values.ObjectCount b) h = refl
+same_values (values.MacroCount a) (values.MacroCount b) h = refl
+same_values (values.Count a) (values.Count b) h = refl
+same_values (values.LongCount a) (values.LongCount b) h = refl
+same_values (values.PictureCount a) (values.PictureCount b) h = refl
 same_values (values.Children a) (values.Children b) h = same_rows child_numbers _ same_child a.now b.now
 same_values (values.Keys a) (values.Keys b) h = same_rows id_numbers _ same_id a.now b.now
 same_values (values.Items a) (values.Items b) h = same_rows id_numbers _ same_id a.now b.now
@@ -106,6 +112,42 @@ in_rows same each (n ∷ ns) (a ∷ old) (b ∷ new) h =
     let others : map field_of old ≡ map field_of new = cc in
     in_row (same a b) ((n, a), b) _ ∙ ap₂ (λ equal rest. named n.now equal ++ rest) (each a b first) (in_rows same each ns old new others)
 
+-- ---- the values but for the counts
+
+-- the fields but for the counts
+abbrev named_fields : List RecordField → List RecordField
+named_fields fs = filter (λ f. not (counts f)) fs
+
+-- more values, without the first if it is a count
+more_fields : (count : Bool) (v : Value) (vs : List Value) (fs : List RecordField) → map field_of vs ≡ fs
+    → map field_of (cond (not count) (v ∷ vs) vs) ≡ cond (not count) (field_of v ∷ fs) fs
+more_fields true v vs fs same = same
+more_fields false v vs fs same = ap (λ more. field_of v ∷ more) same
+
+of_fields : (vs : List Value) → map field_of (not_counts vs) ≡ named_fields (map field_of vs)
+of_fields [] = refl
+of_fields (v ∷ vs) = more_fields (is_count v) v (not_counts vs) (named_fields (map field_of vs)) (of_fields vs)
+
+in_front : (f : RecordField) (fs : List RecordField) (v : layout.Value) (vs : List layout.Value)
+    → (if counts f then without_counts fs vs else v ∷ without_counts fs vs) ≡ without_counts (f ∷ fs) (v ∷ vs)
+in_front (Number size) fs v vs = refl
+in_front (Count size of) fs v vs = refl
+in_front (Rows of sizes) fs v vs = refl
+in_front (Bytes of) fs v vs = refl
+in_front ScaleBytes fs v vs = refl
+in_front DecimalPlaces fs v vs = refl
+
+more_values : (count : Bool) (v : Value) (vs : List Value) (xs : List layout.Value) → map value_of vs ≡ xs
+    → map value_of (cond (not count) (v ∷ vs) vs) ≡ (if count then xs else value_of v ∷ xs)
+more_values true v vs xs same = same
+more_values false v vs xs same = ap (λ more. value_of v ∷ more) same
+
+of_values : (vs : List Value) → map value_of (not_counts vs) ≡ without_counts (map field_of vs) (map value_of vs)
+of_values [] = refl
+of_values (v ∷ vs) =
+    more_values (is_count v) v (not_counts vs) (without_counts (map field_of vs) (map value_of vs)) (of_values vs)
+    ∙ in_front (field_of v) (map field_of vs) (value_of v) (map value_of vs)
+
 -- ---- the names of the fields in which two objects differ
 
 known : (k : Kind) → kind_of_type (kind_number k) ≡ Some k
@@ -122,19 +164,21 @@ kind_seen _ = refl
 abbrev by_kind : Seen → Seen → Bool → List Name
 by_kind old new of_one_kind = if of_one_kind then differing (field_names (kind_of old)) (named_values old) (named_values new) else []
 
-pub in_changed : {A E B : Type 0} (r : Result A E) (found : A → List (Bor Name)) (old new : Object B) (names : List (Bor Name)) (olds news : List Value)
+pub in_changed : {A E B : Type 0} (r : Result A E) (found : A → List (Bor Name)) (old new : Object B) (names : List (Bor Name)) (olds news named_olds named_news : List Value)
     → kind_number (kind_of old) ≡ kind_number (kind_of new) → name_bytes names ≡ field_names (kind_of old) → AreValuesOf (seen old) olds → AreValuesOf (seen new) news
-    → IfOk r (λ a. found a ≡ names_unlike ghosts.eq names olds news)
+    → named_olds ≡ not_counts olds → named_news ≡ not_counts news → IfOk r (λ a. found a ≡ names_unlike ghosts.eq names named_olds named_news)
     → IfOk r (λ a. name_bytes (found a) ≡ changed (seen old) (seen new))
-in_changed (Err e) found old new names olds news same called of_old of_new is = is
-in_changed (Ok a) found old new names olds news same called of_old of_new is =
+in_changed (Err e) found old new names olds news named_olds named_news same called of_old of_new old_named new_named is = is
+in_changed (Ok a) found old new names olds news named_olds named_news same called of_old of_new old_named new_named is =
     let kinds : kind_of (seen old) ≡ kind_of (seen new) = kind_seen old ∙ one_kind _ _ same ∙ sym (kind_seen new) in
-    let fields : map field_of olds ≡ map field_of news = of_old.1 ∙ ap named_fields kinds ∙ sym of_new.1 in
+    let fields : map field_of olds ≡ map field_of news = of_old.1 ∙ ap fields_of kinds ∙ sym of_new.1 in
+    let named : map field_of (not_counts olds) ≡ map field_of (not_counts news) = of_fields olds ∙ ap named_fields fields ∙ sym (of_fields news) in
     let names_seen : name_bytes names ≡ field_names (kind_of (seen old)) = called ∙ ap field_names (sym (kind_seen old)) in
-    ap name_bytes is
-    ∙ in_rows ghosts.eq same_values names olds news fields
-    ∙ ap (λ ns. differing ns (map value_of olds) (map value_of news)) names_seen
-    ∙ ap₂ (λ os ns. differing (field_names (kind_of (seen old))) os ns) of_old.0 of_new.0
+    ap name_bytes (is ∙ ap₂ (names_unlike ghosts.eq names) old_named new_named)
+    ∙ in_rows ghosts.eq same_values names (not_counts olds) (not_counts news) named
+    ∙ ap (λ ns. differing ns (map value_of (not_counts olds)) (map value_of (not_counts news))) names_seen
+    ∙ ap₂ (λ os ns. differing (field_names (kind_of (seen old))) os ns)
+    (of_values olds ∙ ap₂ without_counts of_old.1 of_old.0) (of_values news ∙ ap₂ without_counts of_new.1 of_new.0)
     ∙ sym (ap (by_kind (seen old) (seen new)) (eq-eqb _ _ (ap kind_number kinds)))
 
 pub unlike : {B : Type 0} (old new : Object B) → kind_number (kind_of old) ≢ kind_number (kind_of new) → [] ≡ changed (seen old) (seen new)

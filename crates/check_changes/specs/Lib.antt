@@ -3,4 +3,3 @@ pub mod Changes
 pub mod FieldNames
 pub mod Laws
 pub mod Names
-pub mod Values

@@ -11,7 +11,6 @@
 mod changes;
 pub mod laws;
 mod names;
-mod values;
 
 pub use changes::changed_fields;
 

@@ -1,5 +1,5 @@
 use Rattle.std.proofs.Common.{◌∙◌, ap}
-use Rattle.check_changes.specs.Names.{name_bytes}
+use Rattle.check_changes.specs.Names.{name_bytes, not_counts}
 use Rattle.check_changes.proofs.Steps.{in_changed, unlike}
 use Rattle.check_changes.proofs.changes.changed_fields.Goals as goal
 
@@ -9,5 +9,7 @@ returns-then-number c =
 
 pub returns : goal.returns
 returns c =
-    in_changed c.differing_names.result _ c.args.old.now c.args.new.now c.names_of.result.now c.deref.result.now c.deref-2.result.now
-    (cc) (cc) (rw c.deref.ensures.value c.in_ok-old_values.ensures) (rw c.deref-2.ensures.value c.in_ok-new_values.ensures) c.differing_names.ensures
+    in_changed c.differing_names.result _ c.args.old.now c.args.new.now c.names_of.result.now c.values_of.result.items c.values_of-2.result.items _ _
+    (cc) (cc) c.values_of.ensures c.values_of-2.ensures
+    (c.deref-3.ensures.value ∙ c.in_ok-old_values.ensures ∙ ap not_counts c.deref.ensures.0)
+    (c.deref-4.ensures.value ∙ c.in_ok-new_values.ensures ∙ ap not_counts c.deref-2.ensures.0) c.differing_names.ensures
