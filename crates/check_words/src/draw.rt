@@ -67,7 +67,6 @@ pub(crate) fn draw_options<'a>(
         matches.get_str("state"),
         matches.get_str("owner"),
     )?;
-    let names = all_of(alloc, matches, "names")?;
     // The borrow checker does not cover `?` to another error at a value that holds an ID.
     let drawing = match drawing_of(matches.get_str("mask"), matches.get_str("out")) {
         Ok(drawing) => drawing,
@@ -75,7 +74,7 @@ pub(crate) fn draw_options<'a>(
     };
     Ok(DrawOptions {
         origin,
-        names,
+        names: all_of(alloc, matches, "names")?,
         sizes: Sizes { mask, key, keys },
         drawing,
     })

@@ -1,13 +1,13 @@
 //! The options that a command line gives.
 
-use crate::draw::{DrawOptions, Origin, area_of, draw_options};
+use crate::draw::{DrawOptions, area_of, draw_options};
 use crate::subcommands::SEGYOLANT;
 use crate::wrong_option::WrongOption;
 use check_needs::{Area, Sizes, TERMINAL_SIZES};
 use clap::ArgMatches;
 use std::alloc::{AllocError, Global};
 use std::convert::AsStr;
-use vt_cli::{StartSet, UsageError, all_of, inputs_among};
+use vt_cli::{UsageError, all_of, inputs_in};
 use vt_objects::{Event, ObjectId};
 
 /// The options that a command line gives, by its subcommand.
@@ -89,6 +89,9 @@ pub struct DiffOptions<'a> {
 /// The subcommands, and where to read about them.
 const SUBCOMMANDS: &str = "check, why, needs, diff or draw; segyolant --help says what each does";
 
+/// The arguments that are paths of files to read.
+const FILES: &[&str] = &["POOL", "OLD", "NEW", "state", "names"];
+
 impl<'a> Options<'a> {
     /// Reads the words of a command line, of which the first is the program's name.
     pub fn parse<S: AsStr>(
@@ -101,7 +104,7 @@ impl<'a> Options<'a> {
             return Err(UsageError::NoSubcommand(SUBCOMMANDS));
         };
         let options = Options::of_subcommand(alloc, name, matches)?;
-        if options.inputs() > 1 {
+        if inputs_in(matches, FILES) > 1 {
             return Err(UsageError::InputTwice);
         }
         Ok(options)
@@ -122,33 +125,6 @@ impl<'a> Options<'a> {
             // clap takes no other name; its contract does not say so.
             _ => return Err(UsageError::NoSubcommand(SUBCOMMANDS)),
         })
-    }
-
-    /// How many of the files are the standard input.
-    fn inputs(&self) -> usize {
-        let (files, names) = match self {
-            Options::Check(options) => (inputs_among(options.pools.as_slice()), &options.names),
-            Options::Why(options) => (inputs_among(&[options.pool]), &options.names),
-            Options::Needs(options) => (inputs_among(&[options.pool]), &options.names),
-            Options::Diff(options) => (inputs_among(&[options.old, options.new]), &options.names),
-            Options::Draw(options) => (inputs_of(options.origin), &options.names),
-        };
-        files.saturating_add(inputs_among(names.as_slice()))
-    }
-}
-
-/// How many of the files from which objects come are the standard input.
-fn inputs_of(origin: Origin<'_>) -> usize {
-    match origin {
-        Origin::Pool(path)
-        | Origin::State {
-            log: path,
-            set: None,
-        } => inputs_among(&[path]),
-        Origin::State {
-            log,
-            set: Some(StartSet { pool, .. }),
-        } => inputs_among(&[log, pool]),
     }
 }
 

@@ -137,10 +137,10 @@ pub(crate) fn push_attribute(out: &mut Vec<u8>, attribute: &Attribute) -> Result
         Attribute::LineEnds(art) => push_line_ends(out, *art),
         Attribute::FontSize(size) => push_measure(out, b" font-size=\"", *size),
         Attribute::TextLength(length) => push_measure(out, b" textLength=\"", *length),
-        Attribute::ObjectId(id) => push_numbered(out, b" data-id=\"", *id),
-        Attribute::PictureId(id) => push_numbered(out, b" id=\"p", *id),
-        Attribute::PictureShown(id) => push_numbered(out, b" href=\"#p", *id),
-        Attribute::PatternId(id) => push_numbered(out, b" id=\"f", *id),
+        Attribute::ObjectId(id) => push_measure(out, b" data-id=\"", u32::from(*id)),
+        Attribute::PictureId(id) => push_measure(out, b" id=\"p", u32::from(*id)),
+        Attribute::PictureShown(id) => push_measure(out, b" href=\"#p", u32::from(*id)),
+        Attribute::PatternId(id) => push_measure(out, b" id=\"f", u32::from(*id)),
         Attribute::Style(style) => push_style(out, *style),
         Attribute::Flag(flag) => out.extend_from_slice(flag_text(*flag).as_bytes()),
     }
@@ -195,7 +195,7 @@ fn push_quoted(out: &mut Vec<u8>, before: &[u8], number: i32) -> Result<(), Allo
     ensures { OnOk result (out.new.items ≡ out.old.items ++ quoted before.now number) }
 {
     out.extend_from_slice(before)?;
-    push_number(out, number)?;
+    out.extend_from_slice(Buffer::new().format(number).as_bytes())?;
     out.extend_from_slice(b"\"")
 }
 
@@ -206,27 +206,6 @@ fn push_measure(out: &mut Vec<u8>, before: &[u8], number: u32) -> Result<(), All
     out.extend_from_slice(before)?;
     push_natural(out, number)?;
     out.extend_from_slice(b"\"")
-}
-
-/// Appends a text, an ID and a quote.
-fn push_numbered(out: &mut Vec<u8>, before: &[u8], id: u16) -> Result<(), AllocError>
-    ensures { OnOk result (out.new.items ≡ out.old.items ++ numbered before.now id) }
-{
-    out.extend_from_slice(before)?;
-    push_id(out, id)?;
-    out.extend_from_slice(b"\"")
-}
-
-fn push_number(out: &mut Vec<u8>, number: i32) -> Result<(), AllocError>
-    ensures { OnOk result (out.new.items ≡ out.old.items ++ signed_decimal number) }
-{
-    out.extend_from_slice(Buffer::new().format(number).as_bytes())
-}
-
-fn push_id(out: &mut Vec<u8>, id: u16) -> Result<(), AllocError>
-    ensures { OnOk result (out.new.items ≡ out.old.items ++ decimal id) }
-{
-    out.extend_from_slice(Buffer::new().format(id).as_bytes())
 }
 
 /// Appends a text, a paint and a quote.
@@ -252,7 +231,7 @@ fn push_pattern(out: &mut Vec<u8>, id: u16) -> Result<(), AllocError>
     ensures { OnOk result (out.new.items ≡ out.old.items ++ paint_text (Pattern id)) }
 {
     out.extend_from_slice(b"url(#f")?;
-    push_id(out, id)?;
+    push_natural(out, u32::from(id))?;
     out.extend_from_slice(b")")
 }
 

@@ -7,7 +7,7 @@ use hex::FromHex;
 use std::alloc::{AllocError, Global};
 use std::convert::AsStr;
 use vt_can::assigned::TERMINAL_ADDRESS;
-use vt_cli::{StartSet, UsageError, address, all_of, inputs_among};
+use vt_cli::{StartSet, UsageError, address, all_of, inputs_among, inputs_in};
 
 /// The options that a command line gives, by its subcommand.
 #[derive(Drop)]
@@ -134,6 +134,9 @@ const WAIT: u32 = 1500;
 const SUBCOMMANDS: &str =
     "pools, operator, trace, compare, draw, stats or test; segyolant_log --help says what each does";
 
+/// The arguments that are paths of files to read.
+const FILES: &[&str] = &["LOG", "names", "pool"];
+
 impl<'a> Options<'a> {
     /// Reads the words of a command line, of which the first is the program's name.
     pub fn parse<S: AsStr>(
@@ -146,7 +149,7 @@ impl<'a> Options<'a> {
             return Err(UsageError::NoSubcommand(SUBCOMMANDS));
         };
         let options = Options::of_subcommand(alloc, name, matches)?;
-        if options.inputs() > 1 {
+        if inputs_in(matches, FILES) > 1 {
             return Err(UsageError::InputTwice);
         }
         Ok(options)
@@ -169,40 +172,6 @@ impl<'a> Options<'a> {
             // clap takes no other name; its contract does not say so.
             _ => return Err(UsageError::NoSubcommand(SUBCOMMANDS)),
         })
-    }
-
-    /// How many of the files are the standard input.
-    fn inputs(&self) -> usize {
-        match self {
-            Options::Pools(options) => {
-                let names = inputs_among(options.names.as_slice());
-                inputs_among(&[options.log]).saturating_add(names)
-            }
-            Options::Operator(options) => inputs_among(&[options.log]),
-            Options::Trace(options) => options.inputs(),
-            Options::Compare(options) => options.replay.inputs(),
-            Options::Draw(options) => options.replay.inputs(),
-            Options::Stats(options) => options.replay.inputs(),
-            Options::Test(options) => {
-                inputs_among(options.logs.as_slice()).saturating_add(options.terminal.inputs())
-            }
-        }
-    }
-}
-
-impl ReplayOptions<'_> {
-    /// How many of the files are the standard input.
-    fn inputs(&self) -> usize {
-        inputs_among(&[self.log])
-            .saturating_add(inputs_among(self.names.as_slice()))
-            .saturating_add(self.terminal.inputs())
-    }
-}
-
-impl TerminalOptions<'_> {
-    /// How many of the files are the standard input.
-    fn inputs(&self) -> usize {
-        self.set.map_or(0, |set| inputs_among(&[set.pool]))
     }
 }
 
@@ -231,11 +200,10 @@ fn replay_options<'a>(
     alloc: Global,
     matches: &ArgMatches<'a>,
 ) -> Result<ReplayOptions<'a>, UsageError<WrongOption<'a>>> {
-    let names = all_of(alloc, matches, "names")?;
     Ok(ReplayOptions {
         log: log_of(matches),
         interface: matches.get_str("interface"),
-        names,
+        names: all_of(alloc, matches, "names")?,
         terminal: terminal_options(matches)?,
     })
 }
@@ -244,9 +212,8 @@ fn compare_options<'a>(
     alloc: Global,
     matches: &ArgMatches<'a>,
 ) -> Result<CompareOptions<'a>, UsageError<WrongOption<'a>>> {
-    let replay = replay_options(alloc, matches)?;
     Ok(CompareOptions {
-        replay,
+        replay: replay_options(alloc, matches)?,
         wait: wait_of(matches)?,
         format: format_of(matches),
     })
@@ -256,9 +223,8 @@ fn draw_options<'a>(
     alloc: Global,
     matches: &ArgMatches<'a>,
 ) -> Result<DrawOptions<'a>, UsageError<WrongOption<'a>>> {
-    let replay = replay_options(alloc, matches)?;
     Ok(DrawOptions {
-        replay,
+        replay: replay_options(alloc, matches)?,
         // clap demands it; its contract does not say so.
         folder: matches.get_str("out").unwrap_or("."),
     })
@@ -268,9 +234,8 @@ fn stats_options<'a>(
     alloc: Global,
     matches: &ArgMatches<'a>,
 ) -> Result<StatsOptions<'a>, UsageError<WrongOption<'a>>> {
-    let replay = replay_options(alloc, matches)?;
     Ok(StatsOptions {
-        replay,
+        replay: replay_options(alloc, matches)?,
         format: format_of(matches),
     })
 }

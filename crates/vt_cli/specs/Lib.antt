@@ -1,4 +1,5 @@
 -- The definitions used in the contracts of vt_cli.
+pub mod Addresses
 pub mod Numbers
 pub mod Refusals
 pub mod Statuses

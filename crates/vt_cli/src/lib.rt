@@ -37,5 +37,5 @@ pub use reading::{read_file, read_names, read_pool_file};
 pub use refusal::{UsageError, refuse};
 pub use start_set::StartSet;
 pub use status::Status;
-pub use values::{address, all_of, inputs_among};
+pub use values::{address, all_of, inputs_among, inputs_in};
 pub use writing::{make_folder, save_file};

@@ -1,5 +1,8 @@
 //! The values of options.
 
+ghost use Rattle.std.specs.Prelude.{ℕ, MatchOption};
+ghost use Rattle.vt_cli.specs.Addresses.{IsAddress};
+
 use clap::ArgMatches;
 use hex::FromHex;
 use std::alloc::{AllocError, Global};
@@ -21,8 +24,19 @@ pub fn inputs_among(paths: &[&str]) -> usize {
     paths.iter().filter(|path| **path == "-").count()
 }
 
-/// The address that two hex digits write, if a node may have it.
-pub fn address(text: &str) -> Option<u8> {
+/// How many of the values of these arguments are the path of the standard input.
+pub fn inputs_in(matches: &ArgMatches<'_>, arguments: &[&str]) -> usize {
+    arguments
+        .iter()
+        .filter_map(|argument| matches.get_strs(argument))
+        .map(inputs_among)
+        .fold(0, usize::saturating_add)
+}
+
+/// The address written as two hex digits, up to FD. `None` for any other text.
+pub fn address(text: &str) -> Option<u8>
+    ensures { MatchOption result ((n : ℕ) → IsAddress text.now n → ⊥) (IsAddress text.now) }
+{
     let [address] = <[u8; 1]>::from_hex(text).ok()?;
-    (address <= 0xFD).then_some(address)
+    if address <= 0xFD { Some(address) } else { None }
 }

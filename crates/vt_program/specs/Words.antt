@@ -6,6 +6,7 @@ use Rattle.clap.specs.declared.builder.action.ArgAction.TheVariants.{Set, SetTru
 use Rattle.clap.specs.declared.error.Error.{Error}
 use Rattle.clap.specs.declared.error.kind.ErrorKind.TheVariants.{OutOfMemory}
 use Rattle.hex.specs.Hex.{decode_of}
+use Rattle.vt_cli.specs.Addresses.{IsAddress}
 use Rattle.vt_program.specs.declared.options.Options.{Options}
 use Rattle.vt_program.specs.declared.options.Preload.{Preload}
 use Rattle.vt_program.specs.declared.options.UsageError.{UsageError}
@@ -67,10 +68,6 @@ unfoldable pub faults_in : List Text → Kinds
 faults_in words = fault_of app words
 
 -- ---- addresses
-
--- Two hex digits write the number n, up to FD.
-abbrev pub IsAddress : Text → ℕ → Type 0
-IsAddress text n = (decode_of text ≡ Ok (n ∷ [])) × (n ≤ 253)
 
 -- A text gives the address that it writes, and no text gives none.
 abbrev pub GivesAddress : Option Text → Option ℕ → Type 0

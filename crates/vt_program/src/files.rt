@@ -1,56 +1,13 @@
-//! The files of the system, and its standard input.
-
-ghost use Rattle.std.specs.Prelude.{◌≡◌};
+//! The files of the system, as the program opens them.
 
 use crate::program::Open;
-use std::fs::{self, File};
-use std::io::{self, Error, ErrorKind, Read, Stdin};
-
-/// The files of the system. The path `-` is the standard input.
-#[derive(Drop)]
-pub struct Files<'a> {
-    rt: &'a HostRuntime,
-}
-
-/// An open file, or the standard input.
-#[derive(Drop)]
-pub enum Opened {
-    /// A file.
-    File(File),
-    /// The standard input.
-    Input(Stdin),
-}
-
-impl<'a> Files<'a> {
-    /// Returns the files of the system, by its runtime.
-    pub fn new(rt: &'a HostRuntime) -> Files<'a>
-        ensures { result.rt ≡ rt.entry }
-    {
-        Files { rt }
-    }
-}
-
-impl Read for Opened {
-    fn read(&mut self, buf: &mut [u8]) -> io::Result<usize> {
-        match self {
-            Opened::File(file) => file.read(buf),
-            Opened::Input(input) => input.read(buf),
-        }
-    }
-}
+use std::io;
+use vt_cli::{Files, Opened};
 
 impl Open for Files<'_> {
     type Reader = Opened;
 
-    // The system opens a directory but does not read it, so a directory is refused here.
     fn open(&mut self, path: &str) -> io::Result<Opened> {
-        if path == "-" {
-            return Ok(Opened::Input(self.rt.stdin()));
-        }
-        let file = fs::open(self.rt, path)?;
-        if file.metadata()?.is_dir() {
-            return Err(Error::from(ErrorKind::IsADirectory));
-        }
-        Ok(Opened::File(file))
+        vt_cli::Open::open(self, path)
     }
 }

@@ -16,6 +16,6 @@ mod pool_sentences;
 mod program;
 mod sentences;
 
-pub use files::{Files, Opened};
 pub use options::{Options, Preload, UsageError};
 pub use program::{Open, Status, run};
+pub use vt_cli::Files;

@@ -5,7 +5,7 @@ ghost use Rattle.clap.specs.Words.{IsParsedFrom, IsPlainArg, app_of, first_value
 ghost use Rattle.clap.specs.Built.{TakesValue};
 ghost use Rattle.clap.specs.declared.parser.matches.ArgMatches.{ArgMatches};
 ghost use Rattle.vt_program.specs.declared.options.UsageError.TheVariants.{Memory};
-ghost use Rattle.vt_program.specs.Words.{HasValidAddresses, GivesOptions, GivesAddress, IsAddress, IsBadAddress, IsBadName, IsMistake, IsName, IsOwnName, IsRefusalFor, IsRefusalOf, WordsGive, app, file_word, given_in, usage_text, report_flag, valued_option};
+ghost use Rattle.vt_program.specs.Words.{HasValidAddresses, GivesOptions, GivesAddress, IsBadAddress, IsBadName, IsMistake, IsName, IsOwnName, IsRefusalFor, IsRefusalOf, WordsGive, app, file_word, given_in, usage_text, report_flag, valued_option};
 
 use byteorder::{BigEndian, ByteOrder};
 use clap::error::ErrorKind;
@@ -15,6 +15,7 @@ use std::alloc::{AllocError, Global};
 use std::convert::AsStr;
 use std::fmt;
 use vt_can::assigned::TERMINAL_ADDRESS;
+use vt_cli::address;
 use vt_names::{Name, TERMINAL_NAME};
 
 /// The options that the words give.
@@ -266,14 +267,6 @@ fn address_given<'a>(
         Some(address) => Ok(Some(address)),
         None => Err(UsageError::Address { option, value }),
     }
-}
-
-/// The address written as two hex digits, up to FD. `None` for any other text.
-pub fn address(text: &str) -> Option<u8>
-    ensures { MatchOption result ((n : ℕ) → IsAddress text.now n → ⊥) (IsAddress text.now) }
-{
-    let [address] = <[u8; 1]>::from_hex(text).ok()?;
-    if address <= 0xFD { Some(address) } else { None }
 }
 
 /// The terminal's NAME, the one given or the default.

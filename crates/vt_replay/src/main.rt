@@ -20,7 +20,7 @@ fn main(rt: HostRuntime) -> io::Result<ExitCode> {
         Err(error) => return Err(error),
     };
     let mut out = Stream::new(BufWriter::new(alloc, io::writer(&rt))?);
-    let mut files = Files::new(&rt);
+    let mut files = Files::new(&rt, "vt_replay");
     match run(alloc, words.as_slice(), &mut files, &mut out, &mut errors) {
         Ok(status) => Ok(ExitCode::from(status.code())),
         Err(error) => {

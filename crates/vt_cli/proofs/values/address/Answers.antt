@@ -1,6 +1,6 @@
 use Rattle.std.proofs.Common.{[], ◌∷◌, ◌∙◌, arith}
 use Rattle.hex.proofs.HexLemmas.{decode_of-ok, decode_sized-twice}
-use Rattle.vt_program.proofs.options.address.Goals as goal
+use Rattle.vt_cli.proofs.values.address.Goals as goal
 
 pub returns-in_err-address : goal.returns-in_err-address
 returns-in_err-address c = rw c.from_residual.ensures (λ n given.
