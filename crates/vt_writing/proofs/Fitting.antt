@@ -6,8 +6,14 @@ use Rattle.vt_kinds.specs.Ids.{null_id}
 use Rattle.vt_kinds.specs.Layout.{RecordField, Count, Number, Rows, Bytes, ScaleBytes, DecimalPlaces, natural, integer, Value, number, rows, bytes, RecordCounts, no_counts, counted, count_of, FieldsFit, Proper}
 use Rattle.vt_kinds.specs.Records.{Seen, kind_of, fields_of, values_of, HasRecord}
 use Rattle.std.specs.List.{AllByRecursion}
-use Rattle.vt_writing.specs.Values.{EachFits, Fitting, AreValuesOf, value_of, field_of}
+use Rattle.vt_writing.specs.Values.{FitsField, Fitting, AreValuesOf, value_of, field_of}
 use Rattle.vt_writing.specs.declared.value.Value as listed
+
+-- as many values as fields, and each fits
+abbrev pub EachFits : List RecordField → List Value → Type 0
+EachFits [] [] = Unit {0}
+EachFits (f ∷ fs) (v ∷ vs) = FitsField f v × EachFits fs vs
+EachFits _ _ = ⊥
 
 -- the lengths of the lists
 abbrev lengths : List Value → List ℕ
@@ -78,15 +84,18 @@ each_in_field [] fit = tt
 each_in_field (v ∷ vs) fit = (fit.0, each_in_field vs fit.1)
 
 -- the values of an object that fit are those of its record
-pub all_fit : (o : Seen) (vs : List listed.Value) → AreValuesOf o vs → AllByRecursion Fitting vs → EachFits (fields_of (kind_of o)) (values_of o)
+all_fit : (o : Seen) (vs : List listed.Value) → AreValuesOf o vs → AllByRecursion Fitting vs → EachFits (fields_of (kind_of o)) (values_of o)
 all_fit o vs are fit =
     subst (λ fs. EachFits fs (values_of o)) are.1
     (subst (λ values. EachFits (map field_of vs) values) are.0 (each_in_field vs fit))
 
--- an object whose values fit has a record
-pub has_record : (id : ℕ) (o : Seen) → id < null_id → EachFits (fields_of (kind_of o)) (values_of o) → HasRecord id o
+has_record : (id : ℕ) (o : Seen) → id < null_id → EachFits (fields_of (kind_of o)) (values_of o) → HasRecord id o
 has_record id o named fit = record {
   named = named;
   fields_fit = fitting (fields_of (kind_of o)) no_counts (values_of o) (counts_agree o) fit;
   proper = proper (fields_of (kind_of o)) (values_of o) fit;
 }
+
+-- an object whose values fit has a record
+pub listed_has_record : (id : ℕ) (o : Seen) (vs : List listed.Value) → id < null_id → AreValuesOf o vs → AllByRecursion Fitting vs → HasRecord id o
+listed_has_record id o vs named are fit = has_record id o named (all_fit o vs are fit)

@@ -1,5 +1,5 @@
 -- The values of an object's record as the code lists them, each with the field in which it is.
-use Rattle.std.specs.Prelude.{Bool, true, false, ◌≡◌, ◌<◌, ◌≤◌, ℕ, ◌^◌, List, [], ◌∷◌, map}
+use Rattle.std.specs.Prelude.{Bool, true, false, ◌≡◌, ◌<◌, ◌≤◌, ℕ, ◌^◌, List, map}
 use Rattle.std.specs.Int.{w32}
 use Rattle.std.specs.List.{AllByRecursion}
 use Rattle.vt_kinds.specs.Layout.{RecordField, Count, Number, Unsigned, Signed, Rows, ScaleBytes, DecimalPlaces, Objects, Macros, Others, natural, integer, number, rows, bytes, Fits, RowFits, field_spelling}
@@ -87,9 +87,3 @@ FitsField _ _ = ⊥
 -- a value fits its field
 abbrev pub Fitting : Value → Type 0
 Fitting v = FitsField (field_of v) (value_of v)
-
--- as many values as fields, and each fits
-abbrev pub EachFits : List RecordField → List layout.Value → Type 0
-EachFits [] [] = Unit {0}
-EachFits (f ∷ fs) (v ∷ vs) = FitsField f v × EachFits fs vs
-EachFits _ _ = ⊥

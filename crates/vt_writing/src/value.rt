@@ -10,8 +10,8 @@ use crate::write::{put_u8, put_u16, put_u32};
 use std::alloc::AllocError;
 use vt_kinds::{Child, Decimals, Language, MacroEntry, ObjectId, Point, Scale};
 
-/// The value of a field in an object's record. Two values of one field, as two objects of one kind have there, have the same
-/// variant, and `==` says whether they are equal.
+/// The value of a field in an object's record. The values that two objects of one kind have in a field are of one variant, and
+/// equal by `==` exactly if they are the same in the record.
 #[derive(Clone, Copy, PartialEq, Eq)]
 pub enum Value<'a> {
     Byte(u8),
@@ -39,6 +39,7 @@ pub enum Value<'a> {
     Bytes(&'a [u8]),
 }
 
+// A list in an `ArrayVec` needs a value for its free places.
 impl Default for Value<'_> {
     fn default() -> Self {
         Value::Byte(0)

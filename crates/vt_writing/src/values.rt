@@ -15,8 +15,8 @@ use vt_kinds::{
     Picture, Polygon, Rectangle, SoftKeyMask, StringVariable, WorkingSet,
 };
 
-/// The values of an object's record: no kind has more than 20.
-pub type Values<'a> = ArrayVec<Value<'a>, 20>;
+/// The values of an object's record. An Input Number has the most, 17.
+pub type Values<'a> = ArrayVec<Value<'a>, 17>;
 
 /// Lists values, each given by its variant and what it holds.
 macro_rules! values {
@@ -337,7 +337,7 @@ fn macro_object<B: AsSlice<u8>>(o: &Macro<B>) -> Values<'_>
 
 /// The list of these values.
 fn list<'a>(values: &[Value<'a>]) -> Values<'a>
-    requires { length values.now ≤ 20 }
+    requires { length values.now ≤ 17 }
     ensures { result.items ≡ values.now }
 {
     let mut list = Values::new();

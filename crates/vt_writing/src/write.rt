@@ -5,8 +5,7 @@ ghost use Rattle.byteorder.specs.Endian.{little_bytes};
 ghost use Rattle.vt_kinds.specs.Ids.{null_id};
 ghost use Rattle.vt_kinds.specs.Records.{HasRecord, record_of, seen};
 
-use crate::laws::objects_have_records;
-use crate::value::write_each;
+use crate::value::{each_fits, write_each};
 use crate::values::values_of;
 use byteorder::{ByteOrder, LittleEndian};
 use std::alloc::{AllocError, Global};
@@ -49,10 +48,11 @@ pub fn write_object<B: AsSlice<u8>>(
     ensures record { HasRecord id (seen object.now) }
     ensures err { OnErr result (out.new.items ≡ out.old.items) }
 {
-    objects_have_records(id, object);
+    let values = values_of(object);
+    each_fits(&values);
     let mut record = Vec::new(alloc);
     put_u16(&mut record, id.raw())?;
     record.push(object.kind().number())?;
-    write_each(&values_of(object), &mut record)?;
+    write_each(&values, &mut record)?;
     out.extend_from_slice(&record)
 }
