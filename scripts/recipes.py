@@ -15,7 +15,7 @@ sys.dont_write_bytecode = True
 
 TOP = os.path.dirname(os.path.dirname(os.path.abspath(__file__)))
 PAGE = 'docs/EXTENDING.md'
-FOLDERS = ('crates/*/src', 'crates/*/specs', 'crates/*/proofs', 'include', 'bindings', 'examples/c', 'examples/cpp', 'examples/sdl')
+FOLDERS = ('crates/*/src', 'crates/*/specs', 'crates/*/proofs', 'include', 'bindings', 'examples/c', 'examples/cpp', 'examples/sdl', 'scripts')
 CODE = ('.antt', '.c', '.cpp', '.h', '.hpp', '.js', '.md', '.py', '.rs', '.rt')
 OTHERS = ('.log', '.pool', '.run', '.txt')
 
@@ -37,6 +37,7 @@ EXAMPLES = {
     'A subcommand of segyolant_log': {'Options::Compare|CompareOptions|run_compare|"compare"': 'crates/'},
     'A column of stats': {'seen_twice|seen twice|repeated_packets|masks_never': 'crates/'},
     'A warning of the checker': {'TextTooWide': ''},
+    'The text of a message': {'no frame could be read': 'crates/'},
     'A subcommand of the checker': {'Options::Diff|DiffOptions|run_diff|"diff"': 'crates/', 'DrawOptions|"draw"': 'crates/check_words'},
     'A call for C': {'vt_lost|TellsLost|screen::lost|vt_limits_of|vt_text_of_limits|WritesLimits|dialog::limits': ''},
 }
@@ -44,6 +45,8 @@ EXAMPLES = {
 # Files that no recipe has to name, and why.
 APART = {
     'crates/vt_terminal/proofs/*/Proof.antt': 'scripts/export_proofs.py writes them',
+    'scripts/recipes.py': 'it has the words of all examples',
+    'scripts/testing/consoles.py': 'its pool may have any refusal',
     'bindings/python/build/*': 'a build leaves them',
     'bindings/rust/target/*': 'a build leaves them',
 }

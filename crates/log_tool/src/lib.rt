@@ -2,8 +2,8 @@
 //!
 //! `run` runs it on the words of its command line, and returns the `Status` with which it ends. docs/LOGS.md has the subcommands.
 //!
-//! Of the subcommands it has only `operator`; the others are in the crates log_*. Come here to ask which subcommand does what, or how
-//! `operator` finds the actions of the operator.
+//! Of the subcommands it has only `operator`. `trace` and `draw` are in log_runs, `test` in log_bench, and `compare`, `stats` and `pools` in
+//! the crates of their names. Come here to ask how `operator` finds the actions of the operator.
 #![tactic(auto)]
 
 mod actions;

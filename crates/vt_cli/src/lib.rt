@@ -1,7 +1,7 @@
-//! What `segyolant` and `segyolant_log` have in common: command lines, files, lines of JSON, and how a run ends.
+//! What the programs have in common: command lines, files, lines of JSON, and how a run ends.
 //!
-//! - `CommandLine::command` makes the command for `clap` from a table of subcommands and arguments. `all_of`, `inputs_among`, `address`
-//!   and `StartSet::new` read the values of options.
+//! - `CommandLine::command` makes the command for `clap` from a table of subcommands and arguments. `all_of`, `inputs_among`, `inputs_in`,
+//!   `address` and `StartSet::new` read the values of options.
 //! - A `UsageError` is a refusal of a command line, generic over the wrong options of a program, and `refuse` tells it. A `Status` is
 //!   how a run ended.
 //! - `Open` opens files by their paths, and `Save` writes files and makes folders. `Files` are those of the system. `read_file`,
@@ -10,10 +10,10 @@
 //! - A `JsonLine` is an object of JSON that is built member by member and written as a line.
 //! - `words_of` collects the words of the process, and `exit_code` ends it: with them, `main` of a program is a page.
 //!
-//! It has no subcommand and no option of one program: those are in check_words and log_words. vt_replay and vt_live have
-//! statuses and command lines of their own.
+//! It has no subcommand and no option of one program: those are in check_words and log_words. vt_replay uses `Files` and
+//! `address` alone, and vt_live nothing of it: their statuses and command lines are their own.
 //!
-//! Come here to ask why both programs refuse a word, name a file that cannot be read, or end with a status as they do.
+//! Come here to ask why `segyolant` and `segyolant_log` refuse a word, name a file that cannot be read, or end with a status.
 #![tactic(auto)]
 
 mod argument;

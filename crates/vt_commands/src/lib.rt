@@ -4,12 +4,12 @@
 //! - `Command` is read from its bytes; `split_command` splits the first command off the bytes of a macro.
 //! - `targets` returns each `Target` in a command, `attribute` the `Attribute` with a number, and `row_events` each `Event` that a
 //!   command raises, as a `Raised`.
-//! - A `CommandRow` says of a command what its reply has where, what it raises, and why it may be refused.
+//! - A `CommandRow` says of a command at which bytes its reply has the object and the error, what it raises, and why it may be refused.
 //! - `function` has the functions of commands, and of the messages that report the operator's actions to an implement.
 //! - `laws` has the theorems about the definitions.
 //!
-//! What a command changes is in vt_effects, and the bytes of its reply are in vt_server. Come here to ask how a command is read, where its
-//! reply has what, and which events it raises.
+//! What a command changes is in vt_effects, and the bytes of its reply are in vt_server. Come here to ask how a command is read, at which
+//! byte its reply has the object and the error, and which events it raises.
 //!
 //! docs/PROFILE.md has the tables: "Commands" for the bytes of the commands, "Attributes" for Change Attribute.
 #![tactic(auto)]

@@ -8,7 +8,7 @@
 //!
 //! Which macros a command sets off is in vt_macros. Come here to ask what a command changes, and with which bit it is refused.
 //!
-//! docs/PROFILE.md, "Commands: all rows" and the section of each command, "Attributes", "What every store keeps".
+//! docs/PROFILE.md, "Commands: all rows" and the section of each command, "Attributes", "What every store keeps", has the rules.
 #![tactic(auto)]
 
 mod attributes;

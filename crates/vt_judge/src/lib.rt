@@ -1,6 +1,7 @@
 //! Judges the bytes of an object pool: the accepted pool, or the first fault or refusal (ISO 11783-6; docs/PROFILE.md, "Pools
 //! and faults", "Verification of a pool").
 //!
+//! `judge` returns the pool, or why it is `NotAccepted`. The rules are in vt_verify, and the faults of records in vt_records.
 //! It starts no terminal. Come here to ask whether bytes are a pool that a terminal accepts.
 #![tactic(auto)]
 

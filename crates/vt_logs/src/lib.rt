@@ -6,7 +6,7 @@
 //! any other reader or writer, for which this is not promised. `Notes` are for messages to people. `refusal_name` returns a refusal
 //! to the operator as a replay prints it. docs/PROFILE.md, "Log lines" and "The program", has the output.
 //!
-//! The subcommands of `segyolant_log` are in the crates log_*. Come here to ask what a replay writes for a line.
+//! Lines are read by vt_recorded. The subcommands of `segyolant_log` are in the crates log_*. Come here to ask what a replay writes for a line.
 #![tactic(auto)]
 
 mod counts;

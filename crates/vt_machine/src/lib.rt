@@ -10,7 +10,7 @@
 //! It has no address and no frame: vt_server gives it the commands of one set. Come here to ask what a command or an action of the operator
 //! does to a working set.
 //!
-//! docs/PROFILE.md, "Commands: all rows" and the section of each command, "Attributes", "Runs", "Steps", "The operator".
+//! docs/PROFILE.md, "Commands: all rows" and the section of each command, "Attributes", "Runs", "Steps", "The operator", has the rules.
 #![tactic(auto)]
 
 mod entries;

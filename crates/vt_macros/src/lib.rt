@@ -11,7 +11,7 @@
 //! What one command changes is in vt_effects, and what an action of the operator does in vt_machine. Come here to ask which macros run at
 //! an event, and in which order.
 //!
-//! docs/PROFILE.md, "Runs", "Steps", "Costs and budgets".
+//! docs/PROFILE.md, "Runs", "Steps", "Costs and budgets", has the rules.
 #![tactic(auto)]
 
 mod audio;

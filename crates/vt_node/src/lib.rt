@@ -9,7 +9,7 @@
 //! It has no object and no pool: vt_server joins it with vt_machine. Come here to ask what a frame means for the terminal, and when a
 //! working set is silent.
 //!
-//! docs/PROFILE.md, "Messages of address claim", "Working sets", "Silence", "Other messages".
+//! docs/PROFILE.md, "Messages of address claim", "Working sets", "Silence", "Other messages", has the rules.
 #![tactic(auto)]
 
 mod bus;

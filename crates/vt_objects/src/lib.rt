@@ -10,8 +10,8 @@
 //! - Stores: `Store` is a map of objects; `SortedStore` and `ListStore` implement it.
 //! - `laws` has the theorems.
 //!
-//! The objects are in vt_kinds, the commands in vt_commands and the stores in vt_stores; this crate exports all three
-//! and adds the shown numbers, and `push_number`, which appends a number to a text.
+//! The objects are in vt_kinds, the commands in vt_commands and the stores in vt_stores; this crate exports most of all three
+//! and adds the shown numbers, and `push_number`, which appends a number to a text. Come here to ask how a number is shown.
 //!
 //! docs/PROFILE.md has the tables: "Records" for the kinds and their fields, "References and inclusions" for the
 //! references, "Attributes" for Change Attribute, "Commands" for the bytes of the commands.

@@ -11,7 +11,7 @@
 //! - `status`: the statuses that the calls return.
 //!
 //! After a call that returns a status other than `DONE` the terminal is unchanged. There is one exception: if memory is refused for an
-//! action at a time, the time may have advanced, with the outputs and events of that.
+//! action at a time, the time may have advanced, with the outputs and events of the advance.
 //!
 //! The exported functions of C are in vt_terminal, and the lines of JSON in vt_service. Come here to ask what a call of a host does.
 #![tactic(auto)]

@@ -6,7 +6,7 @@
 //!
 //! Where the objects stand is in vt_layout, and how they look in draw_picture. Come here to ask whether an object is shown.
 //!
-//! docs/PROFILE.md, "The drawing".
+//! docs/PROFILE.md, "The drawing", has the rules.
 #![tactic(auto)]
 
 mod search;

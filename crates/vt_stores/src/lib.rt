@@ -4,7 +4,7 @@
 //!
 //! The rules that the objects of a pool keep are in vt_verify. Come here to ask how an object is found by its ID.
 //!
-//! docs/PROFILE.md, "What every store keeps", has the rules.
+//! docs/PROFILE.md, "What every store keeps", says which references a store may have.
 #![tactic(auto)]
 
 mod list_store;

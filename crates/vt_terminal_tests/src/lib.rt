@@ -1,4 +1,5 @@
-//! Tests by functions of the crates of the terminal, for what no program shows.
+//! Tests by functions of the crates of the terminal, for what no program shows. Come here to test such a call; tests of logs are in
+//! `tests/terminal`.
 #![tactic(auto)]
 
 #[cfg(test)]
