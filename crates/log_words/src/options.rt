@@ -7,7 +7,7 @@ use hex::FromHex;
 use std::alloc::{AllocError, Global};
 use std::convert::AsStr;
 use vt_can::assigned::TERMINAL_ADDRESS;
-use vt_cli::{StartSet, UsageError, address, all_of, inputs_among, inputs_in};
+use vt_cli::{StartSet, UsageError, address, all_of, inputs_in};
 
 /// The options that a command line gives, by its subcommand.
 #[derive(Drop)]
@@ -246,7 +246,7 @@ fn test_options<'a>(
 ) -> Result<TestOptions<'a>, UsageError<WrongOption<'a>>> {
     let logs = all_of(alloc, matches, "LOG")?;
     let blesses = matches.get_flag("bless");
-    if blesses && inputs_among(logs.as_slice()) > 0 {
+    if blesses && inputs_in(matches, &["LOG"]) > 0 {
         return Err(UsageError::Wrong(WrongOption::BlessedInput));
     }
     Ok(TestOptions {

@@ -1,5 +1,7 @@
 //! The files of the system, and its standard input.
 
+ghost use Rattle.std.specs.Prelude.{◌≡◌};
+
 use std::fs::{self, File};
 use std::io::{self, Error, ErrorKind, Read, Stdin};
 
@@ -43,7 +45,9 @@ pub enum Opened {
 
 impl<'a> Files<'a> {
     /// Returns the files of the system, by its runtime, for a program of this name.
-    pub fn new(rt: &'a HostRuntime, program: &'static str) -> Files<'a> {
+    pub fn new(rt: &'a HostRuntime, program: &'static str) -> Files<'a>
+        ensures rt { result.rt ≡ rt.entry }
+    {
         Files { rt, program }
     }
 }

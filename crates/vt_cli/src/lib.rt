@@ -1,6 +1,6 @@
 //! What the programs have in common: command lines, files, lines of JSON, and how a run ends.
 //!
-//! - `CommandLine::command` makes the command for `clap` from a table of subcommands and arguments. `all_of`, `inputs_among`, `inputs_in`,
+//! - `CommandLine::command` makes the command for `clap` from a table of subcommands and arguments. `all_of`, `inputs_in`,
 //!   `address` and `StartSet::new` read the values of options.
 //! - A `UsageError` is a refusal of a command line, generic over the wrong options of a program, and `refuse` tells it. A `Status` is
 //!   how a run ended.
@@ -37,5 +37,5 @@ pub use reading::{read_file, read_names, read_pool_file};
 pub use refusal::{UsageError, refuse};
 pub use start_set::StartSet;
 pub use status::Status;
-pub use values::{address, all_of, inputs_among, inputs_in};
+pub use values::{address, all_of, inputs_in};
 pub use writing::{make_folder, save_file};

@@ -19,17 +19,12 @@ pub fn all_of<'a>(
     }
 }
 
-/// How many of the paths are that of the standard input.
-pub fn inputs_among(paths: &[&str]) -> usize {
-    paths.iter().filter(|path| **path == "-").count()
-}
-
 /// How many of the values of these arguments are the path of the standard input.
 pub fn inputs_in(matches: &ArgMatches<'_>, arguments: &[&str]) -> usize {
     arguments
         .iter()
         .filter_map(|argument| matches.get_strs(argument))
-        .map(inputs_among)
+        .map(|paths| paths.iter().filter(|path| **path == "-").count())
         .fold(0, usize::saturating_add)
 }
 
