@@ -15,7 +15,7 @@
     status 1
 
 A session runs in a folder of its own. `use` copies files into it (`as NAME` gives another name, a pool's text `x.pool` becomes `x.iop`),
-`file` and `pool` make one. `< FILE` gives the standard input, `> FILE` takes the output. Behind a command stand what it wrote and a
+`file` and `pool` make one, and `link NAME to TARGET` a symbolic link. `< FILE` gives the standard input, `> FILE` takes the output. Behind a command stand what it wrote and a
 status other than 0: a file that equals one that is there is `wrote NEW as OLD`.
 """
 import glob
@@ -39,7 +39,7 @@ class BadTest(Exception):
 
 
 # What may stand behind each head line.
-BEHIND = {'$': ('|', '!', 'status ', 'wrote ', 'removed '), 'file': ('|',), 'pool': ('|',), 'use': ()}
+BEHIND = {'$': ('|', '!', 'status ', 'wrote ', 'removed '), 'file': ('|',), 'pool': ('|',), 'link': (), 'use': ()}
 
 
 class Block:
@@ -63,10 +63,10 @@ def blocks_of(text):
             if not line.startswith(BEHIND[verb]):
                 raise BadTest(f'{number}: this line may not stand behind {blocks[-1].head if blocks else "nothing"}')
             blocks[-1].body.append((number, line))
-        elif line.startswith(('$ ', 'use ', 'file ', 'pool ')):
+        elif line.startswith(('$ ', 'use ', 'file ', 'pool ', 'link ')):
             blocks.append(Block(number, line))
         else:
-            raise BadTest(f'{number}: a line begins with $, use, file, pool, |, !, wrote, removed, status or #, and not so: {line[:60]}')
+            raise BadTest(f'{number}: a line begins with $, use, file, pool, link, |, !, wrote, removed, status or #, and not so: {line[:60]}')
     if not any(block.head.startswith('$') for block in blocks):
         raise BadTest('1: it has no command line')
     return blocks
@@ -108,9 +108,21 @@ def use(top, test, room, words):
         put(f'{room}/{name or own}', pool_at(path))
 
 
+def link(room, rest):
+    """Makes a symbolic link."""
+    name, _, target = rest.partition(' to ')
+    os.makedirs(os.path.dirname(f'{room}/{name}'), exist_ok=True)
+    os.symlink(target, f'{room}/{name}')
+
+
+def content(path):
+    """The bytes of a file, or what a symbolic link is told as."""
+    return f'link to {os.readlink(path)}'.encode() if os.path.islink(path) else read(path)
+
+
 def files_in(room):
     """The bytes of each file below the folder, by its path."""
-    return {os.path.relpath(f'{at}/{name}', room): read(f'{at}/{name}') for at, _, names in os.walk(room) for name in names}
+    return {os.path.relpath(f'{at}/{name}', room): content(f'{at}/{name}') for at, _, names in os.walk(room) for name in names}
 
 
 def told_file(path, data, before):
@@ -169,6 +181,8 @@ def results_of(top, test, programs):
                     use(top, test, room, rest.split())
                 elif verb == 'file':
                     put(f'{room}/{rest}', block.data())
+                elif verb == 'link':
+                    link(room, rest)
                 elif verb == 'pool':
                     put(f'{room}/{rest}', pools.pool_of(block.data().decode('utf-8')))
                 else:

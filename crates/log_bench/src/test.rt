@@ -8,7 +8,7 @@ use log_replay::{LoadedSet, Log, new_terminal, read_set};
 use log_words::{TerminalOptions, TestOptions};
 use std::alloc::{AllocError, Global};
 use std::io::{self, Error, ErrorKind, Write};
-use vt_cli::{Open, Program, Save, Status, save_file};
+use vt_cli::{Open, Program, Save, Status, overwrite_file};
 use vt_logs::ReplayFault;
 use vt_recorded::{LineHint, Survey};
 use vt_server::Terminal;
@@ -142,7 +142,7 @@ fn write_blessed<F: Save, W: Write, E: Write>(
         writeln!(out, "{path}: as it was")?;
         return Ok(Status::Clean);
     }
-    if !save_file(path, &blessed.text, files, errors)? {
+    if !overwrite_file(path, &blessed.text, files, errors)? {
         return Ok(Status::NotJudged);
     }
     writeln!(out, "{path}: written")?;

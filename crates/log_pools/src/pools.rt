@@ -13,7 +13,7 @@ use std::alloc::{AllocError, Global};
 use std::io::{self, Write};
 use vt_can::assigned::ECU_TO_VT;
 use vt_can::{Frame, Line, LineFault};
-use vt_cli::{Open, Save, Status, make_folder, read_names, save_file};
+use vt_cli::{Open, Save, Status, make_folder, read_names, save_file, tell_replaced};
 use vt_frames_text::PoolRequest;
 
 /// Prints every upload of a log, and the verdict on it.
@@ -53,6 +53,9 @@ pub fn run_pools<F: Open + Save, W: Write, E: Messages>(
         return Ok(Status::NotJudged);
     }
     hearing.put_unended(out)?;
+    if let Some(folder) = folder {
+        tell_replaced(folder, files, errors);
+    }
     Ok(hearing.status)
 }
 
@@ -166,17 +169,16 @@ impl Hearing<'_> {
     ) -> io::Result<Status> {
         let report = self.report;
         let number = self.sets.next_number(upload.source)?;
-        let path = report.path_of(upload.source, number)?;
+        let name = format!(in report.alloc; "{:02X}-{number}.iop", upload.source)?;
         let objects = self.sets.objects(upload.source, upload.destination);
         let is_update = objects.is_some();
         let verdict = Verdict::of_upload(report.alloc, &upload.bytes, objects)?;
+        let saved = report.save(name.as_str(), &upload.bytes, files, errors)?;
+        let is_lost = report.folder.is_some() && saved.is_none();
         let end = UploadEnd { line, is_update };
-        report.put_verdict(end, upload, &verdict, path.as_str(), out)?;
+        report.put_verdict(end, upload, &verdict, name.as_str(), saved, out)?;
         let found = self.sets.judge(upload, verdict)?;
-        if report.folder.is_some() && !save_file(path.as_str(), &upload.bytes, files, errors)? {
-            return Ok(Status::NotJudged);
-        }
-        Ok(found)
+        Ok(if is_lost { Status::NotJudged } else { found })
     }
 
     /// Reports the transfers and uploads that are not ended.
@@ -203,24 +205,35 @@ struct Report<'a> {
 }
 
 impl Report<'_> {
-    /// The path of the file for the upload of an implement that has this number.
-    fn path_of(&self, source: u8, number: u64) -> Result<String, AllocError> {
-        match self.folder {
-            Some(folder) => format!(in self.alloc; "{folder}/{source:02X}-{number}.iop"),
-            None => format!(in self.alloc; "{source:02X}-{number}.iop"),
-        }
+    /// Saves a pool in the folder, and returns the path of its file. `None` if there is no folder, or it cannot be saved: then `errors`
+    /// receives the reason.
+    fn save<F: Save, E: Write>(
+        &self,
+        name: &str,
+        bytes: &[u8],
+        files: &mut F,
+        errors: &mut E,
+    ) -> io::Result<Option<String>> {
+        let Some(folder) = self.folder else {
+            return Ok(None);
+        };
+        let path = format!(in self.alloc; "{folder}/{name}")?;
+        let is_saved = save_file(path.as_str(), bytes, files, errors)?;
+        Ok(is_saved.then_some(path))
     }
 
-    /// Writes the line of an upload, and each fault of a pool that is not accepted.
+    /// Writes the line of an upload, with the file of its pool if it is saved, and each fault of a pool that is not accepted.
     fn put_verdict<W: Write>(
         &self,
         end: UploadEnd,
         upload: &Upload,
         verdict: &Verdict,
-        path: &str,
+        name: &str,
+        saved: Option<String>,
         out: &mut W,
     ) -> io::Result<()> {
-        let file = self.folder.map(|_| path);
+        let file = saved.as_deref();
+        let path = file.unwrap_or(name);
         put_upload(self.alloc, end, upload, verdict, file, self.format, out)?;
         match verdict {
             Verdict::Faulty(_) | Verdict::Refused(_) if !end.is_update => {

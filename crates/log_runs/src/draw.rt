@@ -8,7 +8,7 @@ use std::alloc::Global;
 use std::io::{self, Write};
 use std::mem;
 use vt_can::{Line, LineFault};
-use vt_cli::{Open, Save, Status, make_folder, save_file};
+use vt_cli::{Open, Save, Status, make_folder, save_file, tell_replaced};
 use vt_server::{Output, Terminal};
 
 /// Draws the screen after each line of a log that changes the screen's text.
@@ -87,6 +87,7 @@ impl Gallery<'_> {
         self.look(0, files, out, errors)?;
         replay.log.pass(self, files, out, errors)?;
         replay.tell_loss(&self.terminal, files, errors);
+        tell_replaced(self.folder, files, errors);
         Ok(self.status)
     }
 
@@ -130,10 +131,11 @@ impl Gallery<'_> {
             return Ok(Status::Clean);
         };
         let path = format!(in self.alloc; "{}/line-{number}.svg", self.folder)?;
-        writeln!(out, " -> {path}")?;
         if save_file(path.as_str(), &picture, files, errors)? {
+            writeln!(out, " -> {path}")?;
             Ok(Status::Clean)
         } else {
+            writeln!(out)?;
             Ok(Status::NotJudged)
         }
     }

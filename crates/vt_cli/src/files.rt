@@ -3,7 +3,10 @@
 ghost use Rattle.std.specs.Prelude.{◌≡◌};
 
 use std::fs::{self, File};
-use std::io::{self, Error, ErrorKind, Read, Stdin};
+use std::io::{self, Error, ErrorKind, Read, Stdin, Write};
+
+/// The end of the name of a file that is being written.
+const PART: &str = ".segyolant-part";
 
 /// A program that reads and writes files, by its name.
 pub trait Program {
@@ -20,11 +23,29 @@ pub trait Open: Program {
 
 /// Writes files by their paths.
 pub trait Save: Program {
-    /// Writes a file. What was in it is replaced.
-    fn save(&mut self, path: &str, bytes: &[u8]) -> io::Result<()>;
+    /// Writes a new file and then moves it to the path, so that an error leaves what is there. A symbolic link at the path is replaced,
+    /// not followed. Returns what was replaced.
+    fn save(&mut self, path: &str, bytes: &[u8]) -> io::Result<Replaced>;
+
+    /// How many files were replaced so far.
+    fn replaced(&self) -> u64;
+
+    /// Writes into the file at the path, or the one that a symbolic link there names. What was in it is gone, also after an error.
+    fn overwrite(&mut self, path: &str, bytes: &[u8]) -> io::Result<()>;
 
     /// Makes a folder, unless it is there.
     fn make_folder(&mut self, path: &str) -> io::Result<()>;
+}
+
+/// What a saved file replaced.
+#[derive(Clone, Copy, PartialEq, Eq)]
+pub enum Replaced {
+    /// Nothing.
+    Nothing,
+    /// A file.
+    File,
+    /// A symbolic link. What it names is unchanged.
+    Link,
 }
 
 /// The files of the system. The path `-` is the standard input.
@@ -32,6 +53,7 @@ pub trait Save: Program {
 pub struct Files<'a> {
     rt: &'a HostRuntime,
     program: &'static str,
+    replaced: u64,
 }
 
 /// An open file, or the standard input.
@@ -48,7 +70,16 @@ impl<'a> Files<'a> {
     pub fn new(rt: &'a HostRuntime, program: &'static str) -> Files<'a>
         ensures rt { result.rt ≡ rt.entry }
     {
-        Files { rt, program }
+        Files {
+            rt,
+            program,
+            replaced: 0,
+        }
+    }
+
+    /// Makes a file that is not there, with these bytes.
+    fn create(&self, path: &str, bytes: &[u8]) -> io::Result<()> {
+        File::create_new(self.rt, path)?.write_all(bytes)
     }
 }
 
@@ -84,7 +115,41 @@ impl Open for Files<'_> {
 }
 
 impl Save for Files<'_> {
-    fn save(&mut self, path: &str, bytes: &[u8]) -> io::Result<()> {
+    fn save(&mut self, path: &str, bytes: &[u8]) -> io::Result<Replaced> {
+        let replaced = match fs::symlink_metadata(self.rt, path) {
+            Ok(found) if found.is_symlink() => Replaced::Link,
+            Ok(found) if found.is_file() => Replaced::File,
+            Ok(found) if found.is_dir() => return Err(Error::from(ErrorKind::IsADirectory)),
+            // A device or a pipe takes the bytes itself.
+            Ok(_) => {
+                fs::write(self.rt, path, bytes)?;
+                return Ok(Replaced::Nothing);
+            }
+            Err(error) if error.kind() == ErrorKind::NotFound => Replaced::Nothing,
+            Err(error) => return Err(error),
+        };
+        let beside = format!(in self.rt.alloc(); "{path}{PART}")?;
+        // One that a run left which was ended.
+        let _ = fs::remove_file(self.rt, &beside);
+        let mut saved = self.create(&beside, bytes);
+        if saved.is_ok() {
+            saved = fs::rename(self.rt, &beside, path);
+        }
+        if let Err(error) = saved {
+            let _ = fs::remove_file(self.rt, &beside);
+            return Err(error);
+        }
+        if replaced != Replaced::Nothing {
+            self.replaced = self.replaced.saturating_add(1);
+        }
+        Ok(replaced)
+    }
+
+    fn replaced(&self) -> u64 {
+        self.replaced
+    }
+
+    fn overwrite(&mut self, path: &str, bytes: &[u8]) -> io::Result<()> {
         fs::write(self.rt, path, bytes)
     }
 

@@ -5,8 +5,9 @@
 //! - A `UsageError` is a refusal of a command line, generic over the wrong options of a program, and `refuse` tells it. A `Status` is
 //!   how a run ended.
 //! - `Open` opens files by their paths, and `Save` writes files and makes folders. `Files` are those of the system. `read_file`,
-//!   `read_pool_file` and `read_names` read whole files, `save_file` writes a file, and `make_folder` makes a folder. If one fails, it writes
-//!   the name of the `Program`, the path and the reason.
+//!   `read_pool_file` and `read_names` read whole files, `save_file` writes a file beside the old one and moves it there, `overwrite_file` writes into it, and `make_folder`
+//!   makes a folder. If one fails, it writes the name of the `Program`, the path and the reason. `tell_replaced` says how many files
+//!   were replaced.
 //! - A `JsonLine` is an object of JSON that is built member by member and written as a line.
 //! - `words_of` collects the words of the process, and `exit_code` ends it: with them, `main` of a program is a page.
 //!
@@ -30,7 +31,7 @@ mod writing;
 
 pub use argument::{Allowed, Argument, Form};
 pub use command_line::{CommandLine, Subcommand, VERSION};
-pub use files::{Files, Open, Opened, Program, Save};
+pub use files::{Files, Open, Opened, Program, Replaced, Save};
 pub use json_line::JsonLine;
 pub use process::{exit_code, words_of};
 pub use reading::{read_file, read_names, read_pool_file};
@@ -38,4 +39,4 @@ pub use refusal::{UsageError, refuse};
 pub use start_set::StartSet;
 pub use status::Status;
 pub use values::{address, all_of, inputs_in};
-pub use writing::{make_folder, save_file};
+pub use writing::{make_folder, overwrite_file, save_file, tell_replaced};

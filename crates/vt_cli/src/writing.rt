@@ -1,9 +1,10 @@
 //! Files and folders that are written.
 
-use crate::files::Save;
+use crate::files::{Replaced, Save};
 use std::io::{self, Error, ErrorKind, Write};
 
-/// Writes a file, and returns whether it is written. If it is not, `errors` receives the reason.
+/// Writes a file by `Save::save`, and returns whether it is written. If it is not, `errors` receives the reason, and what was there is
+/// unchanged. If it replaced a symbolic link, `errors` receives that.
 pub fn save_file<F: Save, E: Write>(
     path: &str,
     bytes: &[u8],
@@ -11,7 +12,35 @@ pub fn save_file<F: Save, E: Write>(
     errors: &mut E,
 ) -> io::Result<bool> {
     let saved = files.save(path, bytes);
-    is_done(saved, files.name(), path, errors)
+    let program = files.name();
+    if matches!(saved, Ok(Replaced::Link)) {
+        let _ = writeln!(
+            errors,
+            "{program}: {path}: a symbolic link was replaced; what it names is unchanged"
+        );
+    }
+    is_done(saved.map(|_| ()), program, path, errors)
+}
+
+/// Writes into a file by `Save::overwrite`, and returns whether it is written. If it is not, `errors` receives the reason.
+pub fn overwrite_file<F: Save, E: Write>(
+    path: &str,
+    bytes: &[u8],
+    files: &mut F,
+    errors: &mut E,
+) -> io::Result<bool> {
+    let written = files.overwrite(path, bytes);
+    is_done(written, files.name(), path, errors)
+}
+
+/// Writes to `errors` how many of the files that were saved at a path or in a folder replaced another.
+pub fn tell_replaced<F: Save, E: Write>(path: &str, files: &F, errors: &mut E) {
+    let program = files.name();
+    let _ = match files.replaced() {
+        0 => Ok(()),
+        1 => writeln!(errors, "{program}: {path}: 1 file was replaced"),
+        count => writeln!(errors, "{program}: {path}: {count} files were replaced"),
+    };
 }
 
 /// Makes a folder unless it exists, and returns whether it exists then. If it does not, `errors` receives the reason.
