@@ -4,7 +4,7 @@ ghost use Rattle.std.specs.Prelude.{◌≡◌, IfOk};
 ghost use Rattle.log_bench.specs.Statuses.{status_of};
 
 use crate::{Blessed, LineDifference, bless, differences};
-use log_replay::{LoadedSet, Log, new_terminal, read_set};
+use log_replay::{LoadedSet, Log, new_terminal, read_set, tell_loss};
 use log_words::{TerminalOptions, TestOptions};
 use std::alloc::{AllocError, Global};
 use std::io::{self, Error, ErrorKind, Write};
@@ -77,6 +77,7 @@ impl Bench<'_> {
             Err(fault) => return not_replayed(path, fault, files, errors),
         };
         let status = put_differences(self.alloc, path, differences.as_slice(), out)?;
+        self.tell_loss(path, &terminal, files, errors);
         if status == Status::Found {
             if let Some(hint) = Survey::of(self.alloc, bytes)?.hint {
                 let _ = writeln!(errors, "{}: {path}: {hint}", files.name());
@@ -85,8 +86,9 @@ impl Bench<'_> {
         Ok(status)
     }
 
-    /// Writes a log anew, with the expectations that it meets. It stays if it has them already, if it is a file of another form, or if it
-    /// has neither a frame nor an action of the operator and no working set is there from the start.
+    /// Writes a log anew, with the expectations that it meets. It stays if it has them already, if it is a file of another form, if it
+    /// has neither a frame nor an action of the operator and no working set is there from the start, or if the terminal loses its address
+    /// and `--name` does not say that its NAME is the one that is meant.
     fn bless<F: Save, W: Write, E: Write>(
         &self,
         log: &Log<'_>,
@@ -109,9 +111,23 @@ impl Bench<'_> {
                 log.tell_no_frame(files, errors)?;
                 Ok(Status::NotJudged)
             }
+            Ok(_)
+                if self.tell_loss(path, &terminal, files, errors) && self.terminal.name.is_none() =>
+                { Ok(Status::NotJudged) }
             Ok(blessed) => write_blessed(path, bytes, &blessed, files, out, errors),
             Err(fault) => not_replayed(path, fault, files, errors),
         }
+    }
+
+    /// Writes to `errors` that the terminal lost its address, if it did. Returns whether it did.
+    fn tell_loss<F: Program, E: Write>(
+        &self,
+        path: &str,
+        terminal: &Terminal,
+        files: &F,
+        errors: &mut E,
+    ) -> bool {
+        tell_loss(path, self.terminal.own, terminal, files, errors)
     }
 
     /// A terminal before its first input.

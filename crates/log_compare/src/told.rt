@@ -88,6 +88,7 @@ impl Telling<'_> {
         }
         let mut object = JsonLine::new(self.alloc);
         object.put_text("kind", "load")?;
+        object.put_bytes_if("label", request.label())?;
         object.put_number("line", line)?;
         object.put_text("request", request)?;
         object.put_address("source", source)?;

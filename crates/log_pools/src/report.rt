@@ -207,6 +207,7 @@ pub(crate) fn put_request<W: Write>(
     let mut object = JsonLine::new(alloc);
     object.put_address("destination", destination)?;
     object.put_text("kind", "request")?;
+    object.put_bytes_if("label", request.label())?;
     object.put_number("last_line", line)?;
     object.put_text("request", request)?;
     object.put_address("source", source)?;

@@ -23,5 +23,5 @@ pub use claims::{Load, Recorded};
 pub use log::{Log, Pass};
 pub use messages::Messages;
 pub use reader::LogReader;
-pub use replay::{Replay, input_of};
+pub use replay::{Replay, input_of, tell_loss};
 pub use start::{LoadedSet, new_terminal, read_set};

@@ -67,16 +67,27 @@ impl<'a> Replay<'a> {
 
     /// Writes to `errors` that the terminal has lost its address, if it has.
     pub fn tell_loss<F: Program, E: Write>(&self, terminal: &Terminal, files: &F, errors: &mut E) {
-        if terminal.is_lost() {
-            let _ = writeln!(
-                errors,
-                "{}: {}: the terminal lost its address {:02X} to a lower NAME, and was silent from then on; --name gives it another NAME",
-                files.name(),
-                self.log.path(),
-                self.options.own
-            );
-        }
+        tell_loss(self.log.path(), self.options.own, terminal, files, errors);
     }
+}
+
+/// Writes to `errors` that the terminal lost its address, if it did. Returns whether it did.
+pub fn tell_loss<F: Program, E: Write>(
+    path: &str,
+    own: u8,
+    terminal: &Terminal,
+    files: &F,
+    errors: &mut E,
+) -> bool {
+    let is_lost = terminal.is_lost();
+    if is_lost {
+        let _ = writeln!(
+            errors,
+            "{}: {path}: the terminal lost its address {own:02X} to a lower NAME, and was silent from then on; --name gives it another NAME",
+            files.name()
+        );
+    }
+    is_lost
 }
 
 /// The input of a line: its frame, or the action of its operator. `None` for any other line.

@@ -13,7 +13,7 @@ const RELEASED: u8 = 0;
 const PRESSED: u8 = 1;
 
 /// The action that a message of a terminal reports. `None` if it reports none, or one that no operator line can say: a text with a
-/// newline or a carriage return, or the object 65535.
+/// newline, or the object 65535.
 pub(crate) fn action_in(message: &[u8]) -> Option<Action<'_>> {
     match message {
         [
@@ -32,7 +32,7 @@ pub(crate) fn action_in(message: &[u8]) -> Option<Action<'_>> {
         }
         [STRING_VALUE, low, high, length, text @ ..] => {
             let text = text.get(..usize::from(*length))?;
-            let is_line = !text.iter().any(|byte| matches!(byte, b'\n' | b'\r'));
+            let is_line = !text.contains(&b'\n');
             is_line.then_some(Action::Text(id(*low, *high)?, text))
         }
         _ => None,
@@ -64,6 +64,10 @@ pub(crate) fn put_action<W: Write>(action: Action<'_>, out: &mut W) -> io::Resul
         Action::Text(id, text) => {
             write!(out, "! text {id} ")?;
             out.write_all(text)?;
+            // A line loses one carriage return at its end.
+            if text.ends_with(b"\r") {
+                out.write_all(b"\r")?;
+            }
             out.write_all(b"\n")
         }
         Action::Set(address) => writeln!(out, "! set {address:02X}"),

@@ -74,6 +74,20 @@ impl JsonLine {
         }
     }
 
+    /// Adds a member with the text that bytes are in UTF-8, a replacement character for each fault, or `null` if there are no bytes. After
+    /// `OutOfMemory` the object is unchanged.
+    pub fn put_bytes_if(&mut self, name: &str, bytes: Option<&[u8]>) -> Result<(), AllocError>
+        ensures { OnErr result (self.new.members.entries ≡ self.old.members.entries) }
+    {
+        match bytes {
+            Some(bytes) => {
+                let text = String::from_utf8_lossy(self.alloc, bytes)?;
+                self.put(name, Value::String(text))
+            }
+            None => self.put(name, Value::Null),
+        }
+    }
+
     /// Adds a member with a number, or `null` if there is none. After `OutOfMemory` the object is unchanged.
     pub fn put_number_if(&mut self, name: &str, value: Option<u64>) -> Result<(), AllocError>
         ensures ok { OnOk result (members_view self.new.members.entries ≡ with_member name.now (number_or_null value) (members_view self.old.members.entries)) }

@@ -43,6 +43,16 @@ impl<'a> PoolRequest<'a> {
             _ => None,
         }
     }
+
+    /// The label of the request, if it has one.
+    pub fn label(&self) -> Option<&'a [u8]> {
+        match *self {
+            PoolRequest::Store(label) | PoolRequest::Load(label) | PoolRequest::Delete(label) => {
+                Some(label)
+            }
+            PoolRequest::DeletePool | PoolRequest::GetVersions => None,
+        }
+    }
 }
 
 impl fmt::Display for PoolRequest<'_> {

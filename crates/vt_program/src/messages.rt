@@ -1,4 +1,5 @@
-//! Messages on the error output about a replay: its end, its faulty lines and the refused actions of the operator.
+//! Messages on the error output about a replay: its end, its faulty lines, the refused actions of the operator, and the loss of the
+//! terminal's address.
 
 use crate::sentences::{FaultyLines, RefusedAction, ReplaySentence};
 use std::io::{self, Write};
@@ -29,4 +30,12 @@ pub(crate) fn print_notes<E: Write>(notes: &Notes, log: &str, errors: &mut E) {
         let sentence = RefusedAction { refused };
         let _ = writeln!(errors, "vt_replay: {log}: {sentence}");
     }
+}
+
+/// Prints that the terminal lost its address.
+pub(crate) fn print_loss<E: Write>(log: &str, own: u8, errors: &mut E) {
+    let _ = writeln!(
+        errors,
+        "vt_replay: {log}: the terminal lost its address {own:02X} to a lower NAME, and was silent from then on; --name gives it another NAME"
+    );
 }

@@ -11,7 +11,7 @@ ghost use Rattle.vt_pool.specs.Pools.{contents};
 ghost use Rattle.vt_server.specs.States.{state_of};
 
 use crate::fault::Fault;
-use crate::messages::{print_notes, print_replay_fault};
+use crate::messages::{print_loss, print_notes, print_replay_fault};
 use crate::options::{Options, Preload, UsageError};
 use crate::pool_sentences::{FaultSentence, Named, RefusalSentence};
 use crate::sentences::ReplaySentence;
@@ -92,8 +92,12 @@ pub fn run<S: AsStr, F: Open, W: Sink, E: Write>(
         return print_report(alloc, options.file, files, out, errors);
     }
     let mut notes = Notes::new();
-    let result = replay_log(alloc, &options, files, out, &mut notes);
+    let mut is_lost = false;
+    let result = replay_log(alloc, &options, files, out, &mut notes, &mut is_lost);
     print_notes(&notes, options.file, errors);
+    if is_lost {
+        print_loss(options.file, options.own, errors);
+    }
     match result {
         Ok(()) => Ok(Status::Done),
         Err(fault) => {
@@ -228,6 +232,7 @@ fn replay_log<'a, F: Open, W: Sink>(
     files: &mut F,
     out: &mut W,
     notes: &mut Notes,
+    is_lost: &mut bool,
 ) -> Result<(), Fault<'a>>
     requires { HasValidAddresses options.now }
     ensures replayed { OnOk result (HasReplayed (F.file files.old) options.now (W.contents out.old) (W.contents out.new)) }
@@ -237,7 +242,9 @@ fn replay_log<'a, F: Open, W: Sink>(
 {
     // One way out of this body, since the end of a terminal takes a copy of it on the stack for each.
     let mut terminal = Terminal::new(alloc, options.own, options.name);
-    replay_on(alloc, options, files, out, notes, &mut terminal)
+    let result = replay_on(alloc, options, files, out, notes, &mut terminal);
+    *is_lost = terminal.is_lost();
+    result
 }
 
 /// Replays a log with a new terminal.
