@@ -124,11 +124,28 @@ impl<'a> Log<'a> {
                 errors,
                 "{name}: {path}: no frame could be read; expected a log such as candump -L writes"
             ),
-            (_, Some(interface)) => writeln!(
-                errors,
-                "{name}: {path}: no frame of {interface} could be read; expected --interface with an interface of the log"
-            ),
+            (_, Some(interface)) => match self.read_all()?.interfaces() {
+                Some(there) => writeln!(
+                    errors,
+                    "{name}: {path}: no frame of {interface} could be read; the log has frames of {there}"
+                ),
+                None => writeln!(
+                    errors,
+                    "{name}: {path}: no frame of {interface} could be read; expected --interface with an interface of the log"
+                ),
+            },
         };
         Ok(())
+    }
+
+    /// The reader of a whole log, after the lines of all interfaces.
+    fn read_all(&self) -> io::Result<LogReader<'a>> {
+        let mut reader = LogReader::new(self.alloc, None);
+        let text = self.text();
+        let mut cursor = LineCursor::new(text);
+        for end in line_ends(text) {
+            let _ = reader.read(cursor.next_line(end))?;
+        }
+        Ok(reader)
     }
 }

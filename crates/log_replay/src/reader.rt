@@ -6,6 +6,7 @@ ghost use Rattle.log_replay.specs.Interfaces.{IsReadingFrom, wanted};
 
 use memchr::memchr;
 use std::alloc::{AllocError, Global};
+use std::fmt;
 use std::io::Write;
 use vt_can::{Line, LineFault};
 use vt_cli::Program;
@@ -60,6 +61,25 @@ impl<'a> LogReader<'a> {
         !self.remarks.first.is_empty()
     }
 
+    /// The interfaces whose frames were read. `None` if there are none, or if their names are no printable text.
+    pub fn interfaces(&self) -> Option<Interfaces<'_>> {
+        let Remarks {
+            other,
+            has_more,
+            ..
+        } = &self.remarks;
+        let other = if other.is_empty() {
+            None
+        } else {
+            Some(printable(other)?)
+        };
+        Some(Interfaces {
+            first: self.remarks.first_name()?,
+            other,
+            has_more: *has_more,
+        })
+    }
+
     /// Writes to `errors` how many of the lines of a log were faulty, if some were, and that frames of several interfaces were read, if
     /// they were.
     pub fn tell_lines<F: Program, E: Write>(&self, path: &str, files: &F, errors: &mut E) {
@@ -77,6 +97,33 @@ impl<'a> LogReader<'a> {
         }
         self.remarks.tell_interfaces(program, path, errors);
     }
+}
+
+/// The interfaces of a log, in words: the first two, and whether there are more.
+#[derive(Clone, Copy, Drop)]
+pub struct Interfaces<'a> {
+    first: &'a str,
+    other: Option<&'a str>,
+    has_more: bool,
+}
+
+impl fmt::Display for Interfaces<'_> {
+    fn fmt<W: fmt::Write>(&self, f: &mut fmt::Formatter<W>) -> fmt::Result {
+        let first = self.first;
+        match self.other {
+            None => write!(f, "{first}"),
+            Some(other) if self.has_more => write!(f, "{first}, {other} and others"),
+            Some(other) => write!(f, "{first} and {other}"),
+        }
+    }
+}
+
+/// A name as a text, if it is printable.
+fn printable(name: &[u8]) -> Option<&str> {
+    if !name.iter().all(u8::is_ascii_graphic) {
+        return None;
+    }
+    str::from_utf8(name).ok()
 }
 
 /// What people should know of the lines that were read.
@@ -160,16 +207,15 @@ impl Remarks {
 
     /// The names of the first two interfaces, if they are printable text.
     fn names(&self) -> Option<(&str, &str)> {
-        let [_, first @ .., _] = self.first.as_slice() else {
-            return None;
-        };
-        let is_printable = |name: &[u8]| name.iter().all(u8::is_ascii_graphic);
-        if !is_printable(first) || !is_printable(&self.other) {
-            return None;
+        Some((self.first_name()?, printable(&self.other)?))
+    }
+
+    /// The name of the first interface, if there is one and it is printable text.
+    fn first_name(&self) -> Option<&str> {
+        match self.first.as_slice() {
+            [_, first @ .., _] => printable(first),
+            _ => None,
         }
-        str::from_utf8(first)
-            .ok()
-            .zip(str::from_utf8(&self.other).ok())
     }
 
     /// Whether an interface is the first one.
