@@ -190,12 +190,12 @@ fn needs_options<'a>(
     })
 }
 
-/// The area of a text such as `480x480`.
+/// The area of a text such as `480x480`. Neither side is 0.
 pub(crate) fn area(text: &str) -> Option<Area> {
     let (width, height) = text.split_once('x')?;
     let width = width.parse::<u16>().ok()?;
     let height = height.parse::<u16>().ok()?;
-    Some(Area { width, height })
+    (width > 0 && height > 0).then_some(Area { width, height })
 }
 
 fn diff_options<'a>(

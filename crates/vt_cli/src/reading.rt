@@ -46,8 +46,12 @@ pub fn read_pool_file<F: Open, E: Write>(
     Ok(bytes)
 }
 
-/// Whether bytes are a text that is not empty: graphic characters and blanks, and bytes above 127.
+/// Whether bytes are a text that is not empty: graphic characters and blanks, and bytes above 127; or the beginning of one in UTF-16, a
+/// byte order mark and a character of ASCII.
 fn is_text(bytes: &[u8]) -> bool {
+    if let [0xFF, 0xFE, _, 0, ..] | [0xFE, 0xFF, 0, _, ..] = bytes {
+        return true;
+    }
     let is_of_text = |byte: &u8| matches!(byte, b'\t' | b'\n' | b'\r' | b' '..=b'~' | 0x80..);
     !bytes.is_empty() && bytes.iter().all(is_of_text)
 }

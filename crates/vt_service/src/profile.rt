@@ -43,6 +43,8 @@ pub(crate) fn profile_in(request: &Value) -> Result<Profile, Malformed>
     let keys = soft_keys_in(request, standard)?;
     let fonts = fonts_in(request, standard)?;
     let hardware = hardware_in(request, standard)?;
+    let width = number_or(request, Member::Width, u64::from(standard.width))? as u16;
+    let height = number_or(request, Member::Height, u64::from(standard.height))? as u16;
     Ok(Profile {
         memory,
         soft_key_width: keys.width,
@@ -55,43 +57,53 @@ pub(crate) fn profile_in(request: &Value) -> Result<Profile, Malformed>
         boot_time: hardware.boot_time,
         graphic_type: hardware.graphic_type,
         hardware: hardware.hardware,
-        width: number_or(request, Member::Width, u64::from(standard.width))? as u16,
-        height: number_or(request, Member::Height, u64::from(standard.height))? as u16,
+        width,
+        height,
     })
 }
 
 fn soft_keys_in(request: &Value, standard: Profile) -> Result<SoftKeys, Malformed>
     ensures { result ≡ soft_keys_in (view request.now) standard }
 {
+    let width = byte_or(request, Member::SoftKeyWidth, standard.soft_key_width)?;
+    let height = byte_or(request, Member::SoftKeyHeight, standard.soft_key_height)?;
+    let in_navigation = byte_or(request, Member::VirtualSoftKeys, standard.virtual_soft_keys)?;
+    let physical = byte_or(
+        request,
+        Member::PhysicalSoftKeys,
+        standard.physical_soft_keys,
+    )?;
     Ok(SoftKeys {
-        width: byte_or(request, Member::SoftKeyWidth, standard.soft_key_width)?,
-        height: byte_or(request, Member::SoftKeyHeight, standard.soft_key_height)?,
-        in_navigation: byte_or(request, Member::VirtualSoftKeys, standard.virtual_soft_keys)?,
-        physical: byte_or(
-            request,
-            Member::PhysicalSoftKeys,
-            standard.physical_soft_keys,
-        )?,
+        width,
+        height,
+        in_navigation,
+        physical,
     })
 }
 
 fn fonts_in(request: &Value, standard: Profile) -> Result<Fonts, Malformed>
     ensures { result ≡ fonts_in (view request.now) standard }
 {
+    let small = byte_or(request, Member::SmallFonts, standard.small_fonts)?;
+    let large = byte_or(request, Member::LargeFonts, standard.large_fonts)?;
+    let styles = byte_or(request, Member::FontStyles, standard.font_styles)?;
     Ok(Fonts {
-        small: byte_or(request, Member::SmallFonts, standard.small_fonts)?,
-        large: byte_or(request, Member::LargeFonts, standard.large_fonts)?,
-        styles: byte_or(request, Member::FontStyles, standard.font_styles)?,
+        small,
+        large,
+        styles,
     })
 }
 
 fn hardware_in(request: &Value, standard: Profile) -> Result<Hardware, Malformed>
     ensures { result ≡ hardware_in (view request.now) standard }
 {
+    let boot_time = byte_or(request, Member::BootTime, standard.boot_time)?;
+    let graphic_type = byte_or(request, Member::GraphicType, standard.graphic_type)?;
+    let hardware = byte_or(request, Member::Hardware, standard.hardware)?;
     Ok(Hardware {
-        boot_time: byte_or(request, Member::BootTime, standard.boot_time)?,
-        graphic_type: byte_or(request, Member::GraphicType, standard.graphic_type)?,
-        hardware: byte_or(request, Member::Hardware, standard.hardware)?,
+        boot_time,
+        graphic_type,
+        hardware,
     })
 }
 
