@@ -91,8 +91,7 @@ pub fn layout(kind: Kind) -> &'static [FieldLayout]
             WORD WORD BYTE BYTE BYTE BYTE WORD WORD WORD WORD WORD WORD MACRO_COUNT MACROS
         ],
         Kind::ArchedBar => fields![
-            WORD WORD BYTE BYTE BYTE BYTE BYTE WORD WORD WORD WORD WORD WORD WORD MACRO_COUNT
-            MACROS
+            WORD WORD BYTE BYTE BYTE BYTE BYTE WORD WORD WORD WORD WORD WORD WORD MACRO_COUNT MACROS
         ],
         Kind::Picture => fields![
             WORD WORD WORD BYTE BYTE BYTE LONG_COUNT MACRO_COUNT CONTENT MACROS

@@ -270,17 +270,13 @@ fn picture<B: AsSlice<u8>>(o: &Picture<B>) -> Values<'_>
 fn number_variable(o: &NumberVariable) -> Values<'_>
     ensures { AreValuesIn number_variable o.now result.items }
 {
-    values![
-        Long o.value
-    ]
+    values![Long o.value]
 }
 
 fn string_variable<B: AsSlice<u8>>(o: &StringVariable<B>) -> Values<'_>
     ensures { AreValuesIn (string_variable {B = List ℕ}) (seen_string_variable o.now) result.items }
 {
-    values![
-        LongCount o.text.as_slice().len() as u16, Bytes o.text.as_slice()
-    ]
+    values![LongCount o.text.as_slice().len() as u16, Bytes o.text.as_slice()]
 }
 
 fn font(o: &Font) -> Values<'_>
@@ -322,17 +318,13 @@ fn input_attributes<B: AsSlice<u8>>(o: &InputAttributes<B>) -> Values<'_>
 fn object_pointer(o: &ObjectPointer) -> Values<'_>
     ensures { AreValuesIn object_pointer o.now result.items }
 {
-    values![
-        Word o.value.raw()
-    ]
+    values![Word o.value.raw()]
 }
 
 fn macro_object<B: AsSlice<u8>>(o: &Macro<B>) -> Values<'_>
     ensures { AreValuesIn (macro_object {B = List ℕ}) (seen_macro_object o.now) result.items }
 {
-    values![
-        LongCount o.bytes.as_slice().len() as u16, Bytes o.bytes.as_slice()
-    ]
+    values![LongCount o.bytes.as_slice().len() as u16, Bytes o.bytes.as_slice()]
 }
 
 /// The list of these values.
