@@ -9,7 +9,6 @@
 #![tactic(auto)]
 
 mod fault;
-mod files;
 mod messages;
 mod options;
 mod pool_sentences;

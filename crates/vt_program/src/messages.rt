@@ -32,10 +32,12 @@ pub(crate) fn print_notes<E: Write>(notes: &Notes, log: &str, errors: &mut E) {
     }
 }
 
-/// Prints that the terminal lost its address.
-pub(crate) fn print_loss<E: Write>(log: &str, own: u8, errors: &mut E) {
-    let _ = writeln!(
-        errors,
-        "vt_replay: {log}: the terminal lost its address {own:02X} to a lower NAME, and was silent from then on; --name gives it another NAME"
-    );
+/// Prints that the terminal lost its address, if it did.
+pub(crate) fn print_loss<E: Write>(is_lost: bool, log: &str, own: u8, errors: &mut E) {
+    if is_lost {
+        let _ = writeln!(
+            errors,
+            "vt_replay: {log}: the terminal lost its address {own:02X} to a lower NAME, and was silent from then on; --name gives it another NAME"
+        );
+    }
 }

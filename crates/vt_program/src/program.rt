@@ -18,6 +18,7 @@ use crate::sentences::ReplaySentence;
 use std::alloc::Global;
 use std::convert::AsStr;
 use std::io::{self, Read, Write};
+use vt_cli::{Files, Opened};
 use vt_judge::{NotAccepted, judge};
 use vt_kinds::{Kind, ObjectId};
 use vt_logs::{Notes, ReplayFault, Sink, Stream, replay_with_notes};
@@ -35,6 +36,14 @@ pub trait Open {
     fn open(&mut self, path: &str) -> io::Result<Self::Reader>
         ensures bytes { IfOk result (λ reader. IfSome (file self.old path.now) (λ bytes. Self.Reader.remaining reader ≡ Some bytes)) }
         ensures stay { file self.new ≡ file self.old };
+}
+
+impl Open for Files<'_> {
+    type Reader = Opened;
+
+    fn open(&mut self, path: &str) -> io::Result<Opened> {
+        vt_cli::Open::open(self, path)
+    }
 }
 
 /// The status with which a run ends.
@@ -95,9 +104,7 @@ pub fn run<S: AsStr, F: Open, W: Sink, E: Write>(
     let mut is_lost = false;
     let result = replay_log(alloc, &options, files, out, &mut notes, &mut is_lost);
     print_notes(&notes, options.file, errors);
-    if is_lost {
-        print_loss(options.file, options.own, errors);
-    }
+    print_loss(is_lost, options.file, options.own, errors);
     match result {
         Ok(()) => Ok(Status::Done),
         Err(fault) => {
