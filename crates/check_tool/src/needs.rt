@@ -81,9 +81,11 @@ fn put_sizes<W: Write>(
         }
     }
     writeln!(out)?;
-    for kind in (0..=u8::MAX).filter_map(Kind::from_number) {
-        if has_kind(objects, kind) {
-            writeln!(out, "kind {} {kind}", kind.number())?;
+    for number in 0..=u8::MAX {
+        if let Some(kind) = Kind::from_number(number) {
+            if has_kind(objects, kind) {
+                writeln!(out, "kind {number} {kind}")?;
+            }
         }
     }
     Ok(())
