@@ -111,10 +111,13 @@ impl Bench<'_> {
                 log.tell_no_frame(files, errors)?;
                 Ok(Status::NotJudged)
             }
-            Ok(_)
-                if self.tell_loss(path, &terminal, files, errors) && self.terminal.name.is_none() =>
-                { Ok(Status::NotJudged) }
-            Ok(blessed) => write_blessed(path, bytes, &blessed, files, out, errors),
+            Ok(blessed) => {
+                let is_lost = self.tell_loss(path, &terminal, files, errors);
+                if is_lost && self.terminal.name.is_none() {
+                    return Ok(Status::NotJudged);
+                }
+                write_blessed(path, bytes, &blessed, files, out, errors)
+            }
             Err(fault) => not_replayed(path, fault, files, errors),
         }
     }

@@ -62,7 +62,7 @@ impl<'a> LogReader<'a> {
     }
 
     /// The interfaces whose frames were read. `None` if there are none, or if their names are no printable text.
-    pub fn interfaces(&self) -> Option<Interfaces<'_>> {
+    pub(crate) fn interfaces(&self) -> Option<Interfaces<'_>> {
         let Remarks {
             other,
             has_more,
@@ -101,7 +101,7 @@ impl<'a> LogReader<'a> {
 
 /// The interfaces of a log, in words: the first two, and whether there are more.
 #[derive(Clone, Copy, Drop)]
-pub struct Interfaces<'a> {
+pub(crate) struct Interfaces<'a> {
     first: &'a str,
     other: Option<&'a str>,
     has_more: bool,

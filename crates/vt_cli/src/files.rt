@@ -24,7 +24,7 @@ pub trait Open: Program {
 /// Writes files by their paths.
 pub trait Save: Program {
     /// Writes a new file and then moves it to the path, so that an error leaves what is there. A symbolic link at the path is replaced,
-    /// not followed. Returns what was replaced.
+    /// not followed; a device or a pipe is not replaced, but receives the bytes. Returns what was replaced.
     fn save(&mut self, path: &str, bytes: &[u8]) -> io::Result<Replaced>;
 
     /// How many files were replaced so far.

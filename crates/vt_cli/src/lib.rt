@@ -5,9 +5,9 @@
 //! - A `UsageError` is a refusal of a command line, generic over the wrong options of a program, and `refuse` tells it. A `Status` is
 //!   how a run ended.
 //! - `Open` opens files by their paths, and `Save` writes files and makes folders. `Files` are those of the system. `read_file`,
-//!   `read_pool_file` and `read_names` read whole files, `save_file` writes a file beside the old one and moves it there, `overwrite_file` writes into it, and `make_folder`
-//!   makes a folder. If one fails, it writes the name of the `Program`, the path and the reason. `tell_replaced` says how many files
-//!   were replaced.
+//!   `read_pool_file` and `read_names` read whole files. `save_file` writes a file beside the old one and moves it there,
+//!   `overwrite_file` writes into it, and `make_folder` makes a folder. If one fails, it writes the name of the `Program`, the path and
+//!   the reason. `tell_replaced` says how many files were replaced.
 //! - A `JsonLine` is an object of JSON that is built member by member and written as a line.
 //! - `words_of` collects the words of the process, and `exit_code` ends it: with them, `main` of a program is a page.
 //!
