@@ -1,8 +1,8 @@
 -- One more line of a log is compared.
-use Rattle.std.proofs.Common.{◌≡◌, ◌∙◌, ℕ, ◌<◌, ◌≤◌, List, [], ◌∷◌, ◌++◌, map, Option, Some, None, Ok, Err, refl, sym, ap, subst, arith, append_assoc}
+use Rattle.std.proofs.Common.{◌≡◌, ◌∙◌, ℕ, ◌<◌, ◌≤◌, List, [], ◌∷◌, ◌++◌, map, Option, Some, None, Ok, Err, refl, sym, ap, subst, arith, append_assoc, true}
 use Rattle.std.proofs.lemmas.List.{append-nil}
 use Rattle.log_answers.specs.Comparisons.{HasCompared, HasComparedMore, point_at}
-use Rattle.log_answers.specs.Conversations.{Converses, LogLine, Point, SaysAt, nothing, one_more, recorded_by, status_after, time_after}
+use Rattle.log_answers.specs.Conversations.{Converses, LogLine, Point, SaysAt, Takes, nothing, one_more, recorded_by, status_after, time_after}
 use Rattle.log_answers.specs.declared.comparison.Comparison.{Comparison}
 use Rattle.log_answers.specs.declared.difference.Difference.{Difference}
 use Rattle.log_answers.specs.declared.difference.Difference.TheVariants.{OursAlone}
@@ -16,7 +16,6 @@ use Rattle.log_answers.proofs.Matching.{matched-answered, matched-asked, matched
 use Rattle.log_answers.proofs.OpenInOrder.{AreAt, AreInTime, all-in-time, asked-in-time, in-time-append, open-asked, open-back, open-removed}
 use Rattle.log_answers.proofs.SaidAt.{recorded_by-at, said_by-at}
 use Rattle.vt_can.specs.lines.Readings.{FrameAt, OperatorAction, SkippedFrame, CommentLine}
-use Rattle.vt_logs.specs.LineEffects.{Sends}
 use Rattle.vt_logs.specs.Texts.{LineReading}
 use Rattle.vt_server.specs.declared.output.Output.{Output}
 use Rattle.vt_server.specs.Terminals.{State}
@@ -74,7 +73,7 @@ heard wait before_line line now questions answers (answer ∷ second ∷ others)
 
 pub taken-frame : (own wait : ℕ) (start : Point) (lines : List LogLine) (told : List Difference) (line : LogLine) (old new : State) (before after : Comparison)
     (open_left open_asked : List Said) (differences_old differences_left differences_new : List Difference) (sent : List Output)
-    → HasCompared own wait start lines told old before → before.line < line.number → Sends old line.reading new sent
+    → HasCompared own wait start lines told old before → before.line < line.number → Takes line.is_received old line.reading new sent
     → after.now ≡ time_after before.now line.reading → before.now ≤ after.now → after.status.items ≡ status_after before.own before.status.items line.reading
     → LosesOverdue before.wait after.now before.open.questions.items open_left differences_old differences_left
     → open_asked ≡ open_left ++ said_by line.number after.now sent
@@ -127,7 +126,7 @@ taken-frame own wait start lines told line old new before after open_left open_a
 
 pub taken-other : (own wait : ℕ) (start : Point) (lines : List LogLine) (told : List Difference) (line : LogLine) (old new : State) (before after : Comparison)
     (differences : List Difference) (sent : List Output)
-    → HasCompared own wait start lines told old before → before.line < line.number → Sends old line.reading new sent
+    → HasCompared own wait start lines told old before → before.line < line.number → Takes line.is_received old line.reading new sent
     → before.now ≡ time_after before.now line.reading → before.status.items ≡ status_after own before.status.items line.reading
     → [] ≡ recorded_by own line.number after.now before.status.items line.reading
     → after.now ≡ before.now → after.status ≡ before.status
@@ -178,18 +177,18 @@ IsSilent (Err fault) = Unit {0}
 pub taken-silent : (own wait : ℕ) (start : Point) (lines : List LogLine) (told : List Difference) (number : ℕ) (reading : LineReading) (state : State) (before after : Comparison)
     (differences : List Difference) → IsSilent reading → HasCompared own wait start lines told state before → before.line < number
     → after.now ≡ before.now → after.status ≡ before.status → after.open ≡ before.open → after.line ≡ number → after.own ≡ before.own → after.wait ≡ before.wait
-    → HasComparedMore own wait start lines told (record { number = number; reading = reading }) differences differences state after
+    → HasComparedMore own wait start lines told (record { number = number; reading = reading; is_received = true }) differences differences state after
 unfolding IsSilent
 taken-silent own wait start lines told number (Ok (FrameAt time frame)) state before after differences silent has rises now_is status_is open_is line_is own_is wait_is = absurd silent
 taken-silent own wait start lines told number (Ok (OperatorAction action)) state before after differences silent has rises now_is status_is open_is line_is own_is wait_is = absurd silent
 taken-silent own wait start lines told number (Ok (SkippedFrame why)) state before after differences silent has rises now_is status_is open_is line_is own_is wait_is =
-    taken-other own wait start lines told (record { number = number; reading = Ok (SkippedFrame why) }) state state before after differences [] has rises (refl, refl) refl refl refl now_is status_is
+    taken-other own wait start lines told (record { number = number; reading = Ok (SkippedFrame why); is_received = true }) state state before after differences [] has rises (refl, refl) refl refl refl now_is status_is
     (ap (λ (it : OpenQuestions). it.questions.items) open_is ∙ sym (append-nil before.open.questions.items)) line_is own_is wait_is
 taken-silent own wait start lines told number (Ok CommentLine) state before after differences silent has rises now_is status_is open_is line_is own_is wait_is =
-    taken-other own wait start lines told (record { number = number; reading = Ok CommentLine }) state state before after differences [] has rises (refl, refl) refl refl refl now_is status_is
+    taken-other own wait start lines told (record { number = number; reading = Ok CommentLine; is_received = true }) state state before after differences [] has rises (refl, refl) refl refl refl now_is status_is
     (ap (λ (it : OpenQuestions). it.questions.items) open_is ∙ sym (append-nil before.open.questions.items)) line_is own_is wait_is
 taken-silent own wait start lines told number (Err fault) state before after differences silent has rises now_is status_is open_is line_is own_is wait_is =
-    taken-other own wait start lines told (record { number = number; reading = Err fault }) state state before after differences [] has rises (refl, refl) refl refl refl now_is status_is
+    taken-other own wait start lines told (record { number = number; reading = Err fault; is_received = true }) state state before after differences [] has rises (refl, refl) refl refl refl now_is status_is
     (ap (λ (it : OpenQuestions). it.questions.items) open_is ∙ sym (append-nil before.open.questions.items)) line_is own_is wait_is
 
 -- ---- no line

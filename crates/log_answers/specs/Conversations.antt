@@ -1,5 +1,5 @@
 -- What this terminal and a recorded one say in a log (docs/PROFILE.md, "Answers").
-use Rattle.std.specs.Prelude.{◌≡◌, ℕ, ◌==◌, ◌&&◌, max, Bool, false, if◌then◌else◌, List, [], ◌∷◌, ◌++◌, Ok, Err}
+use Rattle.std.specs.Prelude.{◌≡◌, ℕ, ◌==◌, ◌&&◌, max, Bool, true, false, if◌then◌else◌, List, [], ◌∷◌, ◌++◌, Ok, Err}
 use Rattle.std.specs.Option.{option_to_list}
 use Rattle.std.specs.Str.{bytes_eq}
 use Rattle.log_answers.specs.declared.said.Said.{Said}
@@ -13,10 +13,11 @@ use Rattle.vt_logs.specs.Texts.{LineReading}
 use Rattle.vt_server.specs.Terminals.{State}
 use Rattle.vt_server.specs.declared.output.Output.{Output}
 
--- a line of a log by its number, as it was read
+-- a line of a log by its number, as it was read, and whether this terminal receives it
 pub record LogLine : Type 0 where
   pub number : ℕ
   pub reading : LineReading
+  pub is_received : Bool
 
 -- between two lines: this terminal, the latest time so far, and the bytes of the recorded terminal's last status message
 pub record Point : Type 0 where
@@ -72,10 +73,15 @@ time_after now (Err fault) = now
 
 -- ---- both
 
+-- This terminal takes a line with these outputs. One that it does not receive changes nothing, and nothing is sent.
+abbrev pub Takes : Bool → State → LineReading → State → List Output → Type 0
+Takes true from reading to sent = Sends from reading to sent
+Takes false from reading to sent = (to ≡ from) × (sent ≡ [])
+
 -- At a line this terminal asks, and then the recorded one answers.
 pub record SaysAt (own : ℕ) (from : Point) (line : LogLine) (to : Point) (questions answers : List Said) : Type 0 where
   pub sent : List Output
-  pub sends : Sends from.state line.reading to.state sent
+  pub sends : Takes line.is_received from.state line.reading to.state sent
   pub now : to.now ≡ time_after from.now line.reading
   pub status : to.status ≡ status_after own from.status line.reading
   pub questions_are : questions ≡ said_by line.number to.now sent

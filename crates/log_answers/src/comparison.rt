@@ -1,8 +1,8 @@
 //! The comparison of a recorded terminal with this one.
 
-ghost use Rattle.std.specs.Prelude.{◌≡◌, ◌<◌, [], ℕ, List, OnOk};
+ghost use Rattle.std.specs.Prelude.{◌≡◌, ◌<◌, true, false, [], ℕ, List, OnOk};
 ghost use Rattle.log_answers.specs.Comparisons.{HasCompared, HasComparedMore, HasToldAll, start_at};
-ghost use Rattle.log_answers.specs.Conversations.{LogLine, Point};
+ghost use Rattle.log_answers.specs.Conversations.{LogLine, Point, Takes};
 ghost use Rattle.log_answers.specs.declared.difference.Difference.{Difference as Told};
 ghost use Rattle.vt_can.specs.lines.Actions.{action_value};
 ghost use Rattle.vt_can.specs.lines.Readings.{FrameAt, OperatorAction, reading_of};
@@ -71,13 +71,13 @@ impl Comparison {
         requires { self.old.line < line }
         ensures compared { OnOk result ((own wait : ℕ) (start : Point) (lines : List LogLine) (told : List Told)
             → HasCompared own wait start lines told (state_of terminal.old) self.old
-            → HasComparedMore own wait start lines told (record { number = line; reading = reading_of reading.entry }) differences.old.items differences.new.items
+            → HasComparedMore own wait start lines told (record { number = line; reading = reading_of reading.entry; is_received = true }) differences.old.items differences.new.items
             (state_of terminal.new) self.new) }
         ensures line { OnOk result (self.new.line ≡ line) }
     {
         match reading {
             Ok(Line::Frame { time, frame }) => {
-                self.take_frame(line, time, frame, terminal, differences)
+                self.take_frame(line, time, frame, true, terminal, differences)
             }
             Ok(Line::Operator(action)) => self.take_action(line, action, terminal),
             Ok(Line::Skipped(_)) => {
@@ -95,9 +95,9 @@ impl Comparison {
         }
     }
 
-    /// Processes a frame: lists the questions that are too old by its time, adds those that this terminal sends, and then compares the
-    /// answer of the recorded terminal.
-    fn take_frame(
+    /// Processes the next line of the log, whose frame this terminal does not receive: appends the differences that are certain then. After
+    /// an error the comparison is of no more use.
+    pub fn take_unreceived(
         &mut self,
         line: u64,
         time: u64,
@@ -108,7 +108,28 @@ impl Comparison {
         requires { self.old.line < line }
         ensures compared { OnOk result ((own wait : ℕ) (start : Point) (lines : List LogLine) (told : List Told)
             → HasCompared own wait start lines told (state_of terminal.old) self.old
-            → HasComparedMore own wait start lines told (record { number = line; reading = Ok (FrameAt time frame) }) differences.old.items differences.new.items
+            → HasComparedMore own wait start lines told (record { number = line; reading = Ok (FrameAt time frame); is_received = false }) differences.old.items differences.new.items
+            (state_of terminal.new) self.new) }
+        ensures line { OnOk result (self.new.line ≡ line) }
+    {
+        self.take_frame(line, time, frame, false, terminal, differences)
+    }
+
+    /// Processes a frame: lists the questions that are too old by its time, adds those that this terminal sends if it receives the frame,
+    /// and then compares the answer of the recorded terminal.
+    fn take_frame(
+        &mut self,
+        line: u64,
+        time: u64,
+        frame: Frame,
+        is_received: bool,
+        terminal: &mut Terminal,
+        differences: &mut Vec<Difference>,
+    ) -> Result<(), AllocError>
+        requires { self.old.line < line }
+        ensures compared { OnOk result ((own wait : ℕ) (start : Point) (lines : List LogLine) (told : List Told)
+            → HasCompared own wait start lines told (state_of terminal.old) self.old
+            → HasComparedMore own wait start lines told (record { number = line; reading = Ok (FrameAt time frame); is_received = is_received }) differences.old.items differences.new.items
             (state_of terminal.new) self.new) }
         ensures line { OnOk result (self.new.line ≡ line) }
     {
@@ -121,8 +142,7 @@ impl Comparison {
             now: self.now,
         };
         let answer = recorded_in(place, &frame, &mut self.status, &mut self.tally)?;
-        self.outputs.clear();
-        terminal.step(&Input::Frame { time, frame }, &mut self.outputs)?;
+        receive(is_received, time, frame, terminal, &mut self.outputs)?;
         self.open
             .ask(line, self.now, &self.outputs, &mut self.tally)?;
         self.open.hear(answer, &mut self.tally, differences)?;
@@ -140,7 +160,7 @@ impl Comparison {
         requires { self.old.line < line }
         ensures compared { OnOk result ((own wait : ℕ) (start : Point) (lines : List LogLine) (told differences : List Told)
             → HasCompared own wait start lines told (state_of terminal.old) self.old
-            → HasComparedMore own wait start lines told (record { number = line; reading = Ok (OperatorAction (action_value action.entry)) }) differences differences
+            → HasComparedMore own wait start lines told (record { number = line; reading = Ok (OperatorAction (action_value action.entry)); is_received = true }) differences differences
             (state_of terminal.new) self.new) }
         ensures line { OnOk result (self.new.line ≡ line) }
     {
@@ -160,4 +180,21 @@ impl Comparison {
     {
         self.open.end(&mut self.tally, differences)
     }
+}
+
+/// Gives a frame to a terminal, if the terminal receives it. `outputs` are then what the terminal sends.
+fn receive(
+    is_received: bool,
+    time: u64,
+    frame: Frame,
+    terminal: &mut Terminal,
+    outputs: &mut Vec<Output>,
+) -> Result<(), AllocError>
+    ensures { OnOk result (Takes is_received (state_of terminal.old) (Ok (FrameAt time frame)) (state_of terminal.new) outputs.new.items) }
+{
+    outputs.clear();
+    if is_received {
+        terminal.step(&Input::Frame { time, frame }, outputs)?;
+    }
+    Ok(())
 }

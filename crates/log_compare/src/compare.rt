@@ -1,8 +1,9 @@
 //! The subcommand `compare`.
 
+use crate::steps::Steps;
 use crate::told::Telling;
 use log_answers::{Comparison, Difference};
-use log_replay::{Messages, Pass, Replay};
+use log_replay::{Messages, Replay, ReplayPass, Turn};
 use log_words::{CompareOptions, ReplayOptions};
 use std::alloc::Global;
 use std::io::{self, Write};
@@ -44,7 +45,7 @@ pub fn run_compare<F: Open, W: Write, E: Messages>(
         }
     }
     let mut run = Run::new(alloc, options.wait, replay.terminal()?, telling);
-    replay.log.pass(&mut run, files, out, errors)?;
+    replay.pass(&mut run, files, out, errors)?;
     run.end(out)?;
     replay.tell_loss(&run.terminal, files, errors);
     Ok(run.status)
@@ -67,6 +68,7 @@ struct Run<'a> {
     terminal: Terminal,
     comparison: Comparison,
     differences: Vec<Difference>,
+    steps: Steps,
     telling: Telling<'a>,
     status: Status,
 }
@@ -79,6 +81,7 @@ impl<'a> Run<'a> {
             comparison: Comparison::new(alloc, wait, &terminal),
             terminal,
             differences: Vec::new(alloc),
+            steps: Steps::new(alloc),
             telling,
             status: Status::Clean,
         }
@@ -95,29 +98,44 @@ impl<'a> Run<'a> {
     fn put_differences<W: Write>(&mut self, out: &mut W) -> io::Result<()> {
         for difference in self.differences.iter() {
             self.status = Status::Found;
-            self.telling.put_difference(difference, out)?;
+            self.telling.put_difference(difference, &self.steps, out)?;
         }
         self.differences.clear();
         Ok(())
     }
 }
 
-impl<F, W: Write, E> Pass<F, W, E> for Run<'_> {
+impl<F, W: Write, E> ReplayPass<F, W, E> for Run<'_> {
     /// Compares a line, and writes the differences that are certain then.
     fn line(
         &mut self,
-        _number: u64,
+        number: u64,
+        turn: Turn,
         reading: Result<Line<'_>, LineFault>,
         _files: &mut F,
         out: &mut W,
         _errors: &mut E,
     ) -> io::Result<()> {
+        if matches!(turn, Turn::Never | Turn::Later) {
+            return Ok(());
+        }
         // A log has fewer lines than there are numbers.
-        let Some(line) = self.comparison.line.checked_add(1) else {
+        let Some(step) = self.comparison.line.checked_add(1) else {
             return Ok(());
         };
-        self.comparison
-            .take_line(line, reading, &mut self.terminal, &mut self.differences)?;
+        self.steps.note(step, number)?;
+        let is_received = turn.is_for(&reading, &self.terminal);
+        let (terminal, differences) = (&mut self.terminal, &mut self.differences);
+        match reading {
+            Ok(Line::Frame { time, frame }) if !is_received => {
+                self.comparison
+                    .take_unreceived(step, time, frame, terminal, differences)?;
+            }
+            reading => {
+                self.comparison
+                    .take_line(step, reading, terminal, differences)?;
+            }
+        }
         if self.differences.is_empty() {
             return Ok(());
         }

@@ -6,6 +6,7 @@
 #![tactic(auto)]
 
 mod compare;
+mod steps;
 mod told;
 
 pub use compare::run_compare;

@@ -1,5 +1,6 @@
 //! The lines of a comparison, for people or as JSON.
 
+use crate::steps::Steps;
 use check_text::Names;
 use log_answers::{Difference, Said, Tally, Topic};
 use log_replay::Load;
@@ -24,6 +25,7 @@ impl Telling<'_> {
     pub(crate) fn put_difference<W: Write>(
         &self,
         difference: &Difference,
+        steps: &Steps,
         out: &mut W,
     ) -> io::Result<()> {
         let sides = Sides::of_difference(difference);
@@ -32,7 +34,7 @@ impl Telling<'_> {
         };
         match self.format {
             Format::Text => {
-                let line = first.line;
+                let line = steps.line_of(first.line);
                 let topic = TopicText {
                     topic: first.topic,
                     names: self.names,
@@ -41,11 +43,13 @@ impl Telling<'_> {
                 let theirs = Message { said: sides.theirs };
                 write!(out, "line {line}: {topic}: ours {ours}, recorded {theirs}")?;
                 match (sides.ours, sides.theirs) {
-                    (Some(_), Some(theirs)) => writeln!(out, " at line {}", theirs.line),
+                    (Some(_), Some(theirs)) => {
+                        writeln!(out, " at line {}", steps.line_of(theirs.line))
+                    }
                     _ => writeln!(out),
                 }
             }
-            Format::Json => self.put_fields(difference, sides, first.topic, out),
+            Format::Json => self.put_fields(difference, sides, first.topic, steps, out),
         }
     }
 
@@ -55,20 +59,22 @@ impl Telling<'_> {
         difference: &Difference,
         sides: Sides<'_>,
         topic: Topic,
+        steps: &Steps,
         out: &mut W,
     ) -> io::Result<()> {
+        let line_of = |said: &Said| steps.line_of(said.line);
         let mut line = JsonLine::new(self.alloc);
         line.put_address("destination", topic.destination)?;
         line.put_text_if("error", sides.ours.and_then(error_in))?;
         line.put_address("function", topic.function)?;
         line.put_text("kind", kind_of(difference))?;
-        line.put_number_if("line", sides.ours.map(|said| said.line))?;
+        line.put_number_if("line", sides.ours.map(line_of))?;
         line.put_text_if("name", function_name(topic.function))?;
         line.put_number_if("object", topic.object.map(u64::from))?;
         line.put_text_if("ours", sides.ours.map(|said| Bytes { said }))?;
         line.put_text_if("recorded", sides.theirs.map(|said| Bytes { said }))?;
         line.put_text_if("recorded_error", sides.theirs.and_then(error_in))?;
-        line.put_number_if("recorded_line", sides.theirs.map(|said| said.line))?;
+        line.put_number_if("recorded_line", sides.theirs.map(line_of))?;
         line.write(out)
     }
 

@@ -1,2 +1,3 @@
 -- The definitions used in the contracts of log_replay.
 pub mod Interfaces
+pub mod Turns

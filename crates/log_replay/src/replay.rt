@@ -1,7 +1,10 @@
 //! A log with all that its replay needs.
 
 use crate::claims::Recorded;
+use crate::in_order::{InOrder, ReplayPass};
 use crate::log::Log;
+use crate::messages::Messages;
+use crate::sorter::Sorter;
 use crate::start::{LoadedSet, new_terminal, read_set};
 use check_text::Names;
 use log_words::{ReplayOptions, TerminalOptions};
@@ -9,6 +12,7 @@ use std::alloc::Global;
 use std::io::{self, Write};
 use vt_can::{Line, LineFault};
 use vt_cli::{Open, Program, read_names};
+use vt_names::TERMINAL_NAME;
 use vt_server::{Input, Terminal};
 
 /// A log with all that its replay needs.
@@ -54,6 +58,12 @@ impl<'a> Replay<'a> {
         }))
     }
 
+    /// The NAME of the terminal.
+    fn name(&self) -> u64 {
+        let given = self.options.name.or(self.recorded.name);
+        given.unwrap_or(TERMINAL_NAME)
+    }
+
     /// The terminal before the first line. Its NAME is that of the recorded terminal, unless the options give another.
     pub fn terminal(&self) -> io::Result<Terminal> {
         let set = self.set.as_ref();
@@ -63,6 +73,23 @@ impl<'a> Replay<'a> {
     /// Whether a node has a pool from the start.
     pub fn has_pool_of(&self, source: u8) -> bool {
         self.set.as_ref().is_some_and(|set| set.owner == source)
+    }
+
+    /// Gives each line to `pass`, with the packets of messages to the recorded terminal in order. Then writes to `errors` what a pass over
+    /// the log does, how many packets were not in order, and which messages this terminal does not receive. Returns whether a frame was
+    /// read.
+    pub fn pass<P: ReplayPass<F, W, E>, F: Program, W: Write, E: Messages>(
+        &self,
+        pass: &mut P,
+        files: &mut F,
+        out: &mut W,
+        errors: &mut E,
+    ) -> io::Result<bool> {
+        let sorter = Sorter::new(self.alloc, self.options.own, self.name());
+        let mut in_order = InOrder::new(pass, &self.log, sorter);
+        let has_frames = self.log.pass(&mut in_order, files, out, errors)?;
+        in_order.tell(self.recorded.has_messages, files, errors);
+        Ok(has_frames)
     }
 
     /// Writes to `errors` that the terminal has lost its address, if it has.
@@ -91,7 +118,7 @@ pub fn tell_loss<F: Program, E: Write>(
 }
 
 /// The input of a line: its frame, or the action of its operator. `None` for any other line.
-pub fn input_of<'a>(reading: Result<Line<'a>, LineFault>) -> Option<Input<'a>> {
+pub(crate) fn input_of<'a>(reading: Result<Line<'a>, LineFault>) -> Option<Input<'a>> {
     match reading {
         Ok(Line::Frame { time, frame }) => Some(Input::Frame { time, frame }),
         Ok(Line::Operator(action)) => Some(Input::Operator(action)),

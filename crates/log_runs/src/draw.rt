@@ -2,7 +2,7 @@
 
 use crate::picture::picture_shown;
 use check_needs::TERMINAL_SIZES;
-use log_replay::{Messages, Pass, Replay, input_of};
+use log_replay::{Messages, Replay, ReplayPass, Turn, take};
 use log_words::DrawOptions;
 use std::alloc::Global;
 use std::io::{self, Write};
@@ -56,21 +56,21 @@ struct Gallery<'a> {
     status: Status,
 }
 
-impl<F: Save, W: Write, E: Messages> Pass<F, W, E> for Gallery<'_> {
+impl<F: Save, W: Write, E: Messages> ReplayPass<F, W, E> for Gallery<'_> {
     /// Gives the input of a line to the terminal, and draws the screen if its text has changed.
     fn line(
         &mut self,
         number: u64,
+        turn: Turn,
         reading: Result<Line<'_>, LineFault>,
         files: &mut F,
         out: &mut W,
         errors: &mut E,
     ) -> io::Result<()> {
-        let Some(input) = input_of(reading) else {
-            return Ok(());
-        };
         self.outputs.clear();
-        self.terminal.step(&input, &mut self.outputs)?;
+        if !take(turn, reading, &mut self.terminal, &mut self.outputs)? {
+            return Ok(());
+        }
         self.look(number, files, out, errors)
     }
 }
@@ -85,7 +85,7 @@ impl Gallery<'_> {
         errors: &mut E,
     ) -> io::Result<Status> {
         self.look(0, files, out, errors)?;
-        replay.log.pass(self, files, out, errors)?;
+        replay.pass(self, files, out, errors)?;
         replay.tell_loss(&self.terminal, files, errors);
         tell_replaced(self.folder, files, errors);
         Ok(self.status)

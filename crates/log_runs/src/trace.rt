@@ -1,6 +1,6 @@
 //! The subcommand `trace`.
 
-use log_replay::{Messages, Pass, Replay};
+use log_replay::{Messages, Replay, ReplayPass, Turn};
 use log_trace::Tracer;
 use log_words::ReplayOptions;
 use std::alloc::Global;
@@ -26,7 +26,7 @@ pub fn run_trace<F: Open, W: Write, E: Messages>(
         terminal,
         text: Vec::new(alloc),
     };
-    if !replay.log.pass(&mut trace, files, out, errors)? {
+    if !replay.pass(&mut trace, files, out, errors)? {
         return Ok(Status::NotJudged);
     }
     replay.tell_loss(&trace.terminal, files, errors);
@@ -41,19 +41,39 @@ struct Trace<'a> {
     text: Vec<u8>,
 }
 
-impl<F, W: Write, E> Pass<F, W, E> for Trace<'_> {
+impl<F, W: Write, E> ReplayPass<F, W, E> for Trace<'_> {
     /// Prints a line in words.
     fn line(
         &mut self,
         number: u64,
+        turn: Turn,
         reading: Result<Line<'_>, LineFault>,
         _files: &mut F,
         out: &mut W,
         _errors: &mut E,
     ) -> io::Result<()> {
         self.text.clear();
-        self.tracer
-            .trace_line(number, &reading, &mut self.terminal, &mut self.text)?;
+        let Trace {
+            tracer,
+            terminal,
+            text,
+        } = self;
+        match &reading {
+            Ok(Line::Frame { time, frame }) if !turn.is_for(&reading, terminal) => match turn {
+                Turn::Never => {
+                    let why = "left out, as it came again or out of order";
+                    tracer.trace_unreceived(number, *time, frame, why, terminal, text)?;
+                }
+                Turn::Later => {
+                    let why = "held, as packets before it are missing";
+                    tracer.trace_unreceived(number, *time, frame, why, terminal, text)?;
+                }
+                Turn::Now | Turn::Own | Turn::Late => {
+                    tracer.trace_own_frame(number, *time, frame, terminal, text)?;
+                }
+            },
+            _ => tracer.trace_line(number, &reading, terminal, text)?,
+        }
         out.write_all(&self.text)
     }
 }

@@ -4,7 +4,7 @@ use crate::Traffic;
 use crate::fields::Fields;
 use check_text::Names;
 use log_reach::{Reach, ReachText};
-use log_replay::{Messages, Pass, Replay, input_of};
+use log_replay::{Messages, Replay, ReplayPass, Turn, take};
 use log_words::{Format, StatsOptions};
 use std::alloc::Global;
 use std::io::{self, Write};
@@ -35,7 +35,7 @@ pub fn run_stats<F: Open, W: Write, E: Messages>(
         reach,
         outputs: Vec::new(alloc),
     };
-    replay.log.pass(&mut run, files, out, errors)?;
+    replay.pass(&mut run, files, out, errors)?;
     run.put(&replay.names, options.format, alloc, out)?;
     replay.tell_loss(&run.terminal, files, errors);
     Ok(Status::Clean)
@@ -50,26 +50,25 @@ struct Run {
     outputs: Vec<Output>,
 }
 
-impl<F, W, E> Pass<F, W, E> for Run {
-    /// Counts a line, and notes what it reaches.
+impl<F, W, E> ReplayPass<F, W, E> for Run {
+    /// Counts a line, and notes what it reaches. A frame is counted at its line.
     fn line(
         &mut self,
         number: u64,
+        turn: Turn,
         reading: Result<Line<'_>, LineFault>,
         _files: &mut F,
         _out: &mut W,
         _errors: &mut E,
     ) -> io::Result<()> {
-        self.reach.before(&reading, &self.terminal);
-        if let Ok(Line::Frame { time, frame }) = &reading {
+        if let (Ok(Line::Frame { time, frame }), false) = (&reading, turn == Turn::Late) {
             self.traffic.take(number, *time, frame)?;
         }
-        let Some(input) = input_of(reading) else {
-            return Ok(());
-        };
         self.outputs.clear();
-        self.terminal.step(&input, &mut self.outputs)?;
-        self.reach.after(&self.outputs, &self.terminal)?;
+        self.reach.before(&reading, &self.terminal);
+        if take(turn, reading, &mut self.terminal, &mut self.outputs)? {
+            self.reach.after(&self.outputs, &self.terminal)?;
+        }
         Ok(())
     }
 }

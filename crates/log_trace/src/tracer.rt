@@ -8,7 +8,7 @@ ghost use Rattle.vt_server.specs.Terminals.{State};
 ghost use Rattle.vt_server.specs.shown.Screens.{IsScreenOf, KeepsScreen, redraws};
 ghost use Rattle.log_trace.specs.Changes.{AreScreenChanges};
 ghost use Rattle.log_trace.specs.Lines.{Gains};
-ghost use Rattle.log_trace.specs.Traces.{TracesInput, TracesLine, screen_in};
+ghost use Rattle.log_trace.specs.Traces.{IsHead, TracesInput, TracesLine, screen_in};
 
 use crate::changes::put_changes;
 use crate::heads::{ActionHead, FrameHead, put_head, skipped_words};
@@ -145,6 +145,57 @@ impl<'a> Tracer<'a> {
         put_head(number, head, &mut self.words, text)?;
         let frame = copy_of(frame)?;
         self.trace_input(&Input::Frame { time, frame }, terminal, text)
+    }
+
+    /// Appends the trace of a frame of the recorded terminal that is not given to this one: its first line alone.
+    pub fn trace_own_frame(
+        &mut self,
+        number: u64,
+        time: u64,
+        frame: &Frame,
+        terminal: &Terminal,
+        text: &mut Vec<u8>,
+    ) -> Result<(), AllocError>
+        ensures { OnOk result (Gains (IsHead number) text.old.items text.new.items) }
+    {
+        self.broken.clear();
+        let whole = self.listener.hear(frame, &mut self.broken)?;
+        let sentence = Sentence {
+            frame,
+            terminal,
+            names: self.names,
+        };
+        let head = FrameHead {
+            time,
+            sentence,
+            whole: whole.as_ref(),
+        };
+        put_head(number, head, &mut self.words, text)
+    }
+
+    /// Appends the trace of a packet that is not given to the terminal at its line: its first line alone, and why it is not given.
+    pub fn trace_unreceived(
+        &mut self,
+        number: u64,
+        time: u64,
+        frame: &Frame,
+        why: &str,
+        terminal: &Terminal,
+        text: &mut Vec<u8>,
+    ) -> Result<(), AllocError>
+        ensures { OnOk result (Gains (IsHead number) text.old.items text.new.items) }
+    {
+        let sentence = Sentence {
+            frame,
+            terminal,
+            names: self.names,
+        };
+        let head = FrameHead {
+            time,
+            sentence,
+            whole: None,
+        };
+        put_head(number, format_args!("{head}: {why}"), &mut self.words, text)
     }
 
     /// Gives an input to the terminal, and appends the lines of its outputs, and the changes of the screen.

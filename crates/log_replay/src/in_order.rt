@@ -1,0 +1,103 @@
+//! Passes over the lines of a log, for a terminal that replays it.
+
+use crate::log::{Log, Pass};
+use crate::sorter::{Sorter, Spoiled};
+use crate::transfer::Moved;
+use crate::turn::Turn;
+use std::io::{self, Write};
+use vt_can::{Line, LineFault};
+use vt_cli::Program;
+
+/// What a subcommand that replays a log does with each line.
+pub trait ReplayPass<F, W, E> {
+    /// Processes a line, as it was read. Its number counts from 1, and its turn says when the terminal receives its frame. A packet whose
+    /// turn is `Later` comes a second time, `Late` and with the number of its line, behind the line with the packet before it.
+    fn line(
+        &mut self,
+        number: u64,
+        turn: Turn,
+        reading: Result<Line<'_>, LineFault>,
+        files: &mut F,
+        out: &mut W,
+        errors: &mut E,
+    ) -> io::Result<()>;
+}
+
+/// Gives the lines of a log to a pass, and puts the packets of messages to the terminal in order.
+#[derive(Drop)]
+pub(crate) struct InOrder<'p, 'l, P> {
+    pass: &'p mut P,
+    log: &'p Log<'l>,
+    sorter: Sorter,
+}
+
+impl<'p, 'l, P> InOrder<'p, 'l, P> {
+    /// Before the first line of a log.
+    pub(crate) fn new(pass: &'p mut P, log: &'p Log<'l>, sorter: Sorter) -> InOrder<'p, 'l, P> {
+        InOrder { pass, log, sorter }
+    }
+
+    /// Writes to `errors` how many packets were put in order, and which messages were not received. If the log has no message of the
+    /// recorded terminal, it is not said that it doesn't show what that terminal did.
+    pub(crate) fn tell<F: Program, E: Write>(&self, has_messages: bool, files: &F, errors: &mut E) {
+        let (program, path) = (files.name(), self.log.path());
+        let Moved { count, first } = self.sorter.moved;
+        if count > 0 {
+            let plural = if count == 1 { "" } else { "s" };
+            let _ = writeln!(
+                errors,
+                "{program}: {path}: line {first}: {count} packet{plural} from there on came again or out of order; each message is put together as the recorded terminal received it"
+            );
+        }
+        for spoiled in self.sorter.spoiled.iter() {
+            let Spoiled {
+                is_lost,
+                line,
+                request,
+                source,
+                missing,
+            } = *spoiled;
+            let _ = if is_lost {
+                writeln!(
+                    errors,
+                    "{program}: {path}: line {line}: the recorded terminal received a message of {source:02X} (request in line {request}) whose packet {missing} is not in the log; this terminal did not, and may differ from there on"
+                )
+            } else if has_messages {
+                writeln!(
+                    errors,
+                    "{program}: {path}: line {line}: packet {missing} of a message of {source:02X} (request in line {request}) is expected here; this terminal aborts the message, and the log does not show whether the recorded one did"
+                )
+            } else {
+                Ok(())
+            };
+        }
+    }
+}
+
+impl<F, W, E, P: ReplayPass<F, W, E>> Pass<F, W, E> for InOrder<'_, '_, P> {
+    /// Gives a line to the pass, and the packets whose turn has come with it.
+    fn line(
+        &mut self,
+        number: u64,
+        reading: Result<Line<'_>, LineFault>,
+        files: &mut F,
+        out: &mut W,
+        errors: &mut E,
+    ) -> io::Result<()> {
+        let Ok(Line::Frame { time, frame }) = &reading else {
+            return self
+                .pass
+                .line(number, Turn::Now, reading, files, out, errors);
+        };
+        let time = *time;
+        let turn = self.sorter.turn(number, frame, self.log)?;
+        self.pass.line(number, turn, reading, files, out, errors)?;
+        while let Some(late) = self.sorter.late.pop_front() {
+            let frame = late.frame;
+            let reading = Ok(Line::Frame { time, frame });
+            self.pass
+                .line(late.line, Turn::Late, reading, files, out, errors)?;
+        }
+        Ok(())
+    }
+}

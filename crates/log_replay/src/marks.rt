@@ -1,0 +1,99 @@
+//! What the frames of the transport protocols say about messages to the recorded terminal.
+
+use byteorder::{ByteOrder, LittleEndian};
+use vt_can::Frame;
+use vt_can::assigned::{
+    ABORT, ETP_CM, ETP_DPO, ETP_DT, ETP_END, ETP_RTS, TP_CM, TP_DT, TP_END, TP_RTS, VT_TO_ECU,
+};
+
+/// A sender of messages to the terminal, and its protocol: TP or ETP.
+#[derive(Clone, Copy, PartialEq, Eq, PartialOrd, Ord)]
+pub(crate) struct Sender {
+    pub(crate) is_extended: bool,
+    pub(crate) address: u8,
+}
+
+/// What a frame says about a message in packets to the terminal.
+#[derive(Clone, Copy)]
+pub(crate) enum Mark {
+    /// A node requests to send one, of so many bytes.
+    Request(Sender, u32),
+    /// The next packets are counted from here, and they are so many.
+    Offset(Sender, u32, u8),
+    /// A packet, with its number after the offset.
+    Packet(Sender, u8, [u8; 7]),
+    /// The terminal has received the message.
+    End(Sender),
+    /// The node or the terminal aborts it.
+    Abort(Sender),
+}
+
+impl Mark {
+    /// What a frame from or to the terminal at an address says. `None` for any other frame.
+    #[inline]
+    pub(crate) fn in_frame(frame: &Frame, own: u8) -> Option<Mark> {
+        let group = frame.id.pgn();
+        if !matches!(group, TP_CM | TP_DT | ETP_CM | ETP_DT) {
+            return None;
+        }
+        let source = frame.id.source();
+        let destination = frame.id.destination()?;
+        let is_extended = matches!(group, ETP_CM | ETP_DT);
+        if destination == own {
+            let address = source;
+            return Mark::to_terminal(
+                Sender {
+                    is_extended,
+                    address,
+                },
+                group,
+                frame.bytes.as_slice(),
+            );
+        }
+        let address = destination;
+        let sender = Sender {
+            is_extended,
+            address,
+        };
+        match frame.bytes.as_slice() {
+            [TP_END | ETP_END, _, _, _, _, _, _, _] if source == own => Some(Mark::End(sender)),
+            [ABORT, _, _, _, _, about @ ..] if source == own => Mark::abort(sender, about),
+            _ => None,
+        }
+    }
+
+    /// What a frame of eight bytes from a node to the terminal says.
+    fn to_terminal(sender: Sender, group: u32, bytes: &[u8]) -> Option<Mark> {
+        let [control, rest @ ..] = bytes else {
+            return None;
+        };
+        let packet = <[u8; 7]>::try_from(rest).ok()?;
+        let [a, b, c, d, pgn @ ..] = packet;
+        match (group, *control) {
+            (TP_DT | ETP_DT, number) => Some(Mark::Packet(sender, number, packet)),
+            (TP_CM, TP_RTS) => {
+                let size = u16::from_le_bytes([a, b]);
+                Some(Mark::Request(sender, u32::from(size)))
+            }
+            (ETP_CM, ETP_RTS) => {
+                let size = u32::from_le_bytes([a, b, c, d]);
+                Some(Mark::Request(sender, size))
+            }
+            (ETP_CM, ETP_DPO) => {
+                let offset = u32::from_le_bytes([b, c, d, 0]);
+                Some(Mark::Offset(sender, offset, a))
+            }
+            (_, ABORT) => Mark::abort(sender, &pgn),
+            _ => None,
+        }
+    }
+
+    /// The abort of a message of a parameter group. `None` for one of the terminal's own messages.
+    fn abort(sender: Sender, pgn: &[u8]) -> Option<Mark> {
+        if pgn.len() != 3 {
+            return None;
+        }
+        let is_own = !sender.is_extended && LittleEndian::read_u24(pgn) == VT_TO_ECU;
+        (!is_own).then_some(Mark::Abort(sender))
+    }
+}

@@ -1,0 +1,220 @@
+//! Puts the packets of messages to a recorded terminal into the order in which this terminal receives them.
+
+use crate::endings::{Ending, Endings};
+use crate::log::Log;
+use crate::marks::{Mark, Sender};
+use crate::transfer::{Ends, LateFrame, Moved, Transfer};
+use crate::turn::Turn;
+use std::alloc::{AllocError, Global};
+use std::collections::{BTreeMap, VecDeque};
+use vt_can::Frame;
+use vt_can::assigned::ADDRESS_CLAIMED;
+
+/// A message in packets that this terminal does not receive.
+#[derive(Clone, Copy)]
+pub(crate) struct Spoiled {
+    /// Whether the recorded terminal has received it: then packets of it are not in the log. Otherwise the log does not show what the
+    /// recorded terminal did.
+    pub(crate) is_lost: bool,
+    /// The line at which this is known.
+    pub(crate) line: u64,
+    /// The line of the request.
+    pub(crate) request: u64,
+    /// The address of the sender.
+    pub(crate) source: u8,
+    /// The number of the first packet that this terminal has not received, from 1.
+    pub(crate) missing: u32,
+}
+
+/// The messages in packets that are on their way to the terminal.
+///
+/// While the packets of a message are in order, each frame has its turn at once. At the first that is not, the message is looked up in the
+/// log: if the recorded terminal has received it, its packets are put in order from there on; otherwise nothing is changed.
+#[derive(Drop)]
+pub(crate) struct Sorter {
+    alloc: Global,
+    own: u8,
+    /// The NAME of the terminal.
+    name: u64,
+    transfers: BTreeMap<Sender, Transfer>,
+    endings: Option<Endings>,
+    /// The packets whose turn has come with the last frame.
+    pub(crate) late: VecDeque<LateFrame>,
+    /// Frames that the terminal did not receive at their lines, of the messages that it received.
+    pub(crate) moved: Moved,
+    /// The messages that this terminal does not receive, in the order of their lines.
+    pub(crate) spoiled: Vec<Spoiled>,
+}
+
+impl Sorter {
+    /// A sorter for the terminal at an address, with its NAME, before the first line. Does not allocate.
+    pub(crate) fn new(alloc: Global, own: u8, name: u64) -> Sorter {
+        Sorter {
+            alloc,
+            own,
+            name,
+            transfers: BTreeMap::new(alloc),
+            endings: None,
+            late: VecDeque::new(alloc),
+            moved: Moved::default(),
+            spoiled: Vec::new(alloc),
+        }
+    }
+
+    /// The turn of the frame of a line. The frames whose turn comes after it are in `late`. After `OutOfMemory` the sorter is of no more
+    /// use.
+    #[inline]
+    pub(crate) fn turn(
+        &mut self,
+        line: u64,
+        frame: &Frame,
+        log: &Log<'_>,
+    ) -> Result<Turn, AllocError> {
+        let Some(mark) = Mark::in_frame(frame, self.own) else {
+            return Ok(self.turn_of_other(frame));
+        };
+        match mark {
+            Mark::Request(sender, size) => self.open(line, sender, size),
+            Mark::Offset(sender, offset, count) => self.offset(line, sender, offset, count, log),
+            Mark::Packet(sender, sequence, packet) => {
+                self.packet(line, sender, sequence, packet, log)
+            }
+            Mark::End(sender) => self.end(line, sender),
+            Mark::Abort(sender) => {
+                self.transfers.remove(&sender);
+                Ok(self.turn_of_other(frame))
+            }
+        }
+    }
+
+    /// The turn of a frame that is no part of a message in packets to the terminal.
+    fn turn_of_other(&self, frame: &Frame) -> Turn {
+        if frame.id.source() == self.own && !self.is_claim_of_other(frame) {
+            Turn::Own
+        } else {
+            Turn::Now
+        }
+    }
+
+    /// Whether a frame from the terminal's address claims it under another NAME.
+    fn is_claim_of_other(&self, frame: &Frame) -> bool {
+        let is_claim = frame.id.pgn() == ADDRESS_CLAIMED;
+        is_claim && frame.bytes.as_slice() != self.name.to_le_bytes().as_slice()
+    }
+
+    /// A node requests to send a message.
+    fn open(&mut self, line: u64, sender: Sender, size: u32) -> Result<Turn, AllocError> {
+        let ends = Ends {
+            is_extended: sender.is_extended,
+            source: sender.address,
+            destination: self.own,
+        };
+        let transfer = Transfer::new(self.alloc, line, ends, size);
+        self.transfers.insert(sender, transfer)?;
+        Ok(Turn::Now)
+    }
+
+    /// The sender says which packets come next.
+    fn offset(
+        &mut self,
+        line: u64,
+        sender: Sender,
+        offset: u32,
+        count: u8,
+        log: &Log<'_>,
+    ) -> Result<Turn, AllocError> {
+        let Some(mut transfer) = self.transfers.remove(&sender) else {
+            return Ok(Turn::Now);
+        };
+        if transfer.is_offset(offset, count) {
+            self.transfers.insert(sender, transfer)?;
+            return Ok(Turn::Now);
+        }
+        if !self.is_sorted(line, sender, &mut transfer, log)? {
+            return Ok(Turn::Now);
+        }
+        let turn = transfer.move_to(line, offset);
+        self.transfers.insert(sender, transfer)?;
+        Ok(turn)
+    }
+
+    /// A packet comes.
+    fn packet(
+        &mut self,
+        line: u64,
+        sender: Sender,
+        sequence: u8,
+        packet: [u8; 7],
+        log: &Log<'_>,
+    ) -> Result<Turn, AllocError> {
+        let Some(mut transfer) = self.transfers.remove(&sender) else {
+            return Ok(Turn::Now);
+        };
+        let mut turn = Turn::Now;
+        if !transfer.is_packet(sequence) {
+            if !self.is_sorted(line, sender, &mut transfer, log)? {
+                return Ok(Turn::Now);
+            }
+            turn = transfer.keep(line, sequence, packet)?;
+        }
+        if transfer.is_sorted {
+            transfer.put_late(&mut self.late)?;
+        }
+        if transfer.is_whole() {
+            self.moved = self.moved.and(transfer.moved);
+        } else {
+            self.transfers.insert(sender, transfer)?;
+        }
+        Ok(turn)
+    }
+
+    /// The recorded terminal has received a message. If packets of it are missing, they are not in the log.
+    fn end(&mut self, line: u64, sender: Sender) -> Result<Turn, AllocError> {
+        if let Some(transfer) = self.transfers.remove(&sender) {
+            self.spoiled.push(Spoiled {
+                is_lost: true,
+                line,
+                request: transfer.request,
+                source: sender.address,
+                missing: transfer.missing(),
+            })?;
+        }
+        Ok(Turn::Own)
+    }
+
+    /// Whether the packets of a message are put in order, of which one has come out of order.
+    fn is_sorted(
+        &mut self,
+        line: u64,
+        sender: Sender,
+        transfer: &mut Transfer,
+        log: &Log<'_>,
+    ) -> Result<bool, AllocError> {
+        if transfer.is_sorted {
+            return Ok(true);
+        }
+        match self.ending_of(transfer.request, log)? {
+            Ending::Received => transfer.is_sorted = true,
+            Ending::Aborted => {}
+            Ending::Unknown => self.spoiled.push(Spoiled {
+                is_lost: false,
+                line,
+                request: transfer.request,
+                source: sender.address,
+                missing: transfer.missing(),
+            })?,
+        }
+        Ok(transfer.is_sorted)
+    }
+
+    /// What the log shows of the end of the message that a line requests to send.
+    fn ending_of(&mut self, request: u64, log: &Log<'_>) -> Result<Ending, AllocError> {
+        if let Some(endings) = &self.endings {
+            return Ok(endings.of(request));
+        }
+        let endings = Endings::in_log(self.alloc, log.text(), log.interface(), self.own)?;
+        let ending = endings.of(request);
+        self.endings = Some(endings);
+        Ok(ending)
+    }
+}
