@@ -32,13 +32,23 @@ pub struct Recorded {
     pub name: Option<u64>,
     /// The nodes that request to load a stored pool, in the order of their first such lines.
     pub loads: Vec<Load>,
-    /// Whether the log has a frame.
+    /// Whether the log has a frame, or may have one.
     pub has_frames: bool,
     /// Whether a message of the terminal is in the log, to an implement or to all.
     pub has_messages: bool,
 }
 
 impl Recorded {
+    /// What is known before the first line of a log that is read as it comes.
+    pub(crate) fn unknown(alloc: Global) -> Recorded {
+        Recorded {
+            name: None,
+            loads: Vec::new(alloc),
+            has_frames: true,
+            has_messages: false,
+        }
+    }
+
     /// What the lines of a log say about the terminal at an address. Reads only the lines that can matter. `OutOfMemory` if an allocation
     /// is refused.
     pub fn in_log(

@@ -14,6 +14,7 @@
 
 mod claims;
 mod endings;
+mod follow;
 mod in_order;
 mod lines;
 mod log;

@@ -63,6 +63,16 @@ impl<'a> Log<'a> {
         }))
     }
 
+    /// The standard input, which is read only in a replay, as it comes.
+    pub(crate) fn input(alloc: Global, interface: Option<&'a str>) -> Log<'a> {
+        Log {
+            alloc,
+            path: "-",
+            bytes: Vec::new(alloc),
+            interface,
+        }
+    }
+
     /// The path of the file.
     pub fn path(&self) -> &'a str {
         self.path

@@ -1,6 +1,7 @@
 //! A log with all that its replay needs.
 
 use crate::claims::Recorded;
+use crate::follow::Following;
 use crate::in_order::{InOrder, ReplayPass};
 use crate::log::Log;
 use crate::messages::Messages;
@@ -21,6 +22,8 @@ pub struct Replay<'a> {
     alloc: Global,
     options: TerminalOptions<'a>,
     set: Option<LoadedSet>,
+    /// Whether the log is the standard input, and read as it comes.
+    is_live: bool,
     /// The log.
     pub log: Log<'a>,
     /// The names of objects.
@@ -37,21 +40,54 @@ impl<'a> Replay<'a> {
         files: &mut F,
         errors: &mut E,
     ) -> io::Result<Option<Replay<'a>>> {
+        let Some(log) = Log::read(alloc, options.log, options.interface, files, errors)? else {
+            return Ok(None);
+        };
+        let own = options.terminal.own;
+        let recorded = Recorded::in_log(alloc, log.text(), options.interface, own)?;
+        Replay::of_log(alloc, options, log, recorded, files, errors)
+    }
+
+    /// As `read`, but if the log is the standard input, it is not read before the pass over it, which takes its lines as they come. Then
+    /// nothing is known of the recorded terminal.
+    pub fn follow<F: Open, E: Write>(
+        alloc: Global,
+        options: &ReplayOptions<'a>,
+        files: &mut F,
+        errors: &mut E,
+    ) -> io::Result<Option<Replay<'a>>> {
+        if options.log != "-" {
+            return Replay::read(alloc, options, files, errors);
+        }
+        let log = Log::input(alloc, options.interface);
+        let recorded = Recorded::unknown(alloc);
+        let replay = Replay::of_log(alloc, options, log, recorded, files, errors)?;
+        Ok(replay.map(|replay| Replay {
+            is_live: true,
+            ..replay
+        }))
+    }
+
+    /// A replay of a log, with the other files that it needs.
+    fn of_log<F: Open, E: Write>(
+        alloc: Global,
+        options: &ReplayOptions<'a>,
+        log: Log<'a>,
+        recorded: Recorded,
+        files: &mut F,
+        errors: &mut E,
+    ) -> io::Result<Option<Replay<'a>>> {
         let Some(names) = read_names(alloc, options.names.as_slice(), files, errors)? else {
             return Ok(None);
         };
         let Ok(set) = read_set(alloc, options.terminal.set, files, errors)? else {
             return Ok(None);
         };
-        let Some(log) = Log::read(alloc, options.log, options.interface, files, errors)? else {
-            return Ok(None);
-        };
-        let own = options.terminal.own;
-        let recorded = Recorded::in_log(alloc, log.text(), options.interface, own)?;
         Ok(Some(Replay {
             alloc,
             options: options.terminal,
             set,
+            is_live: false,
             log,
             names,
             recorded,
@@ -78,7 +114,7 @@ impl<'a> Replay<'a> {
     /// Gives each line to `pass`, with the packets of messages to the recorded terminal in order. Then writes to `errors` what a pass over
     /// the log does, how many packets were not in order, and which messages this terminal does not receive. Returns whether a frame was
     /// read.
-    pub fn pass<P: ReplayPass<F, W, E>, F: Program, W: Write, E: Messages>(
+    pub fn pass<P: ReplayPass<F, W, E>, F: Open, W: Write, E: Messages>(
         &self,
         pass: &mut P,
         files: &mut F,
@@ -87,7 +123,13 @@ impl<'a> Replay<'a> {
     ) -> io::Result<bool> {
         let sorter = Sorter::new(self.alloc, self.options.own, self.name());
         let mut in_order = InOrder::new(pass, &self.log, sorter);
-        let has_frames = self.log.pass(&mut in_order, files, out, errors)?;
+        let has_frames = if self.is_live {
+            let mut input = files.open(self.log.path())?;
+            let mut following = Following::new(self.alloc, self.log.interface());
+            following.follow(&mut input, &mut in_order, files, out, errors)?
+        } else {
+            self.log.pass(&mut in_order, files, out, errors)?
+        };
         in_order.tell(self.recorded.has_messages, files, errors);
         Ok(has_frames)
     }

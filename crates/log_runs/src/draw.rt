@@ -19,7 +19,7 @@ pub fn run_draw<F: Open + Save, W: Write, E: Messages>(
     out: &mut W,
     errors: &mut E,
 ) -> io::Result<Status> {
-    let Some(replay) = Replay::read(alloc, &options.replay, files, errors)? else {
+    let Some(replay) = Replay::follow(alloc, &options.replay, files, errors)? else {
         return Ok(Status::NotJudged);
     };
     let folder = options.folder.trim_end_matches('/');
@@ -85,7 +85,9 @@ impl Gallery<'_> {
         errors: &mut E,
     ) -> io::Result<Status> {
         self.look(0, files, out, errors)?;
-        replay.pass(self, files, out, errors)?;
+        if !replay.pass(self, files, out, errors)? {
+            self.status = Status::NotJudged;
+        }
         replay.tell_loss(&self.terminal, files, errors);
         tell_replaced(self.folder, files, errors);
         Ok(self.status)

@@ -17,7 +17,7 @@ pub fn run_trace<F: Open, W: Write, E: Messages>(
     out: &mut W,
     errors: &mut E,
 ) -> io::Result<Status> {
-    let Some(replay) = Replay::read(alloc, options, files, errors)? else {
+    let Some(replay) = Replay::follow(alloc, options, files, errors)? else {
         return Ok(Status::NotJudged);
     };
     let terminal = replay.terminal()?;
