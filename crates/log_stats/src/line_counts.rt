@@ -15,7 +15,7 @@ pub struct LineCounts {
     pub remote: Occurrences,
     /// CAN FD frames.
     pub fd: Occurrences,
-    /// Frames with an identifier of 11 bits.
+    /// Standard frames, which have an identifier of 11 bits.
     pub short: Occurrences,
     /// Lines that cannot be read.
     pub faulty: Occurrences,
@@ -40,7 +40,7 @@ impl LineCounts {
             ("error frame", self.error),
             ("remote frame", self.remote),
             ("CAN FD frame", self.fd),
-            ("11-bit frame", self.short),
+            ("standard frame", self.short),
             ("faulty line", self.faulty),
         ]
     }
