@@ -1,5 +1,8 @@
 //! The seconds of a log.
 
+ghost use Rattle.std.specs.Prelude.{◌≡◌, ◌≤◌, ℕ, List, [], ◌∷◌, OnOk, MatchOption};
+ghost use Rattle.log_stats.specs.Seconds.{Sent, start_of, begin_of, busier, HasCounted, IsBusiest, IsFirstMost};
+
 use crate::counts::Counts;
 use crate::load::{Percent, load_of};
 use crate::moment::Seconds;
@@ -47,14 +50,19 @@ pub struct BusySeconds {
 
 impl BusySeconds {
     /// No seconds. Does not allocate.
-    pub(crate) fn new(alloc: Global) -> BusySeconds {
+    pub(crate) fn new(alloc: Global) -> BusySeconds
+        ensures { HasCounted [] 0 result.seconds.items }
+    {
         BusySeconds {
             seconds: Vec::new(alloc),
         }
     }
 
     /// Counts a frame with so many bytes of data, whose time is no earlier than that of the frame before.
-    pub(crate) fn take(&mut self, time: u64, length: usize) -> Result<(), AllocError> {
+    pub(crate) fn take(&mut self, time: u64, length: usize) -> Result<(), AllocError>
+        ensures { OnOk result ((frames : List Sent) (latest : ℕ) → latest ≤ time → HasCounted frames latest self.old.seconds.items
+            → HasCounted (record { time = time; length = length } ∷ frames) time self.new.seconds.items) }
+    {
         let start = self.start_at(time);
         if let Some(last) = self.seconds.last_mut() {
             if last.start == start {
@@ -69,14 +77,20 @@ impl BusySeconds {
     }
 
     /// Where the second of a time begins.
-    fn start_at(&self, time: u64) -> u64 {
+    fn start_at(&self, time: u64) -> u64
+        ensures { result ≡ start_of (begin_of self.now.seconds.items time) time }
+    {
         let first = self.seconds.first().map_or(time, |first| first.start);
         let since = time.saturating_sub(first);
         time.saturating_sub(since % SECOND)
     }
 
     /// The second with the most bits, the first of them if several have as many. `None` if there is no frame.
-    pub(crate) fn busiest(&self) -> Option<BusySecond> {
+    pub(crate) fn busiest(&self) -> Option<BusySecond>
+        ensures first { MatchOption result (self.now.seconds.items ≡ []) (IsFirstMost self.now.seconds.items) }
+        ensures busiest { (frames : List Sent) (latest : ℕ) → HasCounted frames latest self.now.seconds.items
+            → MatchOption result (frames ≡ []) (IsBusiest frames) }
+    {
         let mut busiest = None;
         for second in self.seconds.iter() {
             busiest = Some(busier(busiest, *second));
@@ -86,7 +100,9 @@ impl BusySeconds {
 }
 
 /// The one with more bits of two seconds, or the first if they have as many.
-fn busier(first: Option<BusySecond>, second: BusySecond) -> BusySecond {
+fn busier(first: Option<BusySecond>, second: BusySecond) -> BusySecond
+    ensures { result ≡ busier first second }
+{
     match first {
         Some(first) if first.counts.bits >= second.counts.bits => first,
         _ => second,

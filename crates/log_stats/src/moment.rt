@@ -12,8 +12,12 @@ pub struct Moment {
 }
 
 impl Moment {
+    ghost use Rattle.std.specs.Prelude.{◌≡◌, ◌-◌};
+
     /// The microseconds from an earlier moment to this one.
-    pub(crate) fn since(self, earlier: Moment) -> u64 {
+    pub(crate) fn since(self, earlier: Moment) -> u64
+        ensures { result ≡ self.time - earlier.time }
+    {
         self.time.saturating_sub(earlier.time)
     }
 }

@@ -1,5 +1,9 @@
 //! Messages that are sent each second, and the gaps between them.
 
+ghost use Rattle.std.specs.Prelude.{◌≡◌, ◌<◌, ◌≤◌, ℕ, List, [], ◌∷◌, MatchOption};
+ghost use Rattle.log_stats.specs.declared.moment.Moment.{Moment as Message};
+ghost use Rattle.log_stats.specs.Rhythms.{longer};
+
 use crate::moment::Moment;
 
 /// The most microseconds from a message to the next one that are no gap (docs/PROFILE.md, "Silence").
@@ -15,8 +19,12 @@ pub struct Gap {
 }
 
 impl Gap {
+    ghost use Rattle.log_stats.specs.Rhythms.{length_of};
+
     /// The microseconds from the message before to the one after.
-    pub fn length(self) -> u64 {
+    pub fn length(self) -> u64
+        ensures { result ≡ length_of self }
+    {
         self.to.since(self.from)
     }
 }
@@ -33,8 +41,12 @@ pub(crate) struct Rhythm {
 }
 
 impl Rhythm {
+    ghost use Rattle.log_stats.specs.Rhythms.{HasTaken};
+
     /// A first message.
-    pub(crate) fn new(first: Moment) -> Rhythm {
+    pub(crate) fn new(first: Moment) -> Rhythm
+        ensures { HasTaken (first ∷ []) result }
+    {
         Rhythm {
             last: first,
             count: 0,
@@ -43,7 +55,9 @@ impl Rhythm {
     }
 
     /// Takes a message, which is no earlier than the one before.
-    pub(crate) fn take(&mut self, at: Moment) {
+    pub(crate) fn take(&mut self, at: Moment)
+        ensures { (messages : List Message) → HasTaken messages self.old → HasTaken (at ∷ messages) self.new }
+    {
         let gap = Gap {
             from: self.last,
             to: at,
@@ -57,7 +71,9 @@ impl Rhythm {
 }
 
 /// The longer one of two gaps, or the first if they are as long.
-fn longer(first: Option<Gap>, second: Gap) -> Gap {
+fn longer(first: Option<Gap>, second: Gap) -> Gap
+    ensures { result ≡ longer first second }
+{
     match first {
         Some(first) if first.length() >= second.length() => first,
         _ => second,

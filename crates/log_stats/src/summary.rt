@@ -1,5 +1,8 @@
 //! The least, the middle and the greatest of some times.
 
+ghost use Rattle.std.specs.Prelude.{◌≡◌, [], IfOk, MatchOption};
+ghost use Rattle.log_stats.specs.Summaries.{IsSummaryOf, IsSummaryOfRising};
+
 use std::alloc::{AllocError, Global};
 
 /// The least, the middle and the greatest of some times, in microseconds.
@@ -16,14 +19,18 @@ pub struct Summary {
 }
 
 /// The summary of some times. `None` if there are none.
-pub(crate) fn summary_of(alloc: Global, times: &[u32]) -> Result<Option<Summary>, AllocError> {
+pub(crate) fn summary_of(alloc: Global, times: &[u32]) -> Result<Option<Summary>, AllocError>
+    ensures { IfOk result (λ summary. MatchOption summary (times.now ≡ []) (IsSummaryOf times.now)) }
+{
     let mut sorted = Vec::from_slice(alloc, times)?;
     sorted.sort_unstable();
     Ok(summary_of_sorted(sorted.as_slice()))
 }
 
 /// The summary of times in rising order. `None` if there are none.
-fn summary_of_sorted(times: &[u32]) -> Option<Summary> {
+fn summary_of_sorted(times: &[u32]) -> Option<Summary>
+    ensures { MatchOption result (times.now ≡ []) (IsSummaryOfRising times.now) }
+{
     let low = *times.get(times.len().checked_sub(1)? / 2)?;
     let high = *times.get(times.len() / 2)?;
     Some(Summary {
