@@ -9,6 +9,7 @@ use crate::split::Split;
 use check_text::{Label, Names};
 use std::alloc::{AllocError, Global};
 use std::fmt;
+use vt_frames_text::Count;
 use vt_objects::{Kind, Kinds, ObjectId};
 
 /// An object of a pool.
@@ -112,7 +113,8 @@ impl fmt::Display for ReachText<'_> {
         } = self.set;
         writeln!(
             f,
-            "working set {address:02X}: {done} commands done, {refused} refused"
+            "working set {address:02X}: {} done, {refused} refused",
+            Count(*done, "command")
         )?;
         self.write_masks(f)?;
         self.write_objects(f)?;

@@ -2,7 +2,10 @@ pub mod Counted
 pub mod Loads
 pub mod Passages
 pub mod Reports
+pub mod Rhythms
+pub mod Seconds
 pub mod Shares
 pub mod Sightings
 pub mod Spans
+pub mod Summaries
 pub mod Traffics

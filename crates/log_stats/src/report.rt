@@ -5,6 +5,7 @@ use crate::load::Percent;
 use crate::moment::Seconds;
 use crate::transfers::Transfers;
 use std::fmt;
+use vt_frames_text::Count;
 
 /// What a source has sent, and its part of the load.
 #[derive(Clone, Copy)]
@@ -48,7 +49,8 @@ impl fmt::Display for Share {
     fn fmt<W: fmt::Write>(&self, f: &mut fmt::Formatter<W>) -> fmt::Result {
         let source = self.source;
         let Counts { frames, bytes, .. } = self.counts;
-        write!(f, "{source:02X}: {frames} frames, {bytes} bytes")?;
+        let frames = Count(frames, "frame");
+        write!(f, "{source:02X}: {frames}, {}", Count(bytes, "byte"))?;
         match self.load {
             Some(load) => write!(f, ", at least {}", Percent(load)),
             None => Ok(()),
@@ -67,17 +69,18 @@ impl fmt::Display for Transfers {
         } = *self;
         write!(
             f,
-            "transfers: {whole} whole, {broken} broken off, {unended} not ended, {repeated_packets} packets again"
+            "transfers: {whole} whole, {broken} broken off, {unended} not ended, {} again",
+            Count(repeated_packets, "packet")
         )?;
         if let Some(longest) = longest {
             let time = Seconds(longest.time);
             let source = longest.source;
             let destination = longest.destination;
-            let bytes = longest.bytes;
+            let bytes = Count(longest.bytes, "byte");
             let line = longest.line;
             write!(
                 f,
-                "\nlongest transfer: {time} s for {bytes} bytes of {source:02X} to {destination:02X}, from line {line} on"
+                "\nlongest transfer: {time} s for {bytes} of {source:02X} to {destination:02X}, from line {line} on"
             )?;
         }
         Ok(())
@@ -95,7 +98,9 @@ impl fmt::Display for TrafficReport {
         let span = Seconds(self.last_time.saturating_sub(self.first_time));
         writeln!(
             f,
-            "{frames} frames, {bytes} bytes, from {first_time} to {last_time}: {span} s"
+            "{}, {}, from {first_time} to {last_time}: {span} s",
+            Count(frames, "frame"),
+            Count(bytes, "byte")
         )?;
         if let Some(load) = self.load {
             writeln!(f, "bus load at 250 kbit/s: at least {}", Percent(load))?;
@@ -104,6 +109,6 @@ impl fmt::Display for TrafficReport {
             writeln!(f, "  {share}")?;
         }
         writeln!(f, "{}", self.transfers)?;
-        writeln!(f, "seen twice: {} frames", self.seen_twice)
+        writeln!(f, "seen twice: {}", Count(self.seen_twice, "frame"))
     }
 }

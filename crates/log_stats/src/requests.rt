@@ -7,10 +7,21 @@ use vt_can::assigned::{ETP_CM, ETP_DT, ETP_RTS, TP_CM, TP_DT, TP_RTS};
 
 /// The ends of a transfer, and its protocol.
 #[derive(Clone, Copy, PartialEq, Eq, PartialOrd, Ord)]
-struct Channel {
-    is_extended: bool,
-    source: u8,
-    destination: u8,
+pub(crate) struct Channel {
+    pub(crate) is_extended: bool,
+    pub(crate) source: u8,
+    pub(crate) destination: u8,
+}
+
+impl Channel {
+    /// The channel of the other direction.
+    pub(crate) fn swapped(self) -> Channel {
+        Channel {
+            is_extended: self.is_extended,
+            source: self.destination,
+            destination: self.source,
+        }
+    }
 }
 
 /// A frame of a sender in its channel.

@@ -1,7 +1,8 @@
 //! The subcommand `stats`.
 
-use crate::Traffic;
 use crate::fields::Fields;
+use crate::timing_fields::TimingFields;
+use crate::{Timing, Traffic};
 use check_text::Names;
 use log_reach::{Reach, ReachText};
 use log_replay::{Messages, Replay, ReplayPass, Turn, take};
@@ -12,7 +13,7 @@ use vt_can::{Line, LineFault};
 use vt_cli::{Open, Status};
 use vt_server::{Output, Terminal};
 
-/// Prints the numbers of a log, and what it reached of each pool.
+/// Prints the numbers of a log, what it reached of each pool, and what it tells of time.
 pub fn run_stats<F: Open, W: Write, E: Messages>(
     alloc: Global,
     options: &StatsOptions<'_>,
@@ -32,6 +33,7 @@ pub fn run_stats<F: Open, W: Write, E: Messages>(
     let mut run = Run {
         terminal,
         traffic: Traffic::new(alloc),
+        timing: Timing::new(alloc),
         reach,
         outputs: Vec::new(alloc),
     };
@@ -41,17 +43,18 @@ pub fn run_stats<F: Open, W: Write, E: Messages>(
     Ok(Status::Clean)
 }
 
-/// The numbers of a log so far, and what it reached.
+/// The numbers of a log so far, what it reached, and what it tells of time.
 #[derive(Drop)]
 struct Run {
     terminal: Terminal,
     traffic: Traffic,
+    timing: Timing,
     reach: Reach,
     outputs: Vec<Output>,
 }
 
 impl<F, W, E> ReplayPass<F, W, E> for Run {
-    /// Counts a line, and notes what it reaches. A frame is counted at its line.
+    /// Counts a line, and notes what it reaches and when. A frame is counted at its line.
     fn line(
         &mut self,
         number: u64,
@@ -61,8 +64,14 @@ impl<F, W, E> ReplayPass<F, W, E> for Run {
         _out: &mut W,
         _errors: &mut E,
     ) -> io::Result<()> {
-        if let (Ok(Line::Frame { time, frame }), false) = (&reading, turn == Turn::Late) {
-            self.traffic.take(number, *time, frame)?;
+        match &reading {
+            // A frame that comes late was counted at its line.
+            Ok(Line::Frame { .. }) if turn == Turn::Late => {}
+            Ok(Line::Frame { time, frame }) => {
+                let sent = self.traffic.take(number, *time, frame)?;
+                self.timing.take(number, *time, frame, sent.as_ref())?;
+            }
+            _ => self.timing.pass_over(number, &reading),
         }
         self.outputs.clear();
         self.reach.before(&reading, &self.terminal);
@@ -74,7 +83,7 @@ impl<F, W, E> ReplayPass<F, W, E> for Run {
 }
 
 impl Run {
-    /// Writes the numbers of the log, and what it reached.
+    /// Writes the numbers of the log, what it reached, and what it tells of time.
     fn put<W: Write>(
         &self,
         names: &Names,
@@ -84,12 +93,14 @@ impl Run {
     ) -> io::Result<()> {
         let report = self.traffic.report()?;
         let sets = self.reach.sets()?;
+        let timing = self.timing.report()?;
         match format {
             Format::Text => {
                 write!(out, "{report}")?;
                 for set in sets.iter() {
                     write!(out, "{}", ReachText { set, names })?;
                 }
+                write!(out, "{timing}")?;
             }
             Format::Json => {
                 let fields = Fields { alloc, names };
@@ -97,6 +108,7 @@ impl Run {
                 for set in sets.iter() {
                     fields.put_set(set, out)?;
                 }
+                TimingFields { alloc }.put_report(&timing, out)?;
             }
         }
         Ok(())

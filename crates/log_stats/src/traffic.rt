@@ -1,6 +1,8 @@
 //! Counts the frames of a log.
 
-ghost use Rattle.std.specs.Prelude.{◌≡◌, ℕ, OnOk, IfOk, None, []};
+ghost use Rattle.std.specs.Prelude.{◌≡◌, ℕ, List, OnOk, IfOk, None, []};
+ghost use Rattle.vt_can.specs.declared.frames.frame.Frame.{Frame as CanFrame};
+ghost use Rattle.log_listen.specs.Listeners.{IsAnswer};
 ghost use Rattle.log_stats.specs.Counted.{nothing};
 ghost use Rattle.log_stats.specs.Reports.{IsReportOn};
 ghost use Rattle.log_stats.specs.Traffics.{counts_from, total_of, twice_of, CountsFrame, HasTaken, HasSighted};
@@ -12,6 +14,7 @@ use crate::sightings::Sightings;
 use crate::sources::Sources;
 use crate::span::Span;
 use crate::transfers::TransferCounter;
+use log_listen::SentMessage;
 use std::alloc::{AllocError, Global};
 use vt_can::Frame;
 
@@ -48,16 +51,22 @@ impl Traffic {
     }
 
     /// Counts the frame of a line of the log, at a time in microseconds. A time before that of an earlier frame counts as the latest so
-    /// far. After `OutOfMemory` the counts are of no more use.
-    pub fn take(&mut self, line: u64, time: u64, frame: &Frame) -> Result<(), AllocError>
-        ensures { OnOk result (CountsFrame line time self.old self.new frame.now) }
+    /// far. Returns the message in packets that the frame completes, if it completes one. After `OutOfMemory` the counts are of no more use.
+    pub fn take(
+        &mut self,
+        line: u64,
+        time: u64,
+        frame: &Frame,
+    ) -> Result<Option<SentMessage>, AllocError>
+        ensures counted { OnOk result (CountsFrame line time self.old self.new frame.now) }
+        ensures answer { IfOk result (λ sent. (frames : List CanFrame) → HasTaken frames self.old → IsAnswer frames frame.now sent) }
     {
         self.sources.add_frame(frame.id.source(), frame.bytes.len());
         let span = Span::with_frame_at(line, time, self.span);
         self.span = Some(span);
         self.sightings.take(span.last_time, frame)?;
-        self.transfers.take(line, span.last_time, frame)?;
-        Ok(())
+        let sent = self.transfers.take(line, span.last_time, frame)?;
+        Ok(sent)
     }
 
     /// The counts of what a source has sent.

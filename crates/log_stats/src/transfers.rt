@@ -1,8 +1,8 @@
 //! Transfers of messages in packets.
 
-ghost use Rattle.std.specs.Prelude.{◌≡◌, ◌∷◌, List, [], OnOk, length};
+ghost use Rattle.std.specs.Prelude.{◌≡◌, ◌∷◌, List, [], OnOk, IfOk, length};
 ghost use Rattle.vt_can.specs.declared.frames.frame.Frame.{Frame as CanFrame};
-ghost use Rattle.log_listen.specs.Listeners.{HasHeard};
+ghost use Rattle.log_listen.specs.Listeners.{HasHeard, IsAnswer};
 ghost use Rattle.log_stats.specs.Counted.{more};
 ghost use Rattle.log_stats.specs.Passages.{CountsTransfers};
 
@@ -102,22 +102,29 @@ impl TransferCounter {
         }
     }
 
-    /// Takes the frame of a line, whose time is no earlier than that of the frame before.
-    pub(crate) fn take(&mut self, line: u64, time: u64, frame: &Frame) -> Result<(), AllocError>
+    /// Takes the frame of a line, whose time is no earlier than that of the frame before. Returns the message in packets that it completes,
+    /// if it completes one.
+    pub(crate) fn take(
+        &mut self,
+        line: u64,
+        time: u64,
+        frame: &Frame,
+    ) -> Result<Option<SentMessage>, AllocError>
         ensures heard { OnOk result ((frames : List CanFrame) → HasHeard frames self.old.listener → HasHeard (frame.now ∷ frames) self.new.listener) }
         ensures counted { OnOk result ((frames : List CanFrame) → HasHeard frames self.old.listener
             → CountsTransfers frames frame.now self.old.counted self.new.counted) }
+        ensures answer { IfOk result (λ sent. (frames : List CanFrame) → HasHeard frames self.old.listener → IsAnswer frames frame.now sent) }
     {
         self.requests.note(line, time, frame)?;
         self.broken.clear();
         let sent = self.listener.hear(frame, &mut self.broken)?;
         let broken = self.broken.len() as u64;
         self.counted.broken = self.counted.broken.saturating_add(broken);
-        if let Some(sent) = sent {
+        if let Some(sent) = &sent {
             let request = self.requests.remove(frame);
-            self.counted = self.counted.with_message(&sent, request, time);
+            self.counted = self.counted.with_message(sent, request, time);
         }
-        Ok(())
+        Ok(sent)
     }
 
     /// The counts of the transfers so far.

@@ -4,7 +4,8 @@ use crate::shown::{Count, HexBytes};
 use byteorder::{ByteOrder, LittleEndian};
 use std::fmt;
 use vt_can::assigned::{
-    ADDRESS_CLAIMED, ECU_TO_VT, NULL_ADDRESS, VT_TO_ECU, WORKING_SET_MASTER, WORKING_SET_MEMBER,
+    ADDRESS_CLAIMED, ECU_TO_VT, ETP_CM, ETP_DT, NULL_ADDRESS, REQUEST, TP_CM, TP_DT, VT_TO_ECU,
+    WORKING_SET_MASTER, WORKING_SET_MEMBER,
 };
 
 /// A message that a NAME claims an address, or that it cannot claim one.
@@ -51,7 +52,7 @@ impl fmt::Display for MasterSentence<'_> {
     fn fmt<W: fmt::Write>(&self, f: &mut fmt::Formatter<W>) -> fmt::Result {
         match self.0.first() {
             Some(members) => {
-                let members = u32::from(*members).max(1);
+                let members = u64::from(*members).max(1);
                 write!(f, "Working Set Master: {}", Count(members, "member"))
             }
             None => f.write_str("Working Set Master: no bytes"),
@@ -97,14 +98,19 @@ impl ParameterGroup {
         }
     }
 
-    /// The name of a parameter group that can be requested, or `None`.
-    fn name(self) -> Option<&'static str> {
+    /// The name of the parameter group, such as `ECU to VT`. `None` if it is not known.
+    pub fn name(self) -> Option<&'static str> {
         match self.0 {
             ADDRESS_CLAIMED => Some("Address Claimed"),
             WORKING_SET_MASTER => Some("Working Set Master"),
             WORKING_SET_MEMBER => Some("Working Set Member"),
             ECU_TO_VT => Some("ECU to VT"),
             VT_TO_ECU => Some("VT to ECU"),
+            REQUEST => Some("Request"),
+            TP_CM => Some("TP control"),
+            TP_DT => Some("TP packet"),
+            ETP_CM => Some("ETP control"),
+            ETP_DT => Some("ETP packet"),
             _ => None,
         }
     }

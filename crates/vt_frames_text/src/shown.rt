@@ -83,7 +83,7 @@ impl fmt::Display for PlainMessage<'_> {
 
 /// A number with its noun, which takes an s unless the number is 1.
 #[derive(Clone, Copy, Drop)]
-pub struct Count<'a>(pub u32, pub &'a str);
+pub struct Count<'a>(pub u64, pub &'a str);
 
 impl fmt::Display for Count<'_> {
     fn fmt<W: fmt::Write>(&self, f: &mut fmt::Formatter<W>) -> fmt::Result {

@@ -20,7 +20,7 @@ impl fmt::Display for TpControl<'_> {
                 f,
                 "TP RTS: {} in {}, at most {most} at a time, {}",
                 size(*s0, *s1),
-                Count(u32::from(*packets), "packet"),
+                Count(u64::from(*packets), "packet"),
                 group_in(group)
             ),
             [TP_CTS, 0, _, _, _, group @ ..] if group.len() >= 3 => {
@@ -29,21 +29,21 @@ impl fmt::Display for TpControl<'_> {
             [TP_CTS, count, next, _, _, group @ ..] if group.len() >= 3 => write!(
                 f,
                 "TP CTS: {} from packet {next}, {}",
-                Count(u32::from(*count), "packet"),
+                Count(u64::from(*count), "packet"),
                 group_in(group)
             ),
             [TP_END, s0, s1, packets, _, group @ ..] if group.len() >= 3 => write!(
                 f,
                 "TP end: {} in {}, {}",
                 size(*s0, *s1),
-                Count(u32::from(*packets), "packet"),
+                Count(u64::from(*packets), "packet"),
                 group_in(group)
             ),
             [TP_BAM, s0, s1, packets, _, group @ ..] if group.len() >= 3 => write!(
                 f,
                 "TP BAM: {} in {}, {}",
                 size(*s0, *s1),
-                Count(u32::from(*packets), "packet"),
+                Count(u64::from(*packets), "packet"),
                 group_in(group)
             ),
             [ABORT, reason, _, _, _, group @ ..] if group.len() >= 3 => {
@@ -63,25 +63,35 @@ impl fmt::Display for EtpControl<'_> {
         match self.0 {
             [ETP_RTS, s0, s1, s2, s3, group @ ..] if group.len() >= 3 => {
                 let size = u32::from_le_bytes([*s0, *s1, *s2, *s3]);
-                write!(f, "ETP RTS: {}, {}", Count(size, "byte"), group_in(group))
+                write!(
+                    f,
+                    "ETP RTS: {}, {}",
+                    Count(u64::from(size), "byte"),
+                    group_in(group)
+                )
             }
             [ETP_CTS, count, next @ ..] if next.len() >= 6 => write!(
                 f,
                 "ETP CTS: {} from packet {}, {}",
-                Count(u32::from(*count), "packet"),
+                Count(u64::from(*count), "packet"),
                 LittleEndian::read_u24(next),
                 group_in(&next[3..])
             ),
             [ETP_DPO, count, offset @ ..] if offset.len() >= 6 => write!(
                 f,
                 "ETP DPO: {} after packet {}, {}",
-                Count(u32::from(*count), "packet"),
+                Count(u64::from(*count), "packet"),
                 LittleEndian::read_u24(offset),
                 group_in(&offset[3..])
             ),
             [ETP_END, s0, s1, s2, s3, group @ ..] if group.len() >= 3 => {
                 let size = u32::from_le_bytes([*s0, *s1, *s2, *s3]);
-                write!(f, "ETP end: {}, {}", Count(size, "byte"), group_in(group))
+                write!(
+                    f,
+                    "ETP end: {}, {}",
+                    Count(u64::from(size), "byte"),
+                    group_in(group)
+                )
             }
             [ABORT, reason, _, _, _, group @ ..] if group.len() >= 3 => {
                 write!(
@@ -133,7 +143,7 @@ impl fmt::Display for AbortReason {
 
 /// The size of a message in two bytes.
 fn size(low: u8, high: u8) -> Count<'static> {
-    Count(u32::from(u16::from_le_bytes([low, high])), "byte")
+    Count(u64::from(u16::from_le_bytes([low, high])), "byte")
 }
 
 /// The parameter group of the message that a control message is about.

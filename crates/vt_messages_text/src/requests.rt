@@ -30,20 +30,14 @@ impl fmt::Display for RequestSentence<'_> {
         }
         match self.bytes {
             [TRANSFER, pool @ ..] => {
-                write!(
-                    f,
-                    "Object Pool Transfer: {}",
-                    Count(length_of(pool), "byte")
-                )
+                let length = pool.len() as u64;
+                write!(f, "Object Pool Transfer: {}", Count(length, "byte"))
             }
             [END_OF_POOL, ..] => f.write_str("End of Object Pool"),
             [MAINTENANCE, ..] => f.write_str("Working Set Maintenance"),
             [GET_MEMORY, _, memory @ ..] if memory.len() >= 4 => {
-                write!(
-                    f,
-                    "Get Memory: {}",
-                    Count(LittleEndian::read_u32(memory), "byte")
-                )
+                let size = u64::from(LittleEndian::read_u32(memory));
+                write!(f, "Get Memory: {}", Count(size, "byte"))
             }
             [GET_SOFT_KEYS, ..] => f.write_str("Get Number of Soft Keys"),
             [GET_FONTS, ..] => f.write_str("Get Text Font Data"),
@@ -77,9 +71,4 @@ impl RequestSentence<'_> {
 /// Whether a function with a name is that of a command.
 fn is_command(function: u8) -> bool {
     (HIDE_SHOW..=EXECUTE_MACRO).contains(&function) && function_name(function).is_some()
-}
-
-/// The number of bytes of a piece.
-fn length_of(piece: &[u8]) -> u32 {
-    u32::try_from(piece.len()).unwrap_or(u32::MAX)
 }

@@ -1,0 +1,84 @@
+//! Steps of a log's clock.
+
+use crate::moment::Seconds;
+use crate::occurrences::{FirstPlace, Occurrences};
+use std::fmt;
+use vt_frames_text::Count;
+
+/// The most microseconds from a frame to the next one that are no step ahead.
+const MOST_AHEAD: u64 = 10_000_000;
+
+/// Steps of a log's clock in one direction.
+#[derive(Clone, Copy, Default)]
+pub struct Steps {
+    /// How many there are, and the line of the first.
+    pub found: Occurrences,
+    /// The greatest of them, in microseconds.
+    pub greatest: u64,
+}
+
+impl Steps {
+    /// Counts a step of so many microseconds at a line.
+    fn note(&mut self, line: u64, step: u64) {
+        self.found.note(line);
+        self.greatest = self.greatest.max(step);
+    }
+}
+
+/// The steps of a log's clock, each from the time of a frame to that of the next one. Its `Display` writes a line for each direction in
+/// which there are steps.
+#[derive(Clone, Copy, Default)]
+pub struct Clock {
+    /// The time of the last frame, in microseconds.
+    last: Option<u64>,
+    /// Times that are earlier than that of the frame before.
+    pub back: Steps,
+    /// Times that are more than ten seconds later than that of the frame before.
+    pub ahead: Steps,
+}
+
+impl Clock {
+    /// Takes the time of the frame at a line, in microseconds, as the log has it.
+    pub(crate) fn take(&mut self, line: u64, time: u64) {
+        let last = self.last.unwrap_or(time);
+        self.last = Some(time);
+        if time < last {
+            self.back.note(line, last.saturating_sub(time));
+        }
+        let step = time.saturating_sub(last);
+        if step > MOST_AHEAD {
+            self.ahead.note(line, step);
+        }
+    }
+}
+
+impl fmt::Display for Clock {
+    fn fmt<W: fmt::Write>(&self, f: &mut fmt::Formatter<W>) -> fmt::Result {
+        write_steps(f, self.back, "back")?;
+        write_steps(f, self.ahead, "ahead of more than 10 s")
+    }
+}
+
+/// Writes the line of the steps in a direction, if there are any.
+fn write_steps<W: fmt::Write>(
+    f: &mut fmt::Formatter<W>,
+    steps: Steps,
+    direction: &str,
+) -> fmt::Result {
+    let Steps { found, greatest } = steps;
+    if found.count == 0 {
+        return Ok(());
+    }
+    let count = Count(found.count, "step");
+    let which = if found.count == 1 {
+        ""
+    } else {
+        "the greatest "
+    };
+    writeln!(
+        f,
+        "clock: {count} {direction}, {}, {which}{} s",
+        FirstPlace(found),
+        Seconds(greatest)
+    )
+}
