@@ -1,5 +1,6 @@
 //! The subcommand `compare`.
 
+use crate::report::Report;
 use crate::told::Telling;
 use log_answers::{Comparison, Difference};
 use log_replay::{Messages, Pass, Replay};
@@ -47,7 +48,7 @@ pub fn run_compare<F: Open, W: Write, E: Messages>(
     replay.log.pass(&mut run, files, out, errors)?;
     run.end(out)?;
     replay.tell_loss(&run.terminal, files, errors);
-    Ok(run.status)
+    Ok(run.report.status)
 }
 
 /// Writes to `errors` that the log has no message of the recorded terminal.
@@ -67,8 +68,7 @@ struct Run<'a> {
     terminal: Terminal,
     comparison: Comparison,
     differences: Vec<Difference>,
-    telling: Telling<'a>,
-    status: Status,
+    report: Report<'a>,
 }
 
 impl<'a> Run<'a> {
@@ -79,23 +79,21 @@ impl<'a> Run<'a> {
             comparison: Comparison::new(alloc, wait, &terminal),
             terminal,
             differences: Vec::new(alloc),
-            telling,
-            status: Status::Clean,
+            report: Report::new(alloc, telling),
         }
     }
 
-    /// Writes the differences that the end of the log brings about, and the counts of all.
+    /// Reports the differences that the end of the log brings about, and the counts of all.
     fn end<W: Write>(&mut self, out: &mut W) -> io::Result<()> {
         self.comparison.end(&mut self.differences)?;
         self.put_differences(out)?;
-        self.telling.put_tally(self.comparison.tally, out)
+        self.report.end(self.comparison.tally, out)
     }
 
-    /// Writes the differences that are certain, and removes them.
+    /// Reports the differences that are certain, and removes them.
     fn put_differences<W: Write>(&mut self, out: &mut W) -> io::Result<()> {
         for difference in self.differences.iter() {
-            self.status = Status::Found;
-            self.telling.put_difference(difference, out)?;
+            self.report.take(difference, out)?;
         }
         self.differences.clear();
         Ok(())

@@ -6,6 +6,9 @@
 #![tactic(auto)]
 
 mod compare;
+mod counts;
+mod left_out;
+mod report;
 mod told;
 
 pub use compare::run_compare;

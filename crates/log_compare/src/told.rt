@@ -1,5 +1,7 @@
 //! The lines of a comparison, for people or as JSON.
 
+use crate::counts::Counts;
+use crate::left_out::LeftOut;
 use check_text::Names;
 use log_answers::{Difference, Said, Tally, Topic};
 use log_replay::Load;
@@ -95,14 +97,44 @@ impl Telling<'_> {
         object.write(out)
     }
 
+    /// Writes how many messages of a function were left out, and why.
+    pub(crate) fn put_left_out<W: Write>(
+        &self,
+        function: u8,
+        row: LeftOut,
+        count: u64,
+        out: &mut W,
+    ) -> io::Result<()> {
+        let LeftOut { name, why, .. } = row;
+        if self.format == Format::Text {
+            return writeln!(out, "left out: {count} of {name}: {why}");
+        }
+        let mut line = JsonLine::new(self.alloc);
+        line.put_number("count", count)?;
+        line.put_address("function", function)?;
+        line.put_text("kind", "left out")?;
+        line.put_text("name", name)?;
+        line.put_text("why", why)?;
+        line.write(out)
+    }
+
     /// Writes the counts, which are the last line.
-    pub(crate) fn put_tally<W: Write>(&self, tally: Tally, out: &mut W) -> io::Result<()> {
-        let Tally {
-            same,
+    pub(crate) fn put_tally<W: Write>(
+        &self,
+        counts: &Counts,
+        tally: Tally,
+        out: &mut W,
+    ) -> io::Result<()> {
+        let Counts {
             differ,
             ours_alone,
             theirs_alone,
+            ..
+        } = *counts;
+        let Tally {
+            same,
             not_compared,
+            ..
         } = tally;
         if self.format == Format::Text {
             return writeln!(
@@ -118,6 +150,14 @@ impl Telling<'_> {
         line.put_number("same", same)?;
         line.put_number("theirs_alone", theirs_alone)?;
         line.write(out)
+    }
+}
+
+/// The topic of a difference.
+pub(crate) fn topic_of(difference: &Difference) -> Topic {
+    match difference {
+        Difference::Differ { ours, .. } => ours.topic,
+        Difference::OursAlone(said) | Difference::TheirsAlone(said) => said.topic,
     }
 }
 
