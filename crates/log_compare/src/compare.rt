@@ -1,6 +1,7 @@
 //! The subcommand `compare`.
 
 use crate::report::Report;
+use crate::selection::Selection;
 use crate::told::Telling;
 use log_answers::{Comparison, Difference};
 use log_replay::{Messages, Pass, Replay};
@@ -25,6 +26,13 @@ pub fn run_compare<F: Open, W: Write, E: Messages>(
     let Some(replay) = Replay::read(alloc, &options.replay, files, errors)? else {
         return Ok(Status::NotJudged);
     };
+    let selection = Selection {
+        filter: &options.filter,
+        names: &replay.names,
+    };
+    if !selection.has_known_names(files, errors) {
+        return Ok(Status::NotJudged);
+    }
     if !replay.recorded.has_frames {
         replay.log.tell_no_frame(files, errors)?;
         return Ok(Status::NotJudged);
@@ -44,7 +52,8 @@ pub fn run_compare<F: Open, W: Write, E: Messages>(
             telling.put_load(*load, out)?;
         }
     }
-    let mut run = Run::new(alloc, options.wait, replay.terminal()?, telling);
+    let report = Report::new(alloc, telling, selection);
+    let mut run = Run::new(alloc, options.wait, replay.terminal()?, report);
     replay.log.pass(&mut run, files, out, errors)?;
     run.end(out)?;
     replay.tell_loss(&run.terminal, files, errors);
@@ -73,13 +82,13 @@ struct Run<'a> {
 
 impl<'a> Run<'a> {
     /// A comparison before the first line, in which an answer may take so many milliseconds.
-    fn new(alloc: Global, wait: u32, terminal: Terminal, telling: Telling<'a>) -> Run<'a> {
+    fn new(alloc: Global, wait: u32, terminal: Terminal, report: Report<'a>) -> Run<'a> {
         let wait = u64::from(wait) * MILLISECOND;
         Run {
             comparison: Comparison::new(alloc, wait, &terminal),
             terminal,
             differences: Vec::new(alloc),
-            report: Report::new(alloc, telling),
+            report,
         }
     }
 
@@ -93,7 +102,7 @@ impl<'a> Run<'a> {
     /// Reports the differences that are certain, and removes them.
     fn put_differences<W: Write>(&mut self, out: &mut W) -> io::Result<()> {
         for difference in self.differences.iter() {
-            self.report.take(difference, out)?;
+            self.report.take(difference, &self.terminal, out)?;
         }
         self.differences.clear();
         Ok(())
@@ -114,8 +123,12 @@ impl<F, W: Write, E> Pass<F, W, E> for Run<'_> {
         let Some(line) = self.comparison.line.checked_add(1) else {
             return Ok(());
         };
+        let uploader = self.report.causes.note_line(&reading, self.terminal.own());
         self.comparison
             .take_line(line, reading, &mut self.terminal, &mut self.differences)?;
+        if let Some(address) = uploader {
+            self.report.causes.note_end(address, line, &self.terminal)?;
+        }
         if self.differences.is_empty() {
             return Ok(());
         }

@@ -13,6 +13,8 @@ pub(crate) struct Counts {
     pub(crate) ours_alone: u64,
     /// Answers without a question.
     pub(crate) theirs_alone: u64,
+    /// Differences that the options do not select.
+    pub(crate) ignored: u64,
     /// What is left out, by function.
     pub(crate) left_out: BTreeMap<u8, u64>,
 }
@@ -24,6 +26,7 @@ impl Counts {
             differ: 0,
             ours_alone: 0,
             theirs_alone: 0,
+            ignored: 0,
             left_out: BTreeMap::new(alloc),
         }
     }
@@ -36,6 +39,11 @@ impl Counts {
             Difference::TheirsAlone(_) => &mut self.theirs_alone,
         };
         *number = number.saturating_add(1);
+    }
+
+    /// Counts a difference that the options do not select.
+    pub(crate) fn count_ignored(&mut self) {
+        self.ignored = self.ignored.saturating_add(1);
     }
 
     /// Counts a difference on a function that is left out. After an error it is not counted.

@@ -5,10 +5,14 @@
 //! What differs is decided in log_answers. Come here to ask how `compare` prints a difference.
 #![tactic(auto)]
 
+mod causes;
 mod compare;
 mod counts;
 mod left_out;
 mod report;
+mod selection;
 mod told;
+mod totals;
+mod words;
 
 pub use compare::run_compare;

@@ -9,7 +9,9 @@
 #![tactic(auto)]
 
 mod draw;
+mod messages;
 mod picture;
+mod sieve;
 mod trace;
 
 pub use draw::run_draw;

@@ -63,6 +63,11 @@ impl<'a> Tracer<'a> {
         })
     }
 
+    /// The terminal's outputs at the last line with an input: a frame, or an action of the operator.
+    pub fn outputs(&self) -> &[Output] {
+        &self.outputs
+    }
+
     /// Gives a line, as it was read, to the terminal, and appends its trace to a text. After an error the terminal may have taken the
     /// line or not, and the text is incomplete.
     pub fn trace_line(
