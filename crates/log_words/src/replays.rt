@@ -23,7 +23,8 @@ const AFTER_COMPARE: &str = "\
 This terminal replays the log. For each address, function and object, its messages are compared with those of the recorded terminal,
 in their order. An answer that differs, that is late, or that only one of the two sent, is printed:
 
-  line 368: to F2: Change Numeric Value 483: ours A8E3010000000000 error 00, recorded A8E3010200000000 error 02 at line 370
+  line 43: 5.200000 to 80: Hide/Show Object 100: ours A064000000FFFFFF error 00 (done), recorded A064000002FFFFFF error 02
+  (refused: the object is not there or of another kind) at line 44
 
 Transport control and claims are not compared. The log should have the operator's actions: segyolant_log operator adds them. What this
 terminal never sends, such as the repeats of a held key, and the values of another screen are left out, and counted. A difference is
