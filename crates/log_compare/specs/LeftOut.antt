@@ -23,32 +23,39 @@ part_of function =
 
 -- ---- messages that this terminal never sends
 
-abbrev pub never_sends : Option Part → ℕ → Bool
-never_sends None state = false
-never_sends (Some (State left_out)) state = state == left_out
-never_sends (Some Whole) state = true
-never_sends (Some (Bytes from to)) state = false
+-- whether messages with this byte behind the function are never sent
+abbrev pub never_sends : Part → ℕ → Bool
+never_sends (State left_out) state = state == left_out
+never_sends Whole state = true
+never_sends (Bytes from to) state = false
+
+abbrev pub never_sends_of : Option Part → ℕ → Bool
+never_sends_of None state = false
+never_sends_of (Some part) state = never_sends part state
 
 -- whether a message of the recorded terminal, of eight bytes, is one that this terminal never sends
 abbrev pub is_never_sent : List ℕ → Bool
 is_never_sent [] = false
 is_never_sent (function ∷ []) = false
-is_never_sent (function ∷ state ∷ rest) = length rest == 6 && never_sends (part_of function) state
+is_never_sent (function ∷ state ∷ rest) = length rest == 6 && never_sends_of (part_of function) state
 
 -- ---- answers with values of the terminal
 
-abbrev pub is_same_outside : Option Part → List ℕ → List ℕ → Bool
-is_same_outside None ours theirs = false
-is_same_outside (Some (State left_out)) ours theirs = false
-is_same_outside (Some Whole) ours theirs = false
-is_same_outside (Some (Bytes from to)) ours theirs =
-    bytes_eq (take from ours) (take from theirs) && bytes_eq (drop to ours) (drop to theirs)
+-- whether two answers are the same outside of the bytes that are left out
+abbrev pub is_same_outside : Part → List ℕ → List ℕ → Bool
+is_same_outside (State left_out) ours theirs = false
+is_same_outside Whole ours theirs = false
+is_same_outside (Bytes from to) ours theirs = bytes_eq (take from ours) (take from theirs) && bytes_eq (drop to ours) (drop to theirs)
 
--- whether two answers, of eight bytes each, differ only in bytes that depend on the terminal
+abbrev pub is_same_outside_of : Option Part → List ℕ → List ℕ → Bool
+is_same_outside_of None ours theirs = false
+is_same_outside_of (Some part) ours theirs = is_same_outside part ours theirs
+
+-- whether two answers, of eight bytes each, differ only in bytes that each terminal has for itself
 abbrev pub differ_by_terminal : List ℕ → List ℕ → Bool
 differ_by_terminal [] theirs = false
 differ_by_terminal (function ∷ rest) theirs =
-    length rest == 7 && length theirs == 8 && is_same_outside (part_of function) (function ∷ rest) theirs
+    length (function ∷ rest) == 8 && length theirs == 8 && is_same_outside_of (part_of function) (function ∷ rest) theirs
 
 -- ---- both
 

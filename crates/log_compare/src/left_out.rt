@@ -26,6 +26,33 @@ pub(crate) enum Part {
     Bytes(usize, usize),
 }
 
+impl Part {
+    ghost use Rattle.log_compare.specs.LeftOut.{is_same_outside, never_sends};
+
+    /// Whether this terminal never sends a message with this byte behind the function.
+    fn has(self, state: u8) -> bool
+        ensures { result ≡ never_sends self state }
+    {
+        match self {
+            Part::State(left_out) => state == left_out,
+            Part::Whole => true,
+            Part::Bytes(_, _) => false,
+        }
+    }
+
+    /// Whether two answers are the same outside of the bytes that are left out.
+    fn is_same_outside(self, ours: &[u8], theirs: &[u8]) -> bool
+        ensures { result ≡ is_same_outside self ours.now theirs.now }
+    {
+        match self {
+            Part::State(_) | Part::Whole => false,
+            Part::Bytes(from, to) => {
+                front(ours, from) == front(theirs, from) && back(ours, to) == back(theirs, to)
+            }
+        }
+    }
+}
+
 /// What is left out of the messages of a function, and why.
 #[derive(Clone, Copy, PartialEq, Eq)]
 pub(crate) struct LeftOut {
@@ -115,23 +142,9 @@ fn is_never_sent(message: &[u8]) -> bool
     let [function, state, rest @ ..] = message else {
         return false;
     };
-    if rest.len() != 6 {
-        return false;
-    }
     match LeftOut::of(*function) {
-        Some(
-            LeftOut {
-                part: Part::State(left_out),
-                ..
-            },
-        ) => *state == left_out,
-        Some(
-            LeftOut {
-                part: Part::Whole,
-                ..
-            },
-        ) => true,
-        _ => false,
+        Some(row) => rest.len() == 6 && row.part.has(*state),
+        None => false,
     }
 }
 
@@ -139,20 +152,14 @@ fn is_never_sent(message: &[u8]) -> bool
 fn differ_by_terminal(ours: &[u8], theirs: &[u8]) -> bool
     ensures { result ≡ left_out.differ_by_terminal ours.now theirs.now }
 {
-    let [function, rest @ ..] = ours else {
+    let [function, ..] = ours else {
         return false;
     };
-    if rest.len() != 7 || theirs.len() != 8 {
-        return false;
-    }
     match LeftOut::of(*function) {
-        Some(
-            LeftOut {
-                part: Part::Bytes(from, to),
-                ..
-            },
-        ) => front(ours, from) == front(theirs, from) && back(ours, to) == back(theirs, to),
-        _ => false,
+        Some(row) => {
+            ours.len() == 8 && theirs.len() == 8 && row.part.is_same_outside(ours, theirs)
+        }
+        None => false,
     }
 }
 
