@@ -1,5 +1,6 @@
 //! Why this terminal differs from the recorded one, where that is known.
 
+use crate::unanswered::Unanswered;
 use log_answers::{Difference, Said};
 use std::alloc::{AllocError, Global};
 use std::collections::BTreeMap;
@@ -16,6 +17,8 @@ use vt_server::{Terminal, UploadEnd};
 /// Why this terminal sends another message than the recorded one, or none.
 #[derive(Clone, Copy, PartialEq, Eq)]
 pub(crate) enum Cause {
+    /// It sent the same message before, longer ago than an answer may take.
+    Late,
     /// It has lost its address.
     AddressLost,
     /// It stores no pools.
@@ -33,6 +36,7 @@ pub(crate) enum Cause {
 impl fmt::Display for Cause {
     fn fmt<W: fmt::Write>(&self, f: &mut fmt::Formatter<W>) -> fmt::Result {
         match self {
+            Cause::Late => f.write_str("this terminal sent it before, longer ago than --wait"),
             Cause::AddressLost => f.write_str("this terminal has lost its address"),
             Cause::StoresNone => f.write_str("this terminal stores no pools"),
             Cause::NoSet(address) => {
@@ -88,6 +92,8 @@ impl fmt::Display for RefusedUpload {
 pub(crate) struct Causes {
     /// The last upload of each working set, if it was refused.
     refused: BTreeMap<u8, RefusedUpload>,
+    /// The messages of this terminal that were not answered in time.
+    unanswered: Unanswered,
     /// Whether a line had an action of the operator.
     has_actions: bool,
 }
@@ -97,6 +103,7 @@ impl Causes {
     pub(crate) fn new(alloc: Global) -> Causes {
         Causes {
             refused: BTreeMap::new(alloc),
+            unanswered: Unanswered::new(alloc),
             has_actions: false,
         }
     }
@@ -141,12 +148,23 @@ impl Causes {
         Ok(())
     }
 
-    /// The cause of a difference, if it is known.
-    pub(crate) fn cause_of(&self, difference: &Difference, terminal: &Terminal) -> Option<Cause> {
+    /// The cause of a difference, if it is known. The differences have to come in the order in which they are certain. After an error a
+    /// late answer may be taken for another one.
+    pub(crate) fn cause_of(
+        &mut self,
+        difference: &Difference,
+        terminal: &Terminal,
+    ) -> Result<Option<Cause>, AllocError> {
         match difference {
-            Difference::Differ { ours, .. } => self.cause_of_end(ours),
-            Difference::OursAlone(_) => None,
-            Difference::TheirsAlone(theirs) => self.cause_of_silence(theirs, terminal),
+            Difference::Differ { ours, .. } => Ok(self.cause_of_end(ours)),
+            Difference::OursAlone(ours) => {
+                self.unanswered.add(ours)?;
+                Ok(None)
+            }
+            Difference::TheirsAlone(theirs) if self.unanswered.takes_late(theirs) => {
+                Ok(Some(Cause::Late))
+            }
+            Difference::TheirsAlone(theirs) => Ok(self.cause_of_silence(theirs, terminal)),
         }
     }
 

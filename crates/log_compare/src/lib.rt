@@ -13,6 +13,7 @@ mod report;
 mod selection;
 mod told;
 mod totals;
+mod unanswered;
 mod words;
 
 pub use compare::run_compare;

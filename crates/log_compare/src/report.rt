@@ -43,6 +43,7 @@ impl<'a> Report<'a> {
         out: &mut W,
     ) -> io::Result<()> {
         let first = first_of(difference);
+        let cause = self.causes.cause_of(difference, terminal)?;
         if !self.selection.has(first) {
             self.counts.count_ignored();
             return Ok(());
@@ -53,7 +54,6 @@ impl<'a> Report<'a> {
         }
         self.counts.count(difference);
         self.status = Status::Found;
-        let cause = self.causes.cause_of(difference, terminal);
         self.telling
             .put_difference(difference, terminal, cause, out)
     }
