@@ -30,6 +30,7 @@ PROGRAMS = {
                       ["diff", "pool.iop", "refusal-03-missing.iop"], ["draw", "kinds.iop"],
                       ["draw", "pool.iop", "--state", "hide.log", "--owner", "80"])),
     "segyolant_log": (2, (["pools", "seeder.log"], ["operator", "seeder.log"], ["trace", "seeder.log"], ["compare", "seeder.log"],
+                          ["trace", "seeder.log", "--object", "400"], ["compare", "cab.log", "--only", "to=80"],
                           ["stats", "seeder.log", "--format", "json"], ["test", "seeder.log"])),
 }
 

@@ -1,5 +1,7 @@
 //! The subcommand `compare`.
 
+use crate::report::Report;
+use crate::selection::Selection;
 use crate::steps::Steps;
 use crate::told::Telling;
 use log_answers::{Comparison, Difference};
@@ -25,6 +27,13 @@ pub fn run_compare<F: Open, W: Write, E: Messages>(
     let Some(replay) = Replay::read(alloc, &options.replay, files, errors)? else {
         return Ok(Status::NotJudged);
     };
+    let selection = Selection {
+        filter: &options.filter,
+        names: &replay.names,
+    };
+    if !selection.has_known_names(files, errors) {
+        return Ok(Status::NotJudged);
+    }
     if !replay.recorded.has_frames {
         replay.log.tell_no_frame(files, errors)?;
         return Ok(Status::NotJudged);
@@ -44,11 +53,12 @@ pub fn run_compare<F: Open, W: Write, E: Messages>(
             telling.put_load(*load, out)?;
         }
     }
-    let mut run = Run::new(alloc, options.wait, replay.terminal()?, telling);
+    let report = Report::new(alloc, telling, selection);
+    let mut run = Run::new(alloc, options.wait, replay.terminal()?, report);
     replay.pass(&mut run, files, out, errors)?;
     run.end(out)?;
     replay.tell_loss(&run.terminal, files, errors);
-    Ok(run.status)
+    Ok(run.report.status)
 }
 
 /// Writes to `errors` that the log has no message of the recorded terminal.
@@ -69,36 +79,34 @@ struct Run<'a> {
     comparison: Comparison,
     differences: Vec<Difference>,
     steps: Steps,
-    telling: Telling<'a>,
-    status: Status,
+    report: Report<'a>,
 }
 
 impl<'a> Run<'a> {
     /// A comparison before the first line, in which an answer may take so many milliseconds.
-    fn new(alloc: Global, wait: u32, terminal: Terminal, telling: Telling<'a>) -> Run<'a> {
+    fn new(alloc: Global, wait: u32, terminal: Terminal, report: Report<'a>) -> Run<'a> {
         let wait = u64::from(wait) * MILLISECOND;
         Run {
             comparison: Comparison::new(alloc, wait, &terminal),
             terminal,
             differences: Vec::new(alloc),
             steps: Steps::new(alloc),
-            telling,
-            status: Status::Clean,
+            report,
         }
     }
 
-    /// Writes the differences that the end of the log brings about, and the counts of all.
+    /// Reports the differences that the end of the log brings about, and the counts of all.
     fn end<W: Write>(&mut self, out: &mut W) -> io::Result<()> {
         self.comparison.end(&mut self.differences)?;
         self.put_differences(out)?;
-        self.telling.put_tally(self.comparison.tally, out)
+        self.report.end(self.comparison.tally, out)
     }
 
-    /// Writes the differences that are certain, and removes them.
+    /// Reports the differences that are certain, and removes them.
     fn put_differences<W: Write>(&mut self, out: &mut W) -> io::Result<()> {
-        for difference in self.differences.iter() {
-            self.status = Status::Found;
-            self.telling.put_difference(difference, &self.steps, out)?;
+        for difference in self.differences.iter_mut() {
+            self.steps.put_lines(difference);
+            self.report.take(difference, &self.terminal, out)?;
         }
         self.differences.clear();
         Ok(())
@@ -124,6 +132,7 @@ impl<F, W: Write, E> ReplayPass<F, W, E> for Run<'_> {
             return Ok(());
         };
         self.steps.note(step, number)?;
+        let uploader = self.report.causes.note_line(&reading, self.terminal.own());
         let is_received = turn.is_for(&reading, &self.terminal);
         let (terminal, differences) = (&mut self.terminal, &mut self.differences);
         match reading {
@@ -135,6 +144,11 @@ impl<F, W: Write, E> ReplayPass<F, W, E> for Run<'_> {
                 self.comparison
                     .take_line(step, reading, terminal, differences)?;
             }
+        }
+        if let Some(address) = uploader {
+            self.report
+                .causes
+                .note_end(address, number, &self.terminal)?;
         }
         if self.differences.is_empty() {
             return Ok(());

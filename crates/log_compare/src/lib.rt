@@ -2,11 +2,20 @@
 //!
 //! `run_compare` runs it with its options, and returns the `Status` with which the program ends. docs/LOGS.md has the subcommand.
 //!
-//! What differs is decided in log_answers. Come here to ask how `compare` prints a difference.
+//! What differs is decided in log_answers. What of it is left out, because this terminal never sends it or each terminal has its own
+//! value, is in `left_out.rt`, and why this terminal differs in `causes.rt`. Come here to ask how `compare` prints a difference.
 #![tactic(auto)]
 
+mod causes;
 mod compare;
+mod counts;
+mod left_out;
+mod report;
+mod selection;
 mod steps;
 mod told;
+mod totals;
+mod unanswered;
+mod words;
 
 pub use compare::run_compare;

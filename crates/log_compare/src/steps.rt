@@ -1,5 +1,6 @@
 //! The steps of a comparison, and the lines of the log that they are of.
 
+use log_answers::{Difference, Said};
 use std::alloc::{AllocError, Global};
 
 /// The lines of the steps of a comparison.
@@ -39,8 +40,26 @@ impl Steps {
         Ok(())
     }
 
+    /// Puts the lines of a difference in the place of its steps.
+    pub(crate) fn put_lines(&self, difference: &mut Difference) {
+        match difference {
+            Difference::Differ { ours, theirs } => {
+                self.put_line(ours);
+                self.put_line(theirs);
+            }
+            Difference::OursAlone(said) | Difference::TheirsAlone(said) => self.put_line(said),
+        }
+    }
+
+    /// Puts the line of a message in the place of its step.
+    fn put_line(&self, said: &mut Said) {
+        if !self.jumps.is_empty() {
+            said.line = self.line_of(said.line);
+        }
+    }
+
     /// The line of a step.
-    pub(crate) fn line_of(&self, step: u64) -> u64 {
+    fn line_of(&self, step: u64) -> u64 {
         let count = self.jumps.partition_point(|jump| jump.step <= step);
         match count.checked_sub(1).and_then(|last| self.jumps.get(last)) {
             Some(jump) => jump.line.saturating_add(step.saturating_sub(jump.step)),

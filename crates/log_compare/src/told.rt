@@ -1,16 +1,17 @@
 //! The lines of a comparison, for people or as JSON.
 
-use crate::steps::Steps;
+use crate::causes::Cause;
+use crate::words::words_of;
 use check_text::Names;
-use log_answers::{Difference, Said, Tally, Topic};
-use log_replay::Load;
-use log_words::Format;
-use std::alloc::Global;
+use log_answers::{Difference, Said, Topic};
+use log_words::{Format, Seconds};
+use std::alloc::{AllocError, Global};
 use std::fmt;
 use std::io::{self, Write};
 use vt_cli::JsonLine;
-use vt_frames_text::{Destination, HexByte, PoolRequest, error_of, function_name};
+use vt_frames_text::{Destination, HexByte, error_of, function_name};
 use vt_objects::ObjectId;
+use vt_server::Terminal;
 
 /// How the lines of a comparison are written.
 #[derive(Clone, Copy, Drop)]
@@ -21,35 +22,55 @@ pub(crate) struct Telling<'a> {
 }
 
 impl Telling<'_> {
-    /// Writes the line of a difference.
+    /// Writes the line of a difference, with its cause if it is known. The words name the objects that the terminal has now.
     pub(crate) fn put_difference<W: Write>(
         &self,
         difference: &Difference,
-        steps: &Steps,
+        terminal: &Terminal,
+        cause: Option<Cause>,
         out: &mut W,
     ) -> io::Result<()> {
-        let sides = Sides::of_difference(difference);
-        let Some(first) = sides.first() else {
-            return Ok(());
+        let (ours, theirs) = sides_of(difference);
+        let sides = Sides {
+            ours: self.side_of(ours, terminal)?,
+            theirs: self.side_of(theirs, terminal)?,
         };
+        let first = first_of(difference);
         match self.format {
-            Format::Text => {
-                let line = steps.line_of(first.line);
-                let topic = TopicText {
-                    topic: first.topic,
-                    names: self.names,
-                };
-                let ours = Message { said: sides.ours };
-                let theirs = Message { said: sides.theirs };
-                write!(out, "line {line}: {topic}: ours {ours}, recorded {theirs}")?;
-                match (sides.ours, sides.theirs) {
-                    (Some(_), Some(theirs)) => {
-                        writeln!(out, " at line {}", steps.line_of(theirs.line))
-                    }
-                    _ => writeln!(out),
-                }
-            }
-            Format::Json => self.put_fields(difference, sides, first.topic, steps, out),
+            Format::Text => self.put_text(first, &sides, cause, out),
+            Format::Json => self.put_fields(difference, &sides, cause, out),
+        }
+    }
+
+    /// Writes a difference as a line for people.
+    fn put_text<W: Write>(
+        &self,
+        first: &Said,
+        sides: &Sides<'_>,
+        cause: Option<Cause>,
+        out: &mut W,
+    ) -> io::Result<()> {
+        let line = first.line;
+        let time = Seconds(first.time);
+        let topic = TopicText {
+            topic: first.topic,
+            names: self.names,
+        };
+        let ours = Message {
+            side: sides.ours.as_ref(),
+            cause,
+        };
+        let theirs = Message {
+            side: sides.theirs.as_ref(),
+            cause: None,
+        };
+        write!(
+            out,
+            "line {line}: {time} {topic}: ours {ours}, recorded {theirs}"
+        )?;
+        match (&sides.ours, &sides.theirs) {
+            (Some(_), Some(theirs)) => writeln!(out, " at line {}", theirs.said.line),
+            _ => writeln!(out),
         }
     }
 
@@ -57,73 +78,60 @@ impl Telling<'_> {
     fn put_fields<W: Write>(
         &self,
         difference: &Difference,
-        sides: Sides<'_>,
-        topic: Topic,
-        steps: &Steps,
+        sides: &Sides<'_>,
+        cause: Option<Cause>,
         out: &mut W,
     ) -> io::Result<()> {
-        let line_of = |said: &Said| steps.line_of(said.line);
+        let Said { time, topic, .. } = *first_of(difference);
+        let ours = sides.ours.as_ref();
+        let theirs = sides.theirs.as_ref();
         let mut line = JsonLine::new(self.alloc);
         line.put_address("destination", topic.destination)?;
-        line.put_text_if("error", sides.ours.and_then(error_in))?;
+        line.put_text_if("error", ours.and_then(Side::error))?;
         line.put_address("function", topic.function)?;
         line.put_text("kind", kind_of(difference))?;
-        line.put_number_if("line", sides.ours.map(line_of))?;
+        line.put_number_if("line", ours.map(|side| side.said.line))?;
         line.put_text_if("name", function_name(topic.function))?;
         line.put_number_if("object", topic.object.map(u64::from))?;
-        line.put_text_if("ours", sides.ours.map(|said| Bytes { said }))?;
-        line.put_text_if("recorded", sides.theirs.map(|said| Bytes { said }))?;
-        line.put_text_if("recorded_error", sides.theirs.and_then(error_in))?;
-        line.put_number_if("recorded_line", sides.theirs.map(line_of))?;
+        line.put_text_if("ours", ours.map(Side::bytes))?;
+        line.put_text_if("ours_words", ours.and_then(Side::words))?;
+        line.put_text_if("recorded", theirs.map(Side::bytes))?;
+        line.put_text_if("recorded_error", theirs.and_then(Side::error))?;
+        line.put_number_if("recorded_line", theirs.map(|side| side.said.line))?;
+        line.put_text_if("recorded_words", theirs.and_then(Side::words))?;
+        line.put_number("time", time)?;
+        line.put_text_if("why", cause)?;
         line.write(out)
     }
 
-    /// Writes the line of a node that requests to load a stored pool, which is not in the log.
-    pub(crate) fn put_load<W: Write>(&self, load: Load, out: &mut W) -> io::Result<()> {
-        let Load {
-            line,
-            source,
-            label,
-        } = load;
-        let request = PoolRequest::Load(&label);
-        if self.format == Format::Text {
-            return writeln!(
-                out,
-                "line {line}: {source:02X} {request}; if the recorded terminal had it, it is not in this log: give it by --pool FILE --owner {source:02X}"
-            );
-        }
-        let mut object = JsonLine::new(self.alloc);
-        object.put_text("kind", "load")?;
-        object.put_bytes_if("label", request.label())?;
-        object.put_number("line", line)?;
-        object.put_text("request", request)?;
-        object.put_address("source", source)?;
-        object.write(out)
+    /// A side of a difference with its words, if it has a message.
+    fn side_of<'b>(
+        &self,
+        said: Option<&'b Said>,
+        terminal: &Terminal,
+    ) -> Result<Option<Side<'b>>, AllocError> {
+        let Some(said) = said else {
+            return Ok(None);
+        };
+        let words = words_of(self.alloc, said, terminal, self.names)?;
+        Ok(Some(Side { said, words }))
     }
+}
 
-    /// Writes the counts, which are the last line.
-    pub(crate) fn put_tally<W: Write>(&self, tally: Tally, out: &mut W) -> io::Result<()> {
-        let Tally {
-            same,
-            differ,
-            ours_alone,
-            theirs_alone,
-            not_compared,
-        } = tally;
-        if self.format == Format::Text {
-            return writeln!(
-                out,
-                "answers: {same} same, {differ} differ, {ours_alone} ours alone, {theirs_alone} theirs alone; not compared: {not_compared} frames"
-            );
-        }
-        let mut line = JsonLine::new(self.alloc);
-        line.put_number("differ", differ)?;
-        line.put_text("kind", "answers")?;
-        line.put_number("not_compared", not_compared)?;
-        line.put_number("ours_alone", ours_alone)?;
-        line.put_number("same", same)?;
-        line.put_number("theirs_alone", theirs_alone)?;
-        line.write(out)
+/// The message whose line a difference has: the question, or the answer if there is none.
+pub(crate) fn first_of(difference: &Difference) -> &Said {
+    match difference {
+        Difference::Differ { ours, .. } => ours,
+        Difference::OursAlone(said) | Difference::TheirsAlone(said) => said,
+    }
+}
+
+/// The message of this terminal in a difference, and that of the recorded one.
+fn sides_of(difference: &Difference) -> (Option<&Said>, Option<&Said>) {
+    match difference {
+        Difference::Differ { ours, theirs } => (Some(ours), Some(theirs)),
+        Difference::OursAlone(ours) => (Some(ours), None),
+        Difference::TheirsAlone(theirs) => (None, Some(theirs)),
     }
 }
 
@@ -137,33 +145,37 @@ fn kind_of(difference: &Difference) -> &'static str {
 }
 
 /// The messages of a difference.
-#[derive(Clone, Copy, Drop)]
+#[derive(Drop)]
 struct Sides<'a> {
-    ours: Option<&'a Said>,
-    theirs: Option<&'a Said>,
+    ours: Option<Side<'a>>,
+    theirs: Option<Side<'a>>,
 }
 
-impl<'a> Sides<'a> {
-    fn of_difference(difference: &'a Difference) -> Sides<'a> {
-        match difference {
-            Difference::Differ { ours, theirs } => Sides {
-                ours: Some(ours),
-                theirs: Some(theirs),
-            },
-            Difference::OursAlone(ours) => Sides {
-                ours: Some(ours),
-                theirs: None,
-            },
-            Difference::TheirsAlone(theirs) => Sides {
-                ours: None,
-                theirs: Some(theirs),
-            },
-        }
+/// A message of a difference.
+#[derive(Drop)]
+struct Side<'a> {
+    said: &'a Said,
+    /// What it says, if there are words for it.
+    words: Option<String>,
+}
+
+impl<'a> Side<'a> {
+    /// The bytes of the message in hex.
+    fn bytes(&self) -> Bytes<'a> {
+        Bytes { said: self.said }
     }
 
-    /// The question, or the answer if there is none.
-    fn first(&self) -> Option<&'a Said> {
-        self.ours.or(self.theirs)
+    /// The error byte of the message, if it has one.
+    fn error(&self) -> Option<HexByte> {
+        error_of(self.said.bytes.as_slice()).map(HexByte)
+    }
+
+    /// The words of the message.
+    fn words(&self) -> Option<&str> {
+        match &self.words {
+            Some(words) => Some(words.as_str()),
+            None => None,
+        }
     }
 }
 
@@ -197,21 +209,27 @@ impl fmt::Display for TopicText<'_> {
     }
 }
 
-/// A message in hex with its error byte, or `none`.
+/// A message in hex with its error byte, or `none`, and behind it in brackets what it says and why it differs.
 #[derive(Clone, Copy, Drop)]
 struct Message<'a> {
-    said: Option<&'a Said>,
+    side: Option<&'a Side<'a>>,
+    cause: Option<Cause>,
 }
 
 impl fmt::Display for Message<'_> {
     fn fmt<W: fmt::Write>(&self, f: &mut fmt::Formatter<W>) -> fmt::Result {
-        let Some(said) = self.said else {
-            return write!(f, "none");
-        };
-        write!(f, "{}", Bytes { said })?;
-        match error_in(said) {
-            Some(error) => write!(f, " error {error}"),
-            None => Ok(()),
+        match self.side {
+            None => f.write_str("none")?,
+            Some(side) => write!(f, "{}", side.bytes())?,
+        }
+        if let Some(error) = self.side.and_then(Side::error) {
+            write!(f, " error {error}")?;
+        }
+        match (self.side.and_then(Side::words), self.cause) {
+            (None, None) => Ok(()),
+            (Some(words), None) => write!(f, " ({words})"),
+            (None, Some(cause)) => write!(f, " ({cause})"),
+            (Some(words), Some(cause)) => write!(f, " ({words}; {cause})"),
         }
     }
 }
@@ -229,9 +247,4 @@ impl fmt::Display for Bytes<'_> {
         }
         Ok(())
     }
-}
-
-/// The error byte of a message, if it has one.
-fn error_in(said: &Said) -> Option<HexByte> {
-    error_of(said.bytes.as_slice()).map(HexByte)
 }

@@ -1,6 +1,7 @@
 //! The subcommand `draw`.
 
 use crate::picture::picture_shown;
+use crate::sieve::Sieve;
 use check_needs::TERMINAL_SIZES;
 use log_replay::{Messages, Replay, ReplayPass, Turn, take};
 use log_words::DrawOptions;
@@ -27,6 +28,10 @@ pub fn run_draw<F: Open + Save, W: Write, E: Messages>(
         replay.log.tell_no_frame(files, errors)?;
         return Ok(Status::NotJudged);
     }
+    let sieve = Sieve::new(alloc, &options.filter, &replay.names);
+    if !sieve.has_known_names(files, errors) {
+        return Ok(Status::NotJudged);
+    }
     if !make_folder(folder, files, errors)? {
         return Ok(Status::NotJudged);
     }
@@ -34,6 +39,7 @@ pub fn run_draw<F: Open + Save, W: Write, E: Messages>(
         alloc,
         folder,
         terminal: replay.terminal()?,
+        sieve,
         screen: Vec::new(alloc),
         drawn: Vec::new(alloc),
         outputs: Vec::new(alloc),
@@ -48,7 +54,8 @@ struct Gallery<'a> {
     alloc: Global,
     folder: &'a str,
     terminal: Terminal,
-    /// The text of the screen that was drawn last.
+    sieve: Sieve<'a>,
+    /// The text of the screen after the last line of the range.
     screen: Vec<u8>,
     /// The buffer for the next text.
     drawn: Vec<u8>,
@@ -57,7 +64,8 @@ struct Gallery<'a> {
 }
 
 impl<F: Save, W: Write, E: Messages> ReplayPass<F, W, E> for Gallery<'_> {
-    /// Gives the input of a line to the terminal, and draws the screen if its text has changed.
+    /// Gives the input of a line to the terminal, and draws the screen if its text has changed and the options select the line. The first
+    /// screen of the range is drawn in any case.
     fn line(
         &mut self,
         number: u64,
@@ -67,8 +75,14 @@ impl<F: Save, W: Write, E: Messages> ReplayPass<F, W, E> for Gallery<'_> {
         out: &mut W,
         errors: &mut E,
     ) -> io::Result<()> {
+        self.sieve.take_line(number, turn, &reading)?;
         self.outputs.clear();
-        if !take(turn, reading, &mut self.terminal, &mut self.outputs)? {
+        let is_taken = take(turn, reading, &mut self.terminal, &mut self.outputs)?;
+        if self.sieve.is_first() && !self.sieve.begins_with_log() {
+            self.note_screen()?;
+            return self.draw_screen(number, files, out, errors);
+        }
+        if !is_taken || !self.sieve.is_in_range() {
             return Ok(());
         }
         self.look(number, files, out, errors)
@@ -84,7 +98,10 @@ impl Gallery<'_> {
         out: &mut W,
         errors: &mut E,
     ) -> io::Result<Status> {
-        self.look(0, files, out, errors)?;
+        if self.sieve.begins_with_log() {
+            self.note_screen()?;
+            self.draw_screen(0, files, out, errors)?;
+        }
         if !replay.pass(self, files, out, errors)? {
             self.status = Status::NotJudged;
         }
@@ -93,7 +110,7 @@ impl Gallery<'_> {
         Ok(self.status)
     }
 
-    /// Draws the screen after a line, if its text has changed.
+    /// Draws the screen after a line, if its text has changed and the options select the line.
     fn look<F: Save, W: Write, E: Write>(
         &mut self,
         number: u64,
@@ -101,15 +118,35 @@ impl Gallery<'_> {
         out: &mut W,
         errors: &mut E,
     ) -> io::Result<()> {
-        if !self.terminal.redraws() {
+        if !self.terminal.redraws() || !self.note_screen()? {
             return Ok(());
         }
+        if self.sieve.shows(&self.outputs) {
+            self.draw_screen(number, files, out, errors)
+        } else {
+            Ok(())
+        }
+    }
+
+    /// Notes the text of the screen. Returns whether it has changed.
+    fn note_screen(&mut self) -> io::Result<bool> {
         self.drawn.clear();
         self.terminal.screen(&mut self.drawn)?;
         if self.drawn == self.screen {
-            return Ok(());
+            return Ok(false);
         }
         mem::swap(&mut self.screen, &mut self.drawn);
+        Ok(true)
+    }
+
+    /// Writes the picture of the screen after a line, and joins its status to that of the run.
+    fn draw_screen<F: Save, W: Write, E: Write>(
+        &mut self,
+        number: u64,
+        files: &mut F,
+        out: &mut W,
+        errors: &mut E,
+    ) -> io::Result<()> {
         self.status = self
             .status
             .and(self.put_picture(number, files, out, errors)?);

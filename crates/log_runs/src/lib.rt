@@ -3,13 +3,17 @@
 //! - `run_trace` and `run_draw` run them with their options, and return the `Status` with which the program ends.
 //! - `picture_shown` is the picture of what a terminal shows.
 //!
+//! `sieve.rt` decides which lines of a log are printed, or drawn, by the filters of the command line.
+//!
 //! The lines of a trace are in log_trace, and the pictures in draw_picture. Come here to ask how `trace` and `draw` run.
 //!
 //! docs/LOGS.md has the subcommands.
 #![tactic(auto)]
 
 mod draw;
+mod messages;
 mod picture;
+mod sieve;
 mod trace;
 
 pub use draw::run_draw;

@@ -1,29 +1,35 @@
 //! The subcommand `trace`.
 
+use crate::sieve::Sieve;
 use log_replay::{Messages, Replay, ReplayPass, Turn};
 use log_trace::Tracer;
-use log_words::ReplayOptions;
-use std::alloc::Global;
+use log_words::TraceOptions;
+use std::alloc::{AllocError, Global};
 use std::io::{self, Write};
 use vt_can::{Line, LineFault};
 use vt_cli::{Open, Status};
 use vt_server::Terminal;
 
-/// Prints each line of a log in words, with the answers of the terminal and the changes of its screen.
+/// Prints the selected lines of a log in words, with the answers of the terminal and the changes of its screen.
 pub fn run_trace<F: Open, W: Write, E: Messages>(
     alloc: Global,
-    options: &ReplayOptions<'_>,
+    options: &TraceOptions<'_>,
     files: &mut F,
     out: &mut W,
     errors: &mut E,
 ) -> io::Result<Status> {
-    let Some(replay) = Replay::follow(alloc, options, files, errors)? else {
+    let Some(replay) = Replay::follow(alloc, &options.replay, files, errors)? else {
         return Ok(Status::NotJudged);
     };
+    let sieve = Sieve::new(alloc, &options.filter, &replay.names);
+    if !sieve.has_known_names(files, errors) {
+        return Ok(Status::NotJudged);
+    }
     let terminal = replay.terminal()?;
     let mut trace = Trace {
         tracer: Tracer::new(alloc, &replay.names, &terminal)?,
         terminal,
+        sieve,
         text: Vec::new(alloc),
     };
     if !replay.pass(&mut trace, files, out, errors)? {
@@ -38,11 +44,12 @@ pub fn run_trace<F: Open, W: Write, E: Messages>(
 struct Trace<'a> {
     tracer: Tracer<'a>,
     terminal: Terminal,
+    sieve: Sieve<'a>,
     text: Vec<u8>,
 }
 
 impl<F, W: Write, E> ReplayPass<F, W, E> for Trace<'_> {
-    /// Prints a line in words.
+    /// Prints a line in words, if the options select it.
     fn line(
         &mut self,
         number: u64,
@@ -53,27 +60,45 @@ impl<F, W: Write, E> ReplayPass<F, W, E> for Trace<'_> {
         _errors: &mut E,
     ) -> io::Result<()> {
         self.text.clear();
+        self.sieve.take_line(number, turn, &reading)?;
+        self.trace_line(number, turn, &reading)?;
+        if !self.sieve.shows(self.tracer.outputs()) {
+            return Ok(());
+        }
+        out.write_all(&self.text)
+    }
+}
+
+impl Trace<'_> {
+    /// Appends the trace of a line to the text. A frame that is not given to the terminal now has one line.
+    fn trace_line(
+        &mut self,
+        number: u64,
+        turn: Turn,
+        reading: &Result<Line<'_>, LineFault>,
+    ) -> Result<(), AllocError> {
         let Trace {
             tracer,
             terminal,
             text,
+            ..
         } = self;
-        match &reading {
-            Ok(Line::Frame { time, frame }) if !turn.is_for(&reading, terminal) => match turn {
-                Turn::Never => {
-                    let why = "left out, as it came again or out of order";
-                    tracer.trace_unreceived(number, *time, frame, why, terminal, text)?;
-                }
-                Turn::Later => {
-                    let why = "held, as packets before it are missing";
-                    tracer.trace_unreceived(number, *time, frame, why, terminal, text)?;
-                }
-                Turn::Now | Turn::Own | Turn::Late => {
-                    tracer.trace_own_frame(number, *time, frame, terminal, text)?;
-                }
-            },
-            _ => tracer.trace_line(number, &reading, terminal, text)?,
+        let (time, frame) = match reading {
+            Ok(Line::Frame { time, frame }) if !turn.is_for(reading, terminal) => (*time, frame),
+            _ => return tracer.trace_line(number, reading, terminal, text),
+        };
+        match turn {
+            Turn::Never => {
+                let why = "left out, as it came again or out of order";
+                tracer.trace_unreceived(number, time, frame, why, terminal, text)
+            }
+            Turn::Later => {
+                let why = "held, as packets before it are missing";
+                tracer.trace_unreceived(number, time, frame, why, terminal, text)
+            }
+            Turn::Now | Turn::Own | Turn::Late => {
+                tracer.trace_own_frame(number, time, frame, terminal, text)
+            }
         }
-        out.write_all(&self.text)
     }
 }

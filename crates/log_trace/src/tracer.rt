@@ -63,6 +63,11 @@ impl<'a> Tracer<'a> {
         })
     }
 
+    /// The terminal's outputs at the last line with an input: a frame, or an action of the operator.
+    pub fn outputs(&self) -> &[Output] {
+        &self.outputs
+    }
+
     /// Gives a line, as it was read, to the terminal, and appends its trace to a text. After an error the terminal may have taken the
     /// line or not, and the text is incomplete.
     pub fn trace_line(
@@ -158,6 +163,7 @@ impl<'a> Tracer<'a> {
     ) -> Result<(), AllocError>
         ensures { OnOk result (Gains (IsHead number) text.old.items text.new.items) }
     {
+        self.outputs.clear();
         self.broken.clear();
         let whole = self.listener.hear(frame, &mut self.broken)?;
         let sentence = Sentence {
@@ -185,6 +191,7 @@ impl<'a> Tracer<'a> {
     ) -> Result<(), AllocError>
         ensures { OnOk result (Gains (IsHead number) text.old.items text.new.items) }
     {
+        self.outputs.clear();
         let sentence = Sentence {
             frame,
             terminal,

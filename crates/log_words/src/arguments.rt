@@ -55,6 +55,55 @@ pub(crate) const WAIT: Argument<'static> = Argument {
     form: Form::Setting("MS", Allowed::Any),
 };
 
+/// The first line of the printed ones.
+pub(crate) const FROM: Argument<'static> = Argument {
+    name: "from",
+    help: "Only from this line on, such as 120, or from this time on in seconds with a point, such as 12.5 [default: from the beginning]",
+    form: Form::Setting("PLACE", Allowed::Any),
+};
+
+/// The last line of the printed ones.
+pub(crate) const TO: Argument<'static> = Argument {
+    name: "to",
+    help: "Only up to this line, or up to this time [default: to the end]",
+    form: Form::Setting("PLACE", Allowed::Any),
+};
+
+/// The differences that are reported.
+pub(crate) const ONLY: Argument<'static> = Argument {
+    name: "only",
+    help: "Only differences on this function, such as A0, on object=ID or object=NAME, or to=AA; may be given again",
+    form: Form::RepeatedSetting("TOPIC"),
+};
+
+/// The differences that are not reported.
+pub(crate) const IGNORE: Argument<'static> = Argument {
+    name: "ignore",
+    help: "No differences on this function, on object=ID or object=NAME, or to=AA; may be given again",
+    form: Form::RepeatedSetting("TOPIC"),
+};
+
+/// The addresses of the printed messages.
+pub(crate) const ADDRESS: Argument<'static> = Argument {
+    name: "address",
+    help: "Only lines with a message from or to this address, two hex digits, FF for all; may be given again",
+    form: Form::RepeatedSetting("AA"),
+};
+
+/// The functions of the printed messages.
+pub(crate) const FUNCTION: Argument<'static> = Argument {
+    name: "function",
+    help: "Only lines with a message of this function, two hex digits, such as A0; may be given again",
+    form: Form::RepeatedSetting("FF"),
+};
+
+/// The objects of the printed messages.
+pub(crate) const OBJECT: Argument<'static> = Argument {
+    name: "object",
+    help: "Only lines with a message that names this object, by its ID or a name of --names; may be given again",
+    form: Form::RepeatedSetting("ID"),
+};
+
 pub(crate) const OWN: Argument<'static> = Argument {
     name: "own",
     help: "The terminal's address, two hex digits up to FD [default: 26]",

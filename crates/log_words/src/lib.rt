@@ -3,19 +3,26 @@
 //! `Options::parse` reads the words of a command line, and returns the `Options` of a subcommand or a `UsageError`, which may have a
 //! `WrongOption`. docs/LOGS.md has the subcommands.
 //!
+//! A `LineFilter` and a `TopicFilter` are the lines and the differences that are printed.
+//!
 //! It opens no file and runs nothing: that is done in log_tool and the crates of the subcommands.
 //!
 //! Come here to ask which words `segyolant_log` takes, and what its help and its refusals say.
 #![tactic(auto)]
 
 mod arguments;
+mod filter_options;
+mod filters;
 mod options;
+mod places;
 mod replays;
 mod subcommands;
 mod wrong_option;
 
+pub use filters::{LineFilter, ObjectWord, TopicFilter, TopicPart, UnknownName};
 pub use options::{
     CompareOptions, DrawOptions, Format, OperatorOptions, Options, PoolsOptions, ReplayOptions,
-    StatsOptions, TerminalOptions, TestOptions,
+    StatsOptions, TerminalOptions, TestOptions, TraceOptions,
 };
+pub use places::{LineRange, LogPlace, Seconds};
 pub use wrong_option::WrongOption;

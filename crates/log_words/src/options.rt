@@ -1,5 +1,7 @@
 //! The options that a command line gives.
 
+use crate::filter_options::{line_filter, topic_filter};
+use crate::filters::{LineFilter, TopicFilter};
 use crate::subcommands::SEGYOLANT_LOG;
 use crate::wrong_option::WrongOption;
 use clap::ArgMatches;
@@ -17,7 +19,7 @@ pub enum Options<'a> {
     /// `operator`.
     Operator(OperatorOptions<'a>),
     /// `trace`.
-    Trace(ReplayOptions<'a>),
+    Trace(TraceOptions<'a>),
     /// `compare`.
     Compare(CompareOptions<'a>),
     /// `draw`.
@@ -63,7 +65,7 @@ pub struct OperatorOptions<'a> {
     pub own: u8,
 }
 
-/// A log that a terminal replays: the options of `trace`, and a part of those of `compare`, `draw` and `stats`.
+/// A log that a terminal replays: a part of the options of `trace`, `compare`, `draw` and `stats`.
 #[derive(Drop)]
 pub struct ReplayOptions<'a> {
     /// The file of the log.
@@ -76,11 +78,22 @@ pub struct ReplayOptions<'a> {
     pub terminal: TerminalOptions<'a>,
 }
 
+/// The options of `trace`.
+#[derive(Drop)]
+pub struct TraceOptions<'a> {
+    /// The log, and the terminal that replays it.
+    pub replay: ReplayOptions<'a>,
+    /// The lines that are printed.
+    pub filter: LineFilter<'a>,
+}
+
 /// The options of `compare`.
 #[derive(Drop)]
 pub struct CompareOptions<'a> {
     /// The log, and the terminal that replays it.
     pub replay: ReplayOptions<'a>,
+    /// The differences that are reported.
+    pub filter: TopicFilter<'a>,
     /// How long an answer may take, in milliseconds.
     pub wait: u32,
     /// The form of the output.
@@ -92,6 +105,8 @@ pub struct CompareOptions<'a> {
 pub struct DrawOptions<'a> {
     /// The log, and the terminal that replays it.
     pub replay: ReplayOptions<'a>,
+    /// The lines at which the screen is drawn.
+    pub filter: LineFilter<'a>,
     /// The folder for the pictures.
     pub folder: &'a str,
 }
@@ -163,7 +178,7 @@ impl<'a> Options<'a> {
     ) -> Result<Options<'a>, UsageError<WrongOption<'a>>> {
         Ok(match name {
             "operator" => Options::Operator(operator_options(matches)?),
-            "trace" => Options::Trace(replay_options(alloc, matches)?),
+            "trace" => Options::Trace(trace_options(alloc, matches)?),
             "compare" => Options::Compare(compare_options(alloc, matches)?),
             "draw" => Options::Draw(draw_options(alloc, matches)?),
             "stats" => Options::Stats(stats_options(alloc, matches)?),
@@ -208,12 +223,23 @@ fn replay_options<'a>(
     })
 }
 
+fn trace_options<'a>(
+    alloc: Global,
+    matches: &ArgMatches<'a>,
+) -> Result<TraceOptions<'a>, UsageError<WrongOption<'a>>> {
+    Ok(TraceOptions {
+        replay: replay_options(alloc, matches)?,
+        filter: line_filter(alloc, matches)?,
+    })
+}
+
 fn compare_options<'a>(
     alloc: Global,
     matches: &ArgMatches<'a>,
 ) -> Result<CompareOptions<'a>, UsageError<WrongOption<'a>>> {
     Ok(CompareOptions {
         replay: replay_options(alloc, matches)?,
+        filter: topic_filter(alloc, matches)?,
         wait: wait_of(matches)?,
         format: format_of(matches),
     })
@@ -225,6 +251,7 @@ fn draw_options<'a>(
 ) -> Result<DrawOptions<'a>, UsageError<WrongOption<'a>>> {
     Ok(DrawOptions {
         replay: replay_options(alloc, matches)?,
+        filter: line_filter(alloc, matches)?,
         // clap demands it; its contract does not say so.
         folder: matches.get_str("out").unwrap_or("."),
     })

@@ -1,7 +1,8 @@
 //! The subcommands that have the arguments of a replay: `trace`, `compare`, `draw` and `stats`.
 
 use crate::arguments::{
-    FORMAT, INTERFACE, LOG, NAMES, OWN, OWNER, PICTURES_FOLDER, POOL, RECORDED_NAME, WAIT,
+    ADDRESS, FORMAT, FROM, FUNCTION, IGNORE, INTERFACE, LOG, NAMES, OBJECT, ONLY, OWN, OWNER,
+    PICTURES_FOLDER, POOL, RECORDED_NAME, TO, WAIT,
 };
 use vt_cli::Subcommand;
 
@@ -12,22 +13,29 @@ lines of its screen that are removed (-) and added (+):
 
   17 2.400000 80 to 26: Hide/Show Object: Container 100 `boom`, hide
       14E68026#A064000000FFFFFF  26 to 80: Hide/Show Object: done
-    - container 100 10 5 50x20";
+    - container 100 10 5 50x20
+
+Filters print only some lines, each with all that is below it. The terminal receives every line. With several of --address, --function
+and --object a line is printed if one message at it, of the log or of this terminal, fits all of them.";
 
 /// The text of help after the options of `compare`.
 const AFTER_COMPARE: &str = "\
 This terminal replays the log. For each address, function and object, its messages are compared with those of the recorded terminal,
 in their order. An answer that differs, that is late, or that only one of the two sent, is printed:
 
-  line 368: to F2: Change Numeric Value 483: ours A8E3010000000000 error 00, recorded A8E3010200000000 error 02 at line 370
+  line 43: 5.200000 to 80: Hide/Show Object 100: ours A064000000FFFFFF error 00 (done), recorded A064000002FFFFFF error 02
+  (refused: the object is not there or of another kind) at line 44
 
-Transport control and claims are not compared. The log should have the operator's actions: segyolant_log operator adds them.
+Transport control and claims are not compared. The log should have the operator's actions: segyolant_log operator adds them. What this
+terminal never sends, such as the repeats of a held key, and the values of another screen are left out, and counted. A difference is
+printed if it fits one of --only, if some are given, and none of --ignore, and is in the range of --from and --to; the others are counted.
 Status: 0 all answers are the same, 1 some are not, 2 not judged.";
 
 /// The text of help after the options of `draw`.
 const AFTER_DRAW: &str = "\
 The first screen becomes FOLDER/line-0.svg, and the screen after each line that changed its text becomes FOLDER/line-17.svg, by the
-number of the line. Each is named on the standard output. A screen without a mask has no picture.";
+number of the line. Each is named on the standard output. A screen without a mask has no picture. With --from the first picture is that
+of the screen at that place. Filters draw only at some lines, as those of trace; the terminal receives every line.";
 
 /// The text of help after the options of `stats`.
 const AFTER_STATS: &str = "\
@@ -38,7 +46,20 @@ pub(crate) const TRACE: Subcommand<'static> = Subcommand {
     name: "trace",
     about: "Prints each line of a log in words, with the answers of a terminal and the changes of its screen",
     after_help: Some(AFTER_TRACE),
-    arguments: &[NAMES, LOG, INTERFACE, OWN, RECORDED_NAME, POOL, OWNER],
+    arguments: &[
+        NAMES,
+        FROM,
+        TO,
+        ADDRESS,
+        FUNCTION,
+        OBJECT,
+        LOG,
+        INTERFACE,
+        OWN,
+        RECORDED_NAME,
+        POOL,
+        OWNER,
+    ],
 };
 
 pub(crate) const COMPARE: Subcommand<'static> = Subcommand {
@@ -48,6 +69,10 @@ pub(crate) const COMPARE: Subcommand<'static> = Subcommand {
     arguments: &[
         NAMES,
         WAIT,
+        ONLY,
+        IGNORE,
+        FROM,
+        TO,
         FORMAT,
         LOG,
         INTERFACE,
@@ -64,6 +89,12 @@ pub(crate) const DRAW: Subcommand<'static> = Subcommand {
     after_help: Some(AFTER_DRAW),
     arguments: &[
         PICTURES_FOLDER,
+        NAMES,
+        FROM,
+        TO,
+        ADDRESS,
+        FUNCTION,
+        OBJECT,
         LOG,
         INTERFACE,
         OWN,

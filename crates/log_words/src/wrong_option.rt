@@ -14,6 +14,18 @@ pub enum WrongOption<'a> {
     Name(&'a str),
     /// The value of `--wait` is no number of milliseconds.
     Wait(&'a str),
+    /// The value of `--from` or `--to`, the first text, is no place in a log.
+    Place(&'static str, &'a str),
+    /// The value of `--to`, the second text, is before that of `--from`.
+    Reversed(&'a str, &'a str),
+    /// The value of `--address` is no byte.
+    Address(&'a str),
+    /// The value of `--function` is no byte.
+    Function(&'a str),
+    /// The value of `--object` is no object.
+    Object(&'a str),
+    /// The value of `--only` or `--ignore`, the first text, is no part of a topic.
+    Topic(&'static str, &'a str),
     /// `--owner` is given without a pool.
     OwnerAlone,
     /// With `--bless`, a log is the standard input, which cannot be written anew.
@@ -38,6 +50,30 @@ impl fmt::Display for WrongOption<'_> {
             WrongOption::Wait(value) => write!(
                 f,
                 "--wait {value}: expected milliseconds, such as 1500, at most 4294967295"
+            ),
+            WrongOption::Place(option, value) => write!(
+                f,
+                "--{option} {value}: expected a line, such as 120, or a time in seconds with a point, such as 12.5"
+            ),
+            WrongOption::Reversed(from, to) => write!(
+                f,
+                "--to {to}: expected a place that is not before --from {from}"
+            ),
+            WrongOption::Address(value) => write!(
+                f,
+                "--address {value}: expected two hex digits, such as 80, or FF for messages to all"
+            ),
+            WrongOption::Function(value) => write!(
+                f,
+                "--function {value}: expected two hex digits, such as A0, the first byte of a message"
+            ),
+            WrongOption::Object(value) => write!(
+                f,
+                "--object {value}: expected an ID, such as 1000, at most 65534, or a name of --names"
+            ),
+            WrongOption::Topic(option, value) => write!(
+                f,
+                "--{option} {value}: expected a function, such as A0, object=ID, such as object=1000, object=NAME with a name of --names, to=AA, such as to=80, or to=all"
             ),
             WrongOption::OwnerAlone => write!(
                 f,
