@@ -77,7 +77,7 @@ impl JsonLine {
     /// Adds a member with the text of bytes in UTF-8, with a replacement character for each fault, or `null` if there are no bytes. After
     /// `OutOfMemory` the object is unchanged.
     pub fn put_bytes_if(&mut self, name: &str, bytes: Option<&[u8]>) -> Result<(), AllocError>
-        ensures ok { OnOk result (MatchOption bytes (members_view self.new.members.entries ≡ with_member name.now null (members_view self.old.members.entries))
+        ensures ok { OnOk result (MatchOption bytes.entry (members_view self.new.members.entries ≡ with_member name.now null (members_view self.old.members.entries))
             (λ _. GainsText name.now (members_view self.old.members.entries) (members_view self.new.members.entries))) }
         ensures err { OnErr result (self.new.members.entries ≡ self.old.members.entries) }
     {
