@@ -52,7 +52,7 @@ pub fn run_pools<F: Open + Save, W: Write, E: Messages>(
     if !log.pass(&mut hearing, files, out, errors)? {
         return Ok(Status::NotJudged);
     }
-    hearing.put_unended(out)?;
+    hearing.put_unended(files, out, errors)?;
     if let Some(folder) = folder {
         tell_replaced(folder, files, errors);
     }
@@ -181,15 +181,28 @@ impl Hearing<'_> {
         Ok(if is_lost { Status::NotJudged } else { found })
     }
 
-    /// Reports the transfers and uploads that are not ended.
-    fn put_unended<W: Write>(&mut self, out: &mut W) -> io::Result<()> {
+    /// Reports the transfers and uploads that are not ended, and writes what there is of the pools.
+    fn put_unended<F: Save, W: Write, E: Write>(
+        &mut self,
+        files: &mut F,
+        out: &mut W,
+        errors: &mut E,
+    ) -> io::Result<()> {
         self.broken.clear();
         self.listener.unended(&mut self.broken)?;
         self.put_broken(None, out)?;
-        let Report { alloc, format, .. } = self.report;
+        let report = self.report;
         for upload in self.uploads.unended() {
-            self.status = self.status.and(Status::Found);
-            put_unended(alloc, upload, format, out)?;
+            let number = self.sets.next_number(upload.source)?;
+            let name = format!(in report.alloc; "{:02X}-{number}.part.iop", upload.source)?;
+            let saved = report.save(name.as_str(), &upload.bytes, files, errors)?;
+            let is_lost = report.folder.is_some() && saved.is_none();
+            self.status = self.status.and(if is_lost {
+                Status::NotJudged
+            } else {
+                Status::Found
+            });
+            put_unended(report.alloc, upload, saved.as_deref(), report.format, out)?;
         }
         Ok(())
     }

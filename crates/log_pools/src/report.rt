@@ -214,10 +214,11 @@ pub(crate) fn put_request<W: Write>(
     object.write(out)
 }
 
-/// Writes the line of an upload that is not ended.
+/// Writes the line of an upload that is not ended, with the file of its bytes if it is written.
 pub(crate) fn put_unended<W: Write>(
     alloc: Global,
     upload: &Upload,
+    path: Option<&str>,
     format: Format,
     out: &mut W,
 ) -> io::Result<()> {
@@ -230,15 +231,20 @@ pub(crate) fn put_unended<W: Write>(
     } = upload;
     let size = upload.bytes.len();
     if format == Format::Text {
-        return writeln!(
+        write!(
             out,
             "line {first_line} on: pool of {source:02X} to {destination:02X}, {size} bytes in {}: its end is not in the log",
             Pieces(*pieces)
-        );
+        )?;
+        return match path {
+            Some(path) => writeln!(out, " -> {path}"),
+            None => writeln!(out),
+        };
     }
     let mut object = JsonLine::new(alloc);
     object.put_number("bytes", size as u64)?;
     object.put_address("destination", *destination)?;
+    object.put_text_if("file", path)?;
     object.put_number("first_line", *first_line)?;
     object.put_text("kind", "unended")?;
     object.put_number("pieces", *pieces)?;
