@@ -49,8 +49,8 @@ impl<'a> CommandLine<'a> {
 }
 
 impl<'a> Subcommand<'a> {
-    /// The command of the subcommand.
-    fn command(&self, alloc: Global) -> Result<Command<'a>, AllocError> {
+    /// The command of the subcommand for `clap`. An error is returned if memory is refused.
+    pub fn command(&self, alloc: Global) -> Result<Command<'a>, AllocError> {
         let mut command = Command::new(alloc, self.name).about(self.about);
         if let Some(after_help) = self.after_help {
             command = command.after_help(after_help);
