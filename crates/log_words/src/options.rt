@@ -2,7 +2,7 @@
 
 use crate::filter_options::{line_filter, topic_filter};
 use crate::filters::{LineFilter, TopicFilter};
-use crate::subcommands::SEGYOLANT_LOG;
+use crate::subcommands::command;
 use crate::wrong_option::WrongOption;
 use clap::ArgMatches;
 use hex::FromHex;
@@ -158,7 +158,7 @@ impl<'a> Options<'a> {
         alloc: Global,
         words: &'a [S],
     ) -> Result<Options<'a>, UsageError<WrongOption<'a>>> {
-        let matches = SEGYOLANT_LOG.command(alloc)?.try_get_matches_from(words)?;
+        let matches = command(alloc)?.try_get_matches_from(words)?;
         // clap demands a subcommand; its contract does not say so.
         let Some((name, matches)) = matches.subcommand() else {
             return Err(UsageError::NoSubcommand(SUBCOMMANDS));

@@ -4,6 +4,8 @@ use crate::arguments::{
     BLESS, FORMAT, INTERFACE, LOG, LOGS, NAME, NAMES, OWN, OWNER, POOL, POOLS_FOLDER,
 };
 use crate::replays::{COMPARE, DRAW, STATS, TRACE};
+use clap::Command;
+use std::alloc::{AllocError, Global};
 use vt_cli::{CommandLine, Subcommand};
 
 /// The text of help after the subcommands.
@@ -51,13 +53,56 @@ Expectations at the front are those of the first screen.
 
 Status: 0 each line prints what is expected of it, 1 some line prints something else, 2 not judged.";
 
-/// The command line of `segyolant_log`.
-pub(crate) const SEGYOLANT_LOG: CommandLine<'static> = CommandLine {
+/// The command of `segyolant_log` for `clap`. An error is returned if memory is refused.
+///
+/// Each subcommand is made in a function of its own, because the whole table is too large for one proof.
+pub(crate) fn command<'a>(alloc: Global) -> Result<Command<'a>, AllocError> {
+    let command = SEGYOLANT_LOG.command(alloc)?;
+    let command = command.subcommand(pools(alloc)?)?;
+    let command = command.subcommand(operator(alloc)?)?;
+    let command = command.subcommand(trace(alloc)?)?;
+    let command = command.subcommand(compare(alloc)?)?;
+    let command = command.subcommand(draw(alloc)?)?;
+    let command = command.subcommand(stats(alloc)?)?;
+    let command = command.subcommand(test(alloc)?)?;
+    Ok(command)
+}
+
+/// The command of `segyolant_log` without its subcommands.
+const SEGYOLANT_LOG: CommandLine<'static> = CommandLine {
     name: "segyolant_log",
     about: "Examines recorded logs of an ISOBUS: uploaded pools, messages in words, screens, and differences from this terminal",
     after_help: AFTER_HELP,
-    subcommands: &[POOLS, OPERATOR, TRACE, COMPARE, DRAW, STATS, TEST],
+    subcommands: &[],
 };
+
+fn pools<'a>(alloc: Global) -> Result<Command<'a>, AllocError> {
+    POOLS.command(alloc)
+}
+
+fn operator<'a>(alloc: Global) -> Result<Command<'a>, AllocError> {
+    OPERATOR.command(alloc)
+}
+
+fn trace<'a>(alloc: Global) -> Result<Command<'a>, AllocError> {
+    TRACE.command(alloc)
+}
+
+fn compare<'a>(alloc: Global) -> Result<Command<'a>, AllocError> {
+    COMPARE.command(alloc)
+}
+
+fn draw<'a>(alloc: Global) -> Result<Command<'a>, AllocError> {
+    DRAW.command(alloc)
+}
+
+fn stats<'a>(alloc: Global) -> Result<Command<'a>, AllocError> {
+    STATS.command(alloc)
+}
+
+fn test<'a>(alloc: Global) -> Result<Command<'a>, AllocError> {
+    TEST.command(alloc)
+}
 
 const POOLS: Subcommand<'static> = Subcommand {
     name: "pools",
