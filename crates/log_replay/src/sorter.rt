@@ -147,11 +147,18 @@ impl Sorter {
         packet: [u8; 7],
         log: &Log<'_>,
     ) -> Result<Turn, AllocError> {
+        let Some(transfer) = self.transfers.get_mut(&sender) else {
+            return Ok(Turn::Now);
+        };
+        let is_next = transfer.is_packet(sequence);
+        if is_next && !transfer.is_sorted && !transfer.is_whole() {
+            return Ok(Turn::Now);
+        }
         let Some(mut transfer) = self.transfers.remove(&sender) else {
             return Ok(Turn::Now);
         };
         let mut turn = Turn::Now;
-        if !transfer.is_packet(sequence) {
+        if !is_next {
             if !self.is_sorted(line, sender, &mut transfer, log)? {
                 return Ok(Turn::Now);
             }
