@@ -1,9 +1,12 @@
 -- When a terminal that replays a log receives a frame of the recorded terminal (docs/PROFILE.md, "The recorded terminal in a replay").
-use Rattle.std.specs.Prelude.{ℕ, ¬◌}
+use Rattle.std.specs.Prelude.{ℕ, ◌<◌, ◌≤◌, Some}
+use Rattle.vt_can.specs.transport.FirstTimes.{IsFirstTime}
 use Rattle.vt_server.specs.Terminals.{State}
 use Rattle.vt_server.specs.frame.Deadlines.{IsDue}
 
--- No tick is due at the latest time, but one is at this later time: a session or a set has become overdue.
+-- No tick is due yet, but one is first due by this time: a session or a set has become overdue.
 pub record IsOverdueAt (s : State) (time : ℕ) : Type 0 where
-  pub not_yet : IsDue s 0 → ⊥
-  pub then_due : IsDue s time
+  pub first : ℕ
+  pub is_first : IsFirstTime (IsDue s) (Some first)
+  pub not_yet : 0 < first
+  pub by_then : first ≤ time

@@ -1,6 +1,6 @@
 //! Passes over the lines of a log, for a terminal that replays it.
 
-use crate::log::{Log, Pass};
+use crate::log::Pass;
 use crate::sorter::{Sorter, Spoiled};
 use crate::transfer::Moved;
 use crate::turn::Turn;
@@ -25,22 +25,27 @@ pub trait ReplayPass<F, W, E> {
 
 /// Gives the lines of a log to a pass, and puts the packets of messages to the terminal in order.
 #[derive(Drop)]
-pub(crate) struct InOrder<'p, 'l, P> {
-    pass: &'p mut P,
-    log: &'p Log<'l>,
-    sorter: Sorter,
+pub(crate) struct InOrder<'a, P> {
+    pass: &'a mut P,
+    sorter: Sorter<'a>,
 }
 
-impl<'p, 'l, P> InOrder<'p, 'l, P> {
+impl<'a, P> InOrder<'a, P> {
     /// Before the first line of a log.
-    pub(crate) fn new(pass: &'p mut P, log: &'p Log<'l>, sorter: Sorter) -> InOrder<'p, 'l, P> {
-        InOrder { pass, log, sorter }
+    pub(crate) fn new(pass: &'a mut P, sorter: Sorter<'a>) -> InOrder<'a, P> {
+        InOrder { pass, sorter }
     }
 
     /// Writes to `errors` how many packets were put in order, and which messages were not received. If the log has no message of the
     /// recorded terminal, it is not said that it doesn't show what that terminal did.
-    pub(crate) fn tell<F: Program, E: Write>(&self, has_messages: bool, files: &F, errors: &mut E) {
-        let (program, path) = (files.name(), self.log.path());
+    pub(crate) fn tell<F: Program, E: Write>(
+        &self,
+        path: &str,
+        has_messages: bool,
+        files: &F,
+        errors: &mut E,
+    ) {
+        let program = files.name();
         let Moved { count, first } = self.sorter.moved;
         if count > 0 {
             let plural = if count == 1 { "" } else { "s" };
@@ -74,7 +79,7 @@ impl<'p, 'l, P> InOrder<'p, 'l, P> {
     }
 }
 
-impl<F, W, E, P: ReplayPass<F, W, E>> Pass<F, W, E> for InOrder<'_, '_, P> {
+impl<F, W, E, P: ReplayPass<F, W, E>> Pass<F, W, E> for InOrder<'_, P> {
     /// Gives a line to the pass, and the packets whose turn has come with it.
     fn line(
         &mut self,
@@ -90,9 +95,12 @@ impl<F, W, E, P: ReplayPass<F, W, E>> Pass<F, W, E> for InOrder<'_, '_, P> {
                 .line(number, Turn::Now, reading, files, out, errors);
         };
         let time = *time;
-        let turn = self.sorter.turn(number, frame, self.log)?;
+        let turn = self.sorter.turn(number, frame)?;
         self.pass.line(number, turn, reading, files, out, errors)?;
-        while let Some(late) = self.sorter.late.pop_front() {
+        for _ in 0..self.sorter.late.len() {
+            let Some(late) = self.sorter.late.pop_front() else {
+                break;
+            };
             let frame = late.frame;
             let reading = Ok(Line::Frame { time, frame });
             self.pass

@@ -43,6 +43,8 @@ pub struct Log<'a> {
     path: &'a str,
     bytes: Vec<u8>,
     interface: Option<&'a str>,
+    /// Whether it is the standard input, of which no line is read yet.
+    is_live: bool,
 }
 
 impl<'a> Log<'a> {
@@ -60,6 +62,7 @@ impl<'a> Log<'a> {
             path,
             bytes,
             interface,
+            is_live: false,
         }))
     }
 
@@ -70,12 +73,18 @@ impl<'a> Log<'a> {
             path: "-",
             bytes: Vec::new(alloc),
             interface,
+            is_live: true,
         }
     }
 
     /// The path of the file.
     pub fn path(&self) -> &'a str {
         self.path
+    }
+
+    /// Whether the log is the standard input, which is read in the pass over it.
+    pub(crate) fn is_live(&self) -> bool {
+        self.is_live
     }
 
     /// The only interface whose frames are read, or `None` for all.

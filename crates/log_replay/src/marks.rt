@@ -64,26 +64,25 @@ impl Mark {
 
     /// What a frame of eight bytes from a node to the terminal says.
     fn to_terminal(sender: Sender, group: u32, bytes: &[u8]) -> Option<Mark> {
-        let [control, rest @ ..] = bytes else {
+        let [control, a, b, c, d, e, f, g] = bytes else {
             return None;
         };
-        let packet = <[u8; 7]>::try_from(rest).ok()?;
-        let [a, b, c, d, pgn @ ..] = packet;
+        let packet = [*a, *b, *c, *d, *e, *f, *g];
         match (group, *control) {
             (TP_DT | ETP_DT, number) => Some(Mark::Packet(sender, number, packet)),
             (TP_CM, TP_RTS) => {
-                let size = u16::from_le_bytes([a, b]);
+                let size = u16::from_le_bytes([*a, *b]);
                 Some(Mark::Request(sender, u32::from(size)))
             }
             (ETP_CM, ETP_RTS) => {
-                let size = u32::from_le_bytes([a, b, c, d]);
+                let size = u32::from_le_bytes([*a, *b, *c, *d]);
                 Some(Mark::Request(sender, size))
             }
             (ETP_CM, ETP_DPO) => {
-                let offset = u32::from_le_bytes([b, c, d, 0]);
-                Some(Mark::Offset(sender, offset, a))
+                let offset = u32::from_le_bytes([*b, *c, *d, 0]);
+                Some(Mark::Offset(sender, offset, *a))
             }
-            (_, ABORT) => Mark::abort(sender, &pgn),
+            (_, ABORT) => Mark::abort(sender, &[*e, *f, *g]),
             _ => None,
         }
     }

@@ -22,8 +22,6 @@ pub struct Replay<'a> {
     alloc: Global,
     options: TerminalOptions<'a>,
     set: Option<LoadedSet>,
-    /// Whether the log is the standard input, and read as it comes.
-    is_live: bool,
     /// The log.
     pub log: Log<'a>,
     /// The names of objects.
@@ -61,11 +59,7 @@ impl<'a> Replay<'a> {
         }
         let log = Log::input(alloc, options.interface);
         let recorded = Recorded::unknown(alloc);
-        let replay = Replay::of_log(alloc, options, log, recorded, files, errors)?;
-        Ok(replay.map(|replay| Replay {
-            is_live: true,
-            ..replay
-        }))
+        Replay::of_log(alloc, options, log, recorded, files, errors)
     }
 
     /// A replay of a log, with the other files that it needs.
@@ -87,7 +81,6 @@ impl<'a> Replay<'a> {
             alloc,
             options: options.terminal,
             set,
-            is_live: false,
             log,
             names,
             recorded,
@@ -121,16 +114,23 @@ impl<'a> Replay<'a> {
         out: &mut W,
         errors: &mut E,
     ) -> io::Result<bool> {
-        let sorter = Sorter::new(self.alloc, self.options.own, self.name());
-        let mut in_order = InOrder::new(pass, &self.log, sorter);
-        let has_frames = if self.is_live {
-            let mut input = files.open(self.log.path())?;
+        let (path, own) = (self.log.path(), self.options.own);
+        let sorter = Sorter::new(
+            self.alloc,
+            own,
+            self.name(),
+            self.log.text(),
+            self.log.interface(),
+        );
+        let mut in_order = InOrder::new(pass, sorter);
+        let has_frames = if self.log.is_live() {
+            let mut input = files.open(path)?;
             let mut following = Following::new(self.alloc, self.log.interface());
             following.follow(&mut input, &mut in_order, files, out, errors)?
         } else {
             self.log.pass(&mut in_order, files, out, errors)?
         };
-        in_order.tell(self.recorded.has_messages, files, errors);
+        in_order.tell(path, self.recorded.has_messages, files, errors);
         Ok(has_frames)
     }
 

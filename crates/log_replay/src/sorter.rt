@@ -1,7 +1,6 @@
 //! Puts the packets of messages to a recorded terminal into the order in which this terminal receives them.
 
 use crate::endings::{Ending, Endings};
-use crate::log::Log;
 use crate::marks::{Mark, Sender};
 use crate::transfer::{Ends, LateFrame, Moved, Transfer};
 use crate::turn::Turn;
@@ -31,8 +30,11 @@ pub(crate) struct Spoiled {
 /// While the packets of a message are in order, each frame has its turn at once. At the first that is not, the message is looked up in the
 /// log: if the recorded terminal has received it, its packets are put in order from there on; otherwise nothing is changed.
 #[derive(Drop)]
-pub(crate) struct Sorter {
+pub(crate) struct Sorter<'a> {
     alloc: Global,
+    /// The text of the log, and the only interface whose frames are read.
+    log: &'a [u8],
+    interface: Option<&'a str>,
     own: u8,
     /// The NAME of the terminal.
     name: u64,
@@ -46,11 +48,19 @@ pub(crate) struct Sorter {
     pub(crate) spoiled: Vec<Spoiled>,
 }
 
-impl Sorter {
+impl<'a> Sorter<'a> {
     /// A sorter for the terminal at an address, with its NAME, before the first line. Does not allocate.
-    pub(crate) fn new(alloc: Global, own: u8, name: u64) -> Sorter {
+    pub(crate) fn new(
+        alloc: Global,
+        own: u8,
+        name: u64,
+        log: &'a [u8],
+        interface: Option<&'a str>,
+    ) -> Sorter<'a> {
         Sorter {
             alloc,
+            log,
+            interface,
             own,
             name,
             transfers: BTreeMap::new(alloc),
@@ -64,20 +74,15 @@ impl Sorter {
     /// The turn of the frame of a line. The frames whose turn comes after it are in `late`. After `OutOfMemory` the sorter is of no more
     /// use.
     #[inline]
-    pub(crate) fn turn(
-        &mut self,
-        line: u64,
-        frame: &Frame,
-        log: &Log<'_>,
-    ) -> Result<Turn, AllocError> {
+    pub(crate) fn turn(&mut self, line: u64, frame: &Frame) -> Result<Turn, AllocError> {
         let Some(mark) = Mark::in_frame(frame, self.own) else {
             return Ok(self.turn_of_other(frame));
         };
         match mark {
             Mark::Request(sender, size) => self.open(line, sender, size),
-            Mark::Offset(sender, offset, count) => self.offset(line, sender, offset, count, log),
+            Mark::Offset(sender, offset, count) => self.offset(line, sender, offset, count),
             Mark::Packet(sender, sequence, packet) => {
-                self.packet(line, sender, sequence, packet, log)
+                self.packet(line, sender, sequence, packet)
             }
             Mark::End(sender) => self.end(line, sender),
             Mark::Abort(sender) => {
@@ -121,7 +126,6 @@ impl Sorter {
         sender: Sender,
         offset: u32,
         count: u8,
-        log: &Log<'_>,
     ) -> Result<Turn, AllocError> {
         let Some(mut transfer) = self.transfers.remove(&sender) else {
             return Ok(Turn::Now);
@@ -130,7 +134,7 @@ impl Sorter {
             self.transfers.insert(sender, transfer)?;
             return Ok(Turn::Now);
         }
-        if !self.is_sorted(line, sender, &mut transfer, log)? {
+        if !self.is_sorted(line, sender, &mut transfer)? {
             return Ok(Turn::Now);
         }
         let turn = transfer.move_to(line, offset);
@@ -145,7 +149,6 @@ impl Sorter {
         sender: Sender,
         sequence: u8,
         packet: [u8; 7],
-        log: &Log<'_>,
     ) -> Result<Turn, AllocError> {
         let Some(transfer) = self.transfers.get_mut(&sender) else {
             return Ok(Turn::Now);
@@ -159,7 +162,7 @@ impl Sorter {
         };
         let mut turn = Turn::Now;
         if !is_next {
-            if !self.is_sorted(line, sender, &mut transfer, log)? {
+            if !self.is_sorted(line, sender, &mut transfer)? {
                 return Ok(Turn::Now);
             }
             turn = transfer.keep(line, sequence, packet)?;
@@ -195,12 +198,11 @@ impl Sorter {
         line: u64,
         sender: Sender,
         transfer: &mut Transfer,
-        log: &Log<'_>,
     ) -> Result<bool, AllocError> {
         if transfer.is_sorted {
             return Ok(true);
         }
-        match self.ending_of(transfer.request, log)? {
+        match self.ending_of(transfer.request)? {
             Ending::Received => transfer.is_sorted = true,
             Ending::Aborted => {}
             Ending::Unknown => self.spoiled.push(Spoiled {
@@ -215,11 +217,11 @@ impl Sorter {
     }
 
     /// What the log shows of the end of the message that a line requests to send.
-    fn ending_of(&mut self, request: u64, log: &Log<'_>) -> Result<Ending, AllocError> {
+    fn ending_of(&mut self, request: u64) -> Result<Ending, AllocError> {
         if let Some(endings) = &self.endings {
             return Ok(endings.of(request));
         }
-        let endings = Endings::in_log(self.alloc, log.text(), log.interface(), self.own)?;
+        let endings = Endings::in_log(self.alloc, self.log, self.interface, self.own)?;
         let ending = endings.of(request);
         self.endings = Some(endings);
         Ok(ending)

@@ -190,7 +190,7 @@ impl Transfer {
     /// The packet with a number of the group.
     fn packet_frame(&self, number: u32, held: Held) -> LateFrame {
         let pgn = if self.ends.is_extended { ETP_DT } else { TP_DT };
-        let sequence = number.saturating_sub(self.group.0) as u8;
+        let sequence = number.saturating_sub(self.group.0).min(255) as u8;
         let [a, b, c, d, e, f, g] = held.bytes;
         let bytes = [sequence, a, b, c, d, e, f, g];
         LateFrame {
