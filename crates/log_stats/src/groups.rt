@@ -61,14 +61,16 @@ impl Groups {
         direction: Direction,
         f: &mut fmt::Formatter<W>,
     ) -> fmt::Result {
-        let mut head = match direction {
+        let counts = self.messages(direction);
+        if counts.iter().all(|count| *count == 0) {
+            return Ok(());
+        }
+        f.write_str(match direction {
             Direction::ToTerminal => "messages to terminals:\n",
             Direction::OfTerminal => "messages of terminals:\n",
-        };
-        for (function, count) in (0..=u8::MAX).zip(self.messages(direction).iter()) {
+        })?;
+        for (function, count) in (0..=u8::MAX).zip(counts.iter()) {
             if *count > 0 {
-                f.write_str(head)?;
-                head = "";
                 let messages = Count(*count, "message");
                 writeln!(f, "  {}: {messages}", FunctionLabel(function))?;
             }

@@ -12,7 +12,7 @@ use vt_can::Frame;
 use vt_can::assigned::{ETP_DT, GLOBAL_ADDRESS};
 use vt_frames_text::Count;
 
-/// The most microseconds between a request and the same frame that another interface recorded.
+/// The most microseconds between a request and the same one that another interface recorded.
 const MOST_APART: u64 = 1000;
 
 /// A transfer that has not ended.
@@ -20,21 +20,14 @@ const MOST_APART: u64 = 1000;
 struct Handshake {
     /// Where its request is.
     request: Moment,
-    /// The bytes of its request.
-    bytes: [u8; 8],
+    /// The number of bytes of its message.
+    size: u32,
+    /// The parameter group of its message.
+    pgn: u32,
     /// Whether its receiver has sent a CTS.
     is_cleared: bool,
     /// The line of the packet that made its message whole.
     whole_line: Option<u64>,
-}
-
-impl Handshake {
-    /// Whether the parameter group of its message is the one in the bytes of an abort.
-    fn has_group_of(&self, abort: &[u8; 8]) -> bool {
-        let [.., a0, a1, a2] = *abort;
-        let [.., b0, b1, b2] = self.bytes;
-        a0 == b0 && a1 == b1 && a2 == b2
-    }
 }
 
 /// The transfers whose receiver did not answer. Its `Display` writes a line for each of both sorts that occurs.
@@ -102,35 +95,43 @@ impl Handshakes {
             self.complete(at.line, frame, sent);
             return Ok(());
         }
-        let Some((channel, control, bytes)) = control_in(frame) else {
+        let Some((channel, control)) = control_in(frame) else {
             return Ok(());
         };
         match control {
-            Control::Request if channel.destination == GLOBAL_ADDRESS => {}
-            Control::Request => self.request(at, channel, bytes)?,
+            Control::Request { .. } if channel.destination == GLOBAL_ADDRESS => {}
+            Control::Request { size, pgn } => self.request(at, channel, size, pgn)?,
             Control::Clear => {
                 if let Some(handshake) = self.open.get_mut(&channel.swapped()) {
                     handshake.is_cleared = true;
                 }
             }
             Control::End => self.end(channel.swapped()),
-            Control::Abort => self.abort(channel, &bytes),
+            Control::Abort { pgn } => self.abort(channel, pgn),
         }
         Ok(())
     }
 
     /// Opens a transfer, and ends an earlier one in its channel.
-    fn request(&mut self, at: Moment, channel: Channel, bytes: [u8; 8]) -> Result<(), AllocError> {
+    fn request(
+        &mut self,
+        at: Moment,
+        channel: Channel,
+        size: u32,
+        pgn: u32,
+    ) -> Result<(), AllocError> {
         let earlier = self.open.get(&channel).copied();
         if let Some(earlier) = earlier {
-            if earlier.bytes == bytes && at.since(earlier.request) <= MOST_APART {
+            let is_same = earlier.size == size && earlier.pgn == pgn;
+            if is_same && at.since(earlier.request) <= MOST_APART {
                 return Ok(());
             }
             self.missing.note(&earlier);
         }
         let handshake = Handshake {
             request: at,
-            bytes,
+            size,
+            pgn,
             is_cleared: false,
             whole_line: None,
         };
@@ -159,12 +160,12 @@ impl Handshakes {
     }
 
     /// Ends the transfer that an abort is about, from either end of it. The receiver's abort stands for a CTS.
-    fn abort(&mut self, channel: Channel, bytes: &[u8; 8]) {
+    fn abort(&mut self, channel: Channel, pgn: u32) {
         for (channel, is_receiver) in [(channel, false), (channel.swapped(), true)] {
             let Some(mut handshake) = self.open.get(&channel).copied() else {
                 continue;
             };
-            if handshake.has_group_of(bytes) {
+            if handshake.pgn == pgn {
                 handshake.is_cleared = handshake.is_cleared || is_receiver;
                 self.missing.note(&handshake);
                 let _ended = self.open.remove(&channel);

@@ -120,11 +120,12 @@ impl TransferCounter {
         let sent = self.listener.hear(frame, &mut self.broken)?;
         let broken = self.broken.len() as u64;
         self.counted.broken = self.counted.broken.saturating_add(broken);
-        if let Some(sent) = &sent {
-            let request = self.requests.remove(frame);
-            self.counted = self.counted.with_message(sent, request, time);
-        }
-        Ok(sent)
+        let Some(sent) = sent else {
+            return Ok(None);
+        };
+        let request = self.requests.remove(frame);
+        self.counted = self.counted.with_message(&sent, request, time);
+        Ok(Some(sent))
     }
 
     /// The counts of the transfers so far.

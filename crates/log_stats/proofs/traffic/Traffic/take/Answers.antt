@@ -3,8 +3,8 @@ use Rattle.log_stats.specs.Traffics.{latest_of}
 use Rattle.log_stats.proofs.SeenBefore.{latest_before}
 use Rattle.log_stats.proofs.traffic.Traffic.take.Goals as goal
 
-pub returns : goal.returns
-returns c =
+pub returns-clause-counted : goal.returns-clause-counted
+returns-clause-counted c =
     let later : latest_of c.args.self.now ≤ c.with_frame_at-span.result.last_time
     = latest_before c.args.self.now.span c.with_frame_at-span.result.last_time c.with_frame_at-span.ensures.later in
     record {
