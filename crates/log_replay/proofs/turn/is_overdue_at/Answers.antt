@@ -17,17 +17,19 @@ by_then s first other time is others before (inr beyond) = let late = beyond.1 i
 pub returns-then-deadline-gt0 : goal.returns-then-deadline-gt0
 returns-then-deadline-gt0 c =
     let s = state_of c.args.terminal.now in
-    let first = subst (IsFirstTime (IsDue s)) c.in-Some.is c.next_deadline.ensures in
-    ((λ is. record { first = c.in-Some.deadline; is_first = first; not_yet = c.if-deadline-gt0.true; by_then = leb-true c.in-Some.deadline c.args.time is }),
-    (λ overdue. by_then s c.in-Some.deadline overdue.first c.args.time first overdue.is_first overdue.by_then (leb_tells c.in-Some.deadline c.args.time)))
+    let first = subst (IsFirstTime (IsDue s)) c.in-Some.is c.next_deadline.ensures in (
+      (λ is. record { first = c.in-Some.deadline; is_first = first; not_yet = c.if-deadline-gt0.true; by_then = leb-true c.in-Some.deadline c.args.time is }),
+      (λ overdue. by_then s c.in-Some.deadline overdue.first c.args.time first overdue.is_first overdue.by_then (leb_tells c.in-Some.deadline c.args.time)),
+    )
 
 pub returns-else-deadline-gt0 : goal.returns-else-deadline-gt0
 returns-else-deadline-gt0 c =
     let s = state_of c.args.terminal.now in
     let first = subst (IsFirstTime (IsDue s)) c.in-Some.is c.next_deadline.ensures in
-    let none = c.if-deadline-gt0.false in
-    ((λ is. let some = ltb-true 0 c.in-Some.deadline is in absurd (omega (arith, none, some))),
-    (λ overdue. let later = overdue.not_yet in absurd (overdue.is_first.1.1 c.in-Some.deadline (omega (arith, none, later)) first.1.0)))
+    let none = c.if-deadline-gt0.false in (
+      (λ is. let some = ltb-true 0 c.in-Some.deadline is in absurd (omega (arith, none, some))),
+      (λ overdue. let later = overdue.not_yet in absurd (overdue.is_first.1.1 c.in-Some.deadline (omega (arith, none, later)) first.1.0)),
+    )
 
 pub returns-in-None : goal.returns-in-None
 returns-in-None c =
