@@ -35,7 +35,7 @@ impl<'a> Report<'a> {
         }
     }
 
-    /// Writes the line of a difference, or only counts it: as ignored if the options do not select it, and otherwise as left out if it is.
+    /// Writes the line of a difference, or only counts it: as left out if it is, and as ignored if the options do not select it.
     pub(crate) fn take<W: Write>(
         &mut self,
         difference: &Difference,
@@ -44,12 +44,15 @@ impl<'a> Report<'a> {
     ) -> io::Result<()> {
         let first = first_of(difference);
         let cause = self.causes.cause_of(difference, terminal)?;
-        if !self.selection.has(first) {
-            self.counts.count_ignored();
+        let is_selected = self.selection.has(first);
+        if is_left_out(difference) {
+            if is_selected {
+                self.counts.count_left_out(first.topic.function)?;
+            }
             return Ok(());
         }
-        if is_left_out(difference) {
-            self.counts.count_left_out(first.topic.function)?;
+        if !is_selected {
+            self.counts.count_ignored();
             return Ok(());
         }
         self.counts.count(difference);

@@ -62,6 +62,9 @@ impl Endings {
                         endings.aborted.insert(request)?;
                     }
                 }
+                Some(Mark::Refused(sender)) => {
+                    open.remove(&sender);
+                }
                 Some(Mark::Offset(..) | Mark::Packet(..)) | None => {}
             }
         }

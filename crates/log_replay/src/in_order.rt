@@ -4,6 +4,7 @@ use crate::log::Pass;
 use crate::sorter::{Sorter, Spoiled};
 use crate::transfer::Moved;
 use crate::turn::Turn;
+use std::alloc::AllocError;
 use std::io::{self, Write};
 use vt_can::{Line, LineFault};
 use vt_cli::Program;
@@ -37,21 +38,22 @@ impl<'a, P> InOrder<'a, P> {
     }
 
     /// Writes to `errors` how many packets were put in order, and which messages were not received. If the log has no message of the
-    /// recorded terminal, it is not said that it doesn't show what that terminal did.
+    /// recorded terminal, it is not said that it doesn't show what that terminal did. `OutOfMemory` if an allocation is refused.
     pub(crate) fn tell<F: Program, E: Write>(
-        &self,
+        &mut self,
         path: &str,
         has_messages: bool,
         files: &F,
         errors: &mut E,
-    ) {
+    ) -> Result<(), AllocError> {
+        self.sorter.close_all()?;
         let program = files.name();
         let Moved { count, first } = self.sorter.moved;
         if count > 0 {
             let plural = if count == 1 { "" } else { "s" };
             let _ = writeln!(
                 errors,
-                "{program}: {path}: line {first}: {count} packet{plural} from there on came again or out of order; each message is put together as the recorded terminal received it"
+                "{program}: {path}: line {first}: {count} packet{plural} from there on came again or out of order; this terminal receives them in order"
             );
         }
         for spoiled in self.sorter.spoiled.iter() {
@@ -76,6 +78,7 @@ impl<'a, P> InOrder<'a, P> {
                 Ok(())
             };
         }
+        Ok(())
     }
 }
 

@@ -6,6 +6,9 @@ use vt_can::assigned::{
     ABORT, ETP_CM, ETP_DPO, ETP_DT, ETP_END, ETP_RTS, TP_CM, TP_DT, TP_END, TP_RTS, VT_TO_ECU,
 };
 
+/// The most bytes of a message by ETP (docs/PROFILE.md, "The ETP receiver").
+const MOST_BYTES: u32 = 1_048_576;
+
 /// A sender of messages to the terminal, and its protocol: TP or ETP.
 #[derive(Clone, Copy, PartialEq, Eq, PartialOrd, Ord)]
 pub(crate) struct Sender {
@@ -18,6 +21,8 @@ pub(crate) struct Sender {
 pub(crate) enum Mark {
     /// A node requests to send one, of so many bytes.
     Request(Sender, u32),
+    /// A node requests to send one, and this terminal refuses that.
+    Refused(Sender),
     /// The next packets are counted from here, and they are so many.
     Offset(Sender, u32, u8),
     /// A packet, with its number after the offset.
@@ -50,14 +55,28 @@ impl Mark {
                 frame.bytes.as_slice(),
             );
         }
+        if source != own {
+            return None;
+        }
         let address = destination;
-        let sender = Sender {
-            is_extended,
-            address,
+        Mark::of_terminal(
+            Sender {
+                is_extended,
+                address,
+            },
+            group,
+            frame.bytes.as_slice(),
+        )
+    }
+
+    /// What a frame from the terminal says.
+    fn of_terminal(sender: Sender, group: u32, bytes: &[u8]) -> Option<Mark> {
+        let [control, _, _, _, _, e, f, g] = bytes else {
+            return None;
         };
-        match frame.bytes.as_slice() {
-            [TP_END | ETP_END, _, _, _, _, _, _, _] if source == own => Some(Mark::End(sender)),
-            [ABORT, _, _, _, _, about @ ..] if source == own => Mark::abort(sender, about),
+        match (group, *control) {
+            (TP_CM, TP_END) | (ETP_CM, ETP_END) => Some(Mark::End(sender)),
+            (TP_CM | ETP_CM, ABORT) => Mark::abort(sender, &[*e, *f, *g]),
             _ => None,
         }
     }
@@ -71,19 +90,30 @@ impl Mark {
         match (group, *control) {
             (TP_DT | ETP_DT, number) => Some(Mark::Packet(sender, number, packet)),
             (TP_CM, TP_RTS) => {
-                let size = u16::from_le_bytes([*a, *b]);
-                Some(Mark::Request(sender, u32::from(size)))
+                let size = u32::from(u16::from_le_bytes([*a, *b]));
+                let is_met = (9..=1785).contains(&size) && u32::from(*c) == size.div_ceil(7);
+                Some(Mark::request(sender, size, is_met))
             }
             (ETP_CM, ETP_RTS) => {
                 let size = u32::from_le_bytes([*a, *b, *c, *d]);
-                Some(Mark::Request(sender, size))
+                let is_met = (9..=MOST_BYTES).contains(&size);
+                Some(Mark::request(sender, size, is_met))
             }
             (ETP_CM, ETP_DPO) => {
                 let offset = u32::from_le_bytes([*b, *c, *d, 0]);
                 Some(Mark::Offset(sender, offset, *a))
             }
-            (_, ABORT) => Mark::abort(sender, &[*e, *f, *g]),
+            (TP_CM | ETP_CM, ABORT) => Mark::abort(sender, &[*e, *f, *g]),
             _ => None,
+        }
+    }
+
+    /// The request to send a message of so many bytes, which this terminal meets or refuses.
+    fn request(sender: Sender, size: u32, is_met: bool) -> Mark {
+        if is_met {
+            Mark::Request(sender, size)
+        } else {
+            Mark::Refused(sender)
         }
     }
 

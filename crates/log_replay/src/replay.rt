@@ -130,7 +130,7 @@ impl<'a> Replay<'a> {
         } else {
             self.log.pass(&mut in_order, files, out, errors)?
         };
-        in_order.tell(path, self.recorded.has_messages, files, errors);
+        in_order.tell(path, self.recorded.has_messages, files, errors)?;
         Ok(has_frames)
     }
 

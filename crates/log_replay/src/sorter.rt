@@ -44,7 +44,7 @@ pub(crate) struct Sorter<'a> {
     pub(crate) late: VecDeque<LateFrame>,
     /// Frames that the terminal did not receive at their lines, of the messages that it received.
     pub(crate) moved: Moved,
-    /// The messages that this terminal does not receive, in the order of their lines.
+    /// The messages that this terminal does not receive, as far as this is known so far.
     pub(crate) spoiled: Vec<Spoiled>,
 }
 
@@ -85,8 +85,8 @@ impl<'a> Sorter<'a> {
                 self.packet(line, sender, sequence, packet)
             }
             Mark::End(sender) => self.end(line, sender),
-            Mark::Abort(sender) => {
-                self.transfers.remove(&sender);
+            Mark::Refused(sender) | Mark::Abort(sender) => {
+                self.close(sender)?;
                 Ok(self.turn_of_other(frame))
             }
         }
@@ -114,6 +114,7 @@ impl<'a> Sorter<'a> {
             source: sender.address,
             destination: self.own,
         };
+        self.close(sender)?;
         let transfer = Transfer::new(self.alloc, line, ends, size);
         self.transfers.insert(sender, transfer)?;
         Ok(Turn::Now)
@@ -178,18 +179,36 @@ impl<'a> Sorter<'a> {
         Ok(turn)
     }
 
-    /// The recorded terminal has received a message. If packets of it are missing, they are not in the log.
+    /// The recorded terminal says that it has received a message.
     fn end(&mut self, line: u64, sender: Sender) -> Result<Turn, AllocError> {
-        if let Some(transfer) = self.transfers.remove(&sender) {
-            self.spoiled.push(Spoiled {
-                is_lost: true,
-                line,
-                request: transfer.request,
-                source: sender.address,
-                missing: transfer.missing(),
-            })?;
+        if let Some(mut transfer) = self.transfers.remove(&sender) {
+            transfer.end = Some(line);
+            self.transfers.insert(sender, transfer)?;
         }
         Ok(Turn::Own)
+    }
+
+    /// Ends the message of a sender. If the recorded terminal has received it, packets of it are not in the log.
+    fn close(&mut self, sender: Sender) -> Result<(), AllocError> {
+        let Some(transfer) = self.transfers.remove(&sender) else {
+            return Ok(());
+        };
+        if let Some(spoiled) = lost(sender, &transfer) {
+            self.spoiled.push(spoiled)?;
+        }
+        Ok(())
+    }
+
+    /// Ends the messages of all senders, at the end of the log.
+    pub(crate) fn close_all(&mut self) -> Result<(), AllocError> {
+        for (sender, transfer) in self.transfers.iter() {
+            if let Some(spoiled) = lost(*sender, transfer) {
+                self.spoiled.push(spoiled)?;
+            }
+        }
+        self.transfers.clear();
+        self.spoiled.sort_by_key(|spoiled| spoiled.line)?;
+        Ok(())
     }
 
     /// Whether the packets of a message are put in order, of which one has come out of order.
@@ -226,4 +245,15 @@ impl<'a> Sorter<'a> {
         self.endings = Some(endings);
         Ok(ending)
     }
+}
+
+/// What is spoiled by a message whose packets have not all come, if the recorded terminal has received it.
+fn lost(sender: Sender, transfer: &Transfer) -> Option<Spoiled> {
+    Some(Spoiled {
+        is_lost: true,
+        line: transfer.end?,
+        request: transfer.request,
+        source: sender.address,
+        missing: transfer.missing(),
+    })
 }

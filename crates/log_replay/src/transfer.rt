@@ -46,6 +46,10 @@ pub(crate) struct Transfer {
     /// The number of packets before the group that the terminal expects, and before the group after it. The packets of a group are
     /// numbered from 1.
     group: (u32, u32),
+    /// The number of packets that were received at the end of the last group that was full.
+    full: u32,
+    /// The line of the recorded terminal's end message, if it came before the last packet.
+    pub(crate) end: Option<u64>,
     held: BTreeMap<u32, Held>,
     /// Its frames that the terminal does not receive at their lines.
     pub(crate) moved: Moved,
@@ -98,6 +102,8 @@ impl Transfer {
             } else {
                 (0, packets)
             },
+            full: 0,
+            end: None,
             held: BTreeMap::new(alloc),
             moved: Moved::default(),
         }
@@ -113,12 +119,14 @@ impl Transfer {
         self.received.saturating_add(1)
     }
 
-    /// Takes an offset with its count of packets if the terminal does. Returns whether it does.
+    /// Takes an offset with its count of packets if the terminal does (docs/PROFILE.md, "The ETP receiver"). Returns whether it does.
     pub(crate) fn is_offset(&mut self, offset: u32, count: u8) -> bool {
-        let is_next = offset == self.received && count > 0 && self.held.is_empty();
+        let end = offset.saturating_add(u32::from(count));
+        let last = self.full.saturating_add(255).min(self.packets);
+        let is_next = offset == self.received && count > 0 && end <= last && self.held.is_empty();
         if is_next {
             self.offset = offset;
-            self.group = (offset, offset.saturating_add(u32::from(count)));
+            self.group = (offset, end);
         }
         is_next
     }
@@ -129,9 +137,17 @@ impl Transfer {
         let number = self.offset.saturating_add(u32::from(sequence));
         let is_next = before == self.offset && number == self.missing() && number <= end;
         if is_next {
-            self.received = number;
+            self.receive(number);
         }
         is_next
+    }
+
+    /// Notes that the terminal has received the packets up to a number.
+    fn receive(&mut self, number: u32) {
+        self.received = number;
+        if number == self.group.1 {
+            self.full = number;
+        }
     }
 
     /// Takes an offset that the terminal does not, for the packets that come next.
@@ -170,7 +186,7 @@ impl Transfer {
                 late.push_back(self.offset_frame(held.line))?;
             }
             late.push_back(self.packet_frame(number, held))?;
-            self.received = number;
+            self.receive(number);
         }
         Ok(())
     }

@@ -93,7 +93,7 @@ impl Trace<'_> {
                 tracer.trace_unreceived(number, time, frame, why, terminal, text)
             }
             Turn::Later => {
-                let why = "held, as packets before it are missing";
+                let why = "held until the packets before it are received";
                 tracer.trace_unreceived(number, time, frame, why, terminal, text)
             }
             Turn::Now | Turn::Own | Turn::Late => {
