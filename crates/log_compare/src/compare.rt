@@ -57,6 +57,9 @@ pub fn run_compare<F: Open, W: Write, E: Messages>(
     let mut run = Run::new(alloc, options.wait, replay.terminal()?, report);
     replay.pass(&mut run, files, out, errors)?;
     run.end(out)?;
+    if let Some(count) = run.report.all_ignored() {
+        tell_ignored(count, &options.replay, files, errors);
+    }
     replay.tell_loss(&run.terminal, files, errors);
     Ok(run.report.status)
 }
@@ -69,6 +72,22 @@ fn tell_no_message<F: Program, E: Write>(options: &ReplayOptions<'_>, files: &F,
         files.name(),
         options.log,
         options.terminal.own
+    );
+}
+
+/// Writes to `errors` that the options select none of the differences.
+fn tell_ignored<F: Program, E: Write>(
+    count: u64,
+    options: &ReplayOptions<'_>,
+    files: &F,
+    errors: &mut E,
+) {
+    let plural = if count == 1 { "" } else { "s" };
+    let _ = writeln!(
+        errors,
+        "{}: {}: {count} difference{plural} ignored, and none selected by --only, --ignore, --from and --to",
+        files.name(),
+        options.log
     );
 }
 

@@ -61,6 +61,17 @@ impl<'a> Report<'a> {
             .put_difference(difference, terminal, cause, out)
     }
 
+    /// How many differences there are, if the options select none of them. `None` if one was reported or left out, or if there is none.
+    pub(crate) fn all_ignored(&self) -> Option<u64> {
+        let Counts {
+            ignored,
+            left_out,
+            ..
+        } = &self.counts;
+        let has_none = self.status == Status::Clean && left_out.is_empty();
+        (has_none && *ignored > 0).then_some(*ignored)
+    }
+
     /// Writes what was left out, and then the counts: those of the differences are the report's own, and the others those of `tally`.
     pub(crate) fn end<W: Write>(&self, tally: Tally, out: &mut W) -> io::Result<()> {
         for (function, count) in self.counts.left_out.iter() {

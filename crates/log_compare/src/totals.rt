@@ -76,9 +76,10 @@ impl Telling<'_> {
             ..
         } = tally;
         if self.format == Format::Text {
+            let plural = if not_compared == 1 { "" } else { "s" };
             write!(
                 out,
-                "answers: {same} same, {differ} differ, {ours_alone} ours alone, {theirs_alone} theirs alone; not compared: {not_compared} frames"
+                "answers: {same} same, {differ} differ, {ours_alone} ours alone, {theirs_alone} theirs alone; not compared: {not_compared} frame{plural}"
             )?;
             return if is_selected {
                 writeln!(out, "; ignored: {ignored}")
