@@ -14,7 +14,7 @@ RUNS = [(['trace', '-'], TRACED, '2 2.000000 80 to 26: Request: Address Claimed\
 
 
 def read_while_open(output, wanted):
-    """What comes within ten seconds, up to the text that is wanted."""
+    """The text that a program writes, until it is as long as the expected one or ten seconds pass without more."""
     text = b''
     while len(text) < len(wanted) and select.select([output], [], [], 10)[0]:
         more = os.read(output.fileno(), 65536)

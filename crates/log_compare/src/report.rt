@@ -17,7 +17,7 @@ pub(crate) struct Report<'a> {
     telling: Telling<'a>,
     selection: Selection<'a>,
     counts: Counts,
-    /// The causes of differences, as far as they are known.
+    /// What is known of the causes of differences.
     pub(crate) causes: Causes,
     /// Whether a difference was reported.
     pub(crate) status: Status,

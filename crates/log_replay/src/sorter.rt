@@ -44,7 +44,7 @@ pub(crate) struct Sorter<'a> {
     pub(crate) late: VecDeque<LateFrame>,
     /// Frames that the terminal did not receive at their lines, of the messages that it received.
     pub(crate) moved: Moved,
-    /// The messages that this terminal does not receive, as far as this is known so far.
+    /// The messages that this terminal is known not to receive.
     pub(crate) spoiled: Vec<Spoiled>,
 }
 

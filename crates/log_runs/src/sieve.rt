@@ -32,7 +32,7 @@ pub(crate) struct Sieve<'a> {
     fits: bool,
     /// Whether the last line is an input of the terminal.
     is_input: bool,
-    /// The messages in packets, as far as they have come.
+    /// The messages in packets whose last packets are still to come.
     listener: Listener,
     /// The transfers that the last line has ended before they were whole.
     broken: Vec<Broken>,

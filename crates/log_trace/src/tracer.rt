@@ -34,7 +34,7 @@ pub struct Tracer<'a> {
     words: String,
     // The terminal's outputs at the last line.
     outputs: Vec<Output>,
-    // The messages in packets, as far as they have come.
+    // The messages in packets whose last packets are still to come.
     listener: Listener,
     // The transfers that the last line has ended before they were whole.
     broken: Vec<Broken>,
