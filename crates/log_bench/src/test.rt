@@ -4,7 +4,7 @@ ghost use Rattle.std.specs.Prelude.{◌≡◌, IfOk};
 ghost use Rattle.log_bench.specs.Statuses.{status_of};
 
 use crate::{Blessed, LineDifference, bless, differences};
-use log_replay::{LoadedSet, Log, new_terminal, read_set, tell_loss};
+use log_replay::{LoadedSet, Log, new_terminal, read_sets, tell_loss};
 use log_words::{TerminalOptions, TestOptions};
 use std::alloc::{AllocError, Global};
 use std::io::{self, Error, ErrorKind, Write};
@@ -25,14 +25,14 @@ pub fn run_test<F: Open + Save, W: Write, E: Write>(
     out: &mut W,
     errors: &mut E,
 ) -> io::Result<Status> {
-    let set = match read_set(alloc, options.terminal.set, files, errors)? {
-        Ok(set) => set,
-        Err(status) => return Ok(status),
+    let own = options.terminal.own;
+    let Some(sets) = read_sets(alloc, &options.start, own, files, errors)? else {
+        return Ok(Status::NotJudged);
     };
     let bench = Bench {
         alloc,
         terminal: options.terminal,
-        set: set.as_ref(),
+        sets: sets.as_slice(),
     };
     let mut status = Status::Clean;
     for path in options.logs.iter() {
@@ -50,8 +50,8 @@ pub fn run_test<F: Open + Save, W: Write, E: Write>(
 #[derive(Clone, Copy, Drop)]
 struct Bench<'a> {
     alloc: Global,
-    terminal: TerminalOptions<'a>,
-    set: Option<&'a LoadedSet>,
+    terminal: TerminalOptions,
+    sets: &'a [LoadedSet],
 }
 
 impl Bench<'_> {
@@ -107,7 +107,7 @@ impl Bench<'_> {
         }
         let mut terminal = self.new_terminal()?;
         match bless(self.alloc, bytes, &mut terminal) {
-            Ok(blessed) if blessed.inputs == 0 && self.set.is_none() => {
+            Ok(blessed) if blessed.inputs == 0 && self.sets.is_empty() => {
                 log.tell_no_frame(files, errors)?;
                 Ok(Status::NotJudged)
             }
@@ -135,7 +135,7 @@ impl Bench<'_> {
 
     /// A terminal before its first input.
     fn new_terminal(&self) -> io::Result<Terminal> {
-        new_terminal(self.alloc, self.terminal, None, self.set)
+        new_terminal(self.alloc, self.terminal, None, self.sets)
     }
 }
 

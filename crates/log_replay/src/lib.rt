@@ -4,7 +4,7 @@
 //! - A `Replay` is a log with all that its replay needs: `Replay::terminal` is the terminal before the first line. `Replay::pass` gives
 //!   each line to a `ReplayPass`, with its `Turn`: when the terminal receives its frame. `take` gives it to the terminal then.
 //!   `Recorded` is what the log says about the recorded terminal.
-//! - `read_set` and `new_terminal` begin a replay. `Messages` receives a run's messages and its progress.
+//! - `read_sets` and `new_terminal` begin a replay. `Messages` receives a run's messages and its progress.
 //!
 //! What is done with a line is in the crates of the subcommands. Come here to ask how a log is read for a subcommand, and with which
 //! terminal it is replayed.
@@ -33,5 +33,5 @@ pub use log::{Log, Pass};
 pub use messages::Messages;
 pub use reader::LogReader;
 pub use replay::{Replay, tell_loss};
-pub use start::{LoadedSet, new_terminal, read_set};
+pub use start::{LoadedSet, new_terminal, read_sets};
 pub use turn::{Turn, take};

@@ -6,7 +6,7 @@ use crate::in_order::{InOrder, ReplayPass};
 use crate::log::Log;
 use crate::messages::Messages;
 use crate::sorter::Sorter;
-use crate::start::{LoadedSet, new_terminal, read_set};
+use crate::start::{LoadedSet, new_terminal, read_sets};
 use check_text::Names;
 use log_words::{ReplayOptions, TerminalOptions};
 use std::alloc::Global;
@@ -20,8 +20,8 @@ use vt_server::{Input, Terminal};
 #[derive(Drop)]
 pub struct Replay<'a> {
     alloc: Global,
-    options: TerminalOptions<'a>,
-    set: Option<LoadedSet>,
+    options: TerminalOptions,
+    sets: Vec<LoadedSet>,
     /// The log.
     pub log: Log<'a>,
     /// The names of objects.
@@ -74,13 +74,14 @@ impl<'a> Replay<'a> {
         let Some(names) = read_names(alloc, options.names.as_slice(), files, errors)? else {
             return Ok(None);
         };
-        let Ok(set) = read_set(alloc, options.terminal.set, files, errors)? else {
+        let own = options.terminal.own;
+        let Some(sets) = read_sets(alloc, &options.start, own, files, errors)? else {
             return Ok(None);
         };
         Ok(Some(Replay {
             alloc,
             options: options.terminal,
-            set,
+            sets,
             log,
             names,
             recorded,
@@ -95,13 +96,13 @@ impl<'a> Replay<'a> {
 
     /// The terminal before the first line. Its NAME is that of the recorded terminal, unless the options give another.
     pub fn terminal(&self) -> io::Result<Terminal> {
-        let set = self.set.as_ref();
-        new_terminal(self.alloc, self.options, self.recorded.name, set)
+        let sets = self.sets.as_slice();
+        new_terminal(self.alloc, self.options, self.recorded.name, sets)
     }
 
     /// Whether a node has a pool from the start.
     pub fn has_pool_of(&self, source: u8) -> bool {
-        self.set.as_ref().is_some_and(|set| set.owner == source)
+        self.sets.iter().any(|set| set.owner == source)
     }
 
     /// Gives each line to `pass`, with the packets of messages to the recorded terminal in order. Then writes to `errors` what a pass over

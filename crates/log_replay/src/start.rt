@@ -1,13 +1,19 @@
 //! The terminal that replays a log, before its first line.
 
-use log_words::TerminalOptions;
+use log_words::{StartOptions, TerminalOptions};
 use std::alloc::Global;
 use std::io::{self, Error, ErrorKind, Write};
-use vt_cli::{Open, StartSet, Status, read_pool_file};
+use vt_cli::{Open, read_pool_file};
 use vt_judge::judge;
 use vt_names::{Name, TERMINAL_NAME};
 use vt_server::Terminal;
 use vt_verify::Accepted;
+
+/// The highest address of a node.
+const LAST_ADDRESS: u8 = 253;
+
+/// The files of an address in a folder, at most.
+const MOST_FILES: u32 = 1_000_000;
 
 /// A pool that is there from the start, and the address of its working set.
 #[derive(Drop)]
@@ -18,51 +24,120 @@ pub struct LoadedSet {
     pub owner: u8,
 }
 
-/// Reads the pool of the set that is there from the start, if there is one. If it cannot be read or is not accepted, the error is
-/// `NotJudged`, and `errors` receives the reason.
-pub fn read_set<F: Open, E: Write>(
+/// Reads the pools of the sets that a terminal at the address `own` has from the start. `None` if one cannot be read or is not accepted:
+/// then `errors` receives the reason.
+pub fn read_sets<F: Open, E: Write>(
     alloc: Global,
-    set: Option<StartSet<'_>>,
+    options: &StartOptions<'_>,
+    own: u8,
     files: &mut F,
     errors: &mut E,
-) -> io::Result<Result<Option<LoadedSet>, Status>> {
-    let Some(StartSet { pool: path, owner }) = set else {
-        return Ok(Ok(None));
-    };
-    let Some(bytes) = read_pool_file(alloc, path, files, errors)? else {
-        return Ok(Err(Status::NotJudged));
-    };
-    match judge(alloc, &bytes) {
-        Ok(pool) => Ok(Ok(Some(LoadedSet { pool, owner }))),
-        Err(refusal) if refusal.wants_memory() => Err(Error::from(ErrorKind::OutOfMemory)),
-        Err(_) => {
+) -> io::Result<Option<Vec<LoadedSet>>> {
+    let mut sets = Vec::new(alloc);
+    for set in options.sets.iter() {
+        let Some(bytes) = read_pool_file(alloc, set.pool, files, errors)? else {
+            return Ok(None);
+        };
+        let Some(pool) = accepted(alloc, &bytes)? else {
             let _ = writeln!(
                 errors,
-                "{}: {path}: a terminal refuses this pool; segyolant check says why",
-                files.name()
+                "{}: {}: a terminal refuses this pool; segyolant check says why",
+                files.name(),
+                set.pool
             );
-            Ok(Err(Status::NotJudged))
+            return Ok(None);
+        };
+        let owner = set.owner;
+        sets.push(LoadedSet { pool, owner })?;
+    }
+    if let Some(folder) = options.folder {
+        let folder = folder.trim_end_matches('/');
+        if !read_folder(alloc, folder, own, &mut sets, files, errors)? {
+            return Ok(None);
         }
+    }
+    Ok(Some(sets))
+}
+
+/// Reads the pools in a folder: of each address `AA`, except `own` and those that have a set, the last file `AA-1.iop`, `AA-2.iop` and so
+/// on that a terminal accepts. Returns whether there is one, and whether all files could be read; if not, `errors` receives the reason.
+fn read_folder<F: Open, E: Write>(
+    alloc: Global,
+    folder: &str,
+    own: u8,
+    sets: &mut Vec<LoadedSet>,
+    files: &mut F,
+    errors: &mut E,
+) -> io::Result<bool> {
+    let mut has_file = false;
+    let mut has_pool = false;
+    for owner in 0..=LAST_ADDRESS {
+        if owner == own || sets.iter().any(|set| set.owner == owner) {
+            continue;
+        }
+        let mut last = None;
+        for number in 1..MOST_FILES {
+            let path = format!(in alloc; "{folder}/{owner:02X}-{number}.iop")?;
+            if !is_there(path.as_str(), files) {
+                break;
+            }
+            let Some(bytes) = read_pool_file(alloc, path.as_str(), files, errors)? else {
+                return Ok(false);
+            };
+            has_file = true;
+            if let Some(pool) = accepted(alloc, &bytes)? {
+                last = Some(pool);
+            }
+        }
+        if let Some(pool) = last {
+            has_pool = true;
+            sets.push(LoadedSet { pool, owner })?;
+        }
+    }
+    if !has_pool {
+        let what = if has_file {
+            "a terminal refuses all pools there; segyolant check says why"
+        } else {
+            "no pool is there; expected files such as 80-1.iop, as segyolant_log pools --out writes them"
+        };
+        let _ = writeln!(errors, "{}: {folder}: {what}", files.name());
+    }
+    Ok(has_pool)
+}
+
+/// Whether there is a file at a path, even if it cannot be read.
+fn is_there<F: Open>(path: &str, files: &mut F) -> bool {
+    match files.open(path) {
+        Ok(_) => true,
+        Err(error) => error.kind() != ErrorKind::NotFound,
     }
 }
 
-/// A terminal before its first input, with the set if there is one. Its NAME is the one in the options, or else `name`, or else the
-/// default one.
+/// The pool in these bytes. `None` if a terminal refuses it.
+fn accepted(alloc: Global, bytes: &[u8]) -> io::Result<Option<Accepted>> {
+    match judge(alloc, bytes) {
+        Ok(pool) => Ok(Some(pool)),
+        Err(refusal) if refusal.wants_memory() => Err(Error::from(ErrorKind::OutOfMemory)),
+        Err(_) => Ok(None),
+    }
+}
+
+/// A terminal before its first input, with these sets. Its NAME is the one in the options, or else `name`, or else the default one.
 pub fn new_terminal(
     alloc: Global,
-    options: TerminalOptions<'_>,
+    options: TerminalOptions,
     name: Option<u64>,
-    set: Option<&LoadedSet>,
+    sets: &[LoadedSet],
 ) -> io::Result<Terminal> {
     let own = options.own;
-    if own > 253 {
+    if own > LAST_ADDRESS {
         return Err(Error::from(ErrorKind::InvalidInput));
     }
     let name = options.name.or(name).unwrap_or(TERMINAL_NAME);
     let mut terminal = Terminal::new(alloc, own, Name::from_raw(name));
-    if let Some(LoadedSet { pool, owner }) = set {
+    for LoadedSet { pool, owner } in sets {
         let owner = *owner;
-        if owner > 253 || owner == own {
+        if owner > LAST_ADDRESS || owner == own {
             return Err(Error::from(ErrorKind::InvalidInput));
         }
         if terminal.preload(owner, pool).is_err() {

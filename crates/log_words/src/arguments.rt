@@ -5,6 +5,9 @@ use vt_cli::{Allowed, Argument, Form};
 /// The formats of output.
 const FORMATS: &[&str] = &["text", "json"];
 
+/// The formats of the output of `test`.
+const TEST_FORMATS: &[&str] = &["text", "json", "junit"];
+
 pub(crate) const LOG: Argument<'static> = Argument {
     name: "LOG",
     help: "The file of the log; - is the standard input",
@@ -13,7 +16,7 @@ pub(crate) const LOG: Argument<'static> = Argument {
 
 pub(crate) const LOGS: Argument<'static> = Argument {
     name: "LOG",
-    help: "The files of the logs",
+    help: "The files of the logs; a folder stands for the files in it whose names end in .log",
     form: Form::Positionals,
 };
 
@@ -47,6 +50,13 @@ pub(crate) const FORMAT: Argument<'static> = Argument {
     name: "format",
     help: "Lines for people, or lines of JSON [default: text]",
     form: Form::Setting("FORMAT", Allowed::OneOf(FORMATS)),
+};
+
+/// The format of the output of `test`.
+pub(crate) const TEST_FORMAT: Argument<'static> = Argument {
+    name: "format",
+    help: "Lines for people, lines of JSON, or a report of JUnit in XML [default: text]",
+    form: Form::Setting("FORMAT", Allowed::OneOf(TEST_FORMATS)),
 };
 
 pub(crate) const WAIT: Argument<'static> = Argument {
@@ -126,13 +136,20 @@ pub(crate) const NAME: Argument<'static> = Argument {
 
 pub(crate) const POOL: Argument<'static> = Argument {
     name: "pool",
-    help: "An object pool that is there from the start",
-    form: Form::Setting("FILE", Allowed::Any),
+    help: "An object pool that is there from the start, and behind @ the address of its working set; may be given again",
+    form: Form::RepeatedSetting("FILE[@AA]"),
+};
+
+/// The folder of pools that are there from the start.
+pub(crate) const POOLS: Argument<'static> = Argument {
+    name: "pools",
+    help: "A folder of pools that are there from the start: of each address AA, the last file AA-1.iop, AA-2.iop, .. that is accepted",
+    form: Form::Setting("FOLDER", Allowed::Any),
 };
 
 pub(crate) const OWNER: Argument<'static> = Argument {
     name: "owner",
-    help: "The address of the pool's working set, two hex digits up to FD [default: 80]",
+    help: "The address of the working set of a --pool without @, two hex digits up to FD [default: 80]",
     form: Form::Setting("AA", Allowed::Any),
 };
 

@@ -60,7 +60,7 @@ fn topic_parts<'a>(
 }
 
 /// The lines from the value of `--from` to that of `--to`.
-fn range_of<'a>(matches: &ArgMatches<'a>) -> Result<LineRange, WrongOption<'a>> {
+pub(crate) fn range_of<'a>(matches: &ArgMatches<'a>) -> Result<LineRange, WrongOption<'a>> {
     let range = LineRange {
         from: place_of(matches, "from")?,
         to: place_of(matches, "to")?,

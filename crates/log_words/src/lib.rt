@@ -16,13 +16,15 @@ mod filters;
 mod options;
 mod places;
 mod replays;
+mod start_options;
 mod subcommands;
 mod wrong_option;
 
 pub use filters::{LineFilter, ObjectWord, TopicFilter, TopicPart, UnknownName};
 pub use options::{
     CompareOptions, DrawOptions, Format, OperatorOptions, Options, PoolsOptions, ReplayOptions,
-    StatsOptions, TerminalOptions, TestOptions, TraceOptions,
+    ReportOptions, StatsOptions, TerminalOptions, TestFormat, TestOptions, TraceOptions,
 };
 pub use places::{LineRange, LogPlace, Seconds};
+pub use start_options::StartOptions;
 pub use wrong_option::WrongOption;

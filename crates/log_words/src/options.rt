@@ -1,7 +1,9 @@
 //! The options that a command line gives.
 
-use crate::filter_options::{line_filter, topic_filter};
+use crate::filter_options::{line_filter, range_of, topic_filter};
 use crate::filters::{LineFilter, TopicFilter};
+use crate::places::LineRange;
+use crate::start_options::{StartOptions, start_options};
 use crate::subcommands::command;
 use crate::wrong_option::WrongOption;
 use clap::ArgMatches;
@@ -9,7 +11,7 @@ use hex::FromHex;
 use std::alloc::{AllocError, Global};
 use std::convert::AsStr;
 use vt_can::assigned::TERMINAL_ADDRESS;
-use vt_cli::{StartSet, UsageError, address, all_of, inputs_in};
+use vt_cli::{UsageError, address, all_of, inputs_in};
 
 /// The options that a command line gives, by its subcommand.
 #[derive(Drop)]
@@ -26,6 +28,8 @@ pub enum Options<'a> {
     Draw(DrawOptions<'a>),
     /// `stats`.
     Stats(StatsOptions<'a>),
+    /// `report`.
+    Report(ReportOptions<'a>),
     /// `test`.
     Test(TestOptions<'a>),
 }
@@ -37,6 +41,17 @@ pub enum Format {
     Text,
     /// Lines of JSON.
     Json,
+}
+
+/// The form of the output of `test`.
+#[derive(Clone, Copy, PartialEq, Eq)]
+pub enum TestFormat {
+    /// Lines for people.
+    Text,
+    /// Lines of JSON.
+    Json,
+    /// A report of JUnit, in XML.
+    JUnit,
 }
 
 /// The options of `pools`.
@@ -63,9 +78,11 @@ pub struct OperatorOptions<'a> {
     pub interface: Option<&'a str>,
     /// The address of the recorded terminal.
     pub own: u8,
+    /// The form of the output.
+    pub format: Format,
 }
 
-/// A log that a terminal replays: a part of the options of `trace`, `compare`, `draw` and `stats`.
+/// A log that a terminal replays: a part of the options of `trace`, `compare`, `draw`, `stats` and `report`.
 #[derive(Drop)]
 pub struct ReplayOptions<'a> {
     /// The file of the log.
@@ -75,7 +92,9 @@ pub struct ReplayOptions<'a> {
     /// The files of names.
     pub names: Vec<&'a str>,
     /// The terminal.
-    pub terminal: TerminalOptions<'a>,
+    pub terminal: TerminalOptions,
+    /// The working sets that it has from the start.
+    pub start: StartOptions<'a>,
 }
 
 /// The options of `trace`.
@@ -85,6 +104,8 @@ pub struct TraceOptions<'a> {
     pub replay: ReplayOptions<'a>,
     /// The lines that are printed.
     pub filter: LineFilter<'a>,
+    /// The form of the output.
+    pub format: Format,
 }
 
 /// The options of `compare`.
@@ -109,6 +130,8 @@ pub struct DrawOptions<'a> {
     pub filter: LineFilter<'a>,
     /// The folder for the pictures.
     pub folder: &'a str,
+    /// The form of the output.
+    pub format: Format,
 }
 
 /// The options of `stats`.
@@ -120,26 +143,39 @@ pub struct StatsOptions<'a> {
     pub format: Format,
 }
 
+/// The options of `report`.
+#[derive(Drop)]
+pub struct ReportOptions<'a> {
+    /// The log, and the terminal that replays it.
+    pub replay: ReplayOptions<'a>,
+    /// The lines that the page has.
+    pub range: LineRange,
+    /// How long an answer may take, in milliseconds.
+    pub wait: u32,
+}
+
 /// The options of `test`.
 #[derive(Drop)]
 pub struct TestOptions<'a> {
-    /// The files of the logs.
+    /// The files of the logs, and folders of logs.
     pub logs: Vec<&'a str>,
     /// Whether each log is written anew, with what its lines print as expectations.
     pub blesses: bool,
+    /// The form of the output.
+    pub format: TestFormat,
     /// The terminal.
-    pub terminal: TerminalOptions<'a>,
+    pub terminal: TerminalOptions,
+    /// The working sets that it has from the start.
+    pub start: StartOptions<'a>,
 }
 
 /// The terminal that replays a log.
 #[derive(Clone, Copy, PartialEq, Eq)]
-pub struct TerminalOptions<'a> {
+pub struct TerminalOptions {
     /// Its address, at most 253.
     pub own: u8,
     /// Its NAME, if it is given.
     pub name: Option<u64>,
-    /// The working set that is there from the start.
-    pub set: Option<StartSet<'a>>,
 }
 
 /// How long an answer may take, in milliseconds, unless another time is given.
@@ -147,7 +183,7 @@ const WAIT: u32 = 1500;
 
 /// The subcommands, and where to read about them.
 const SUBCOMMANDS: &str =
-    "pools, operator, trace, compare, draw, stats or test; segyolant_log --help says what each does";
+    "pools, operator, trace, compare, draw, stats, report or test; segyolant_log --help says what each does";
 
 /// The arguments that are paths of files to read.
 const FILES: &[&str] = &["LOG", "names", "pool"];
@@ -182,6 +218,7 @@ impl<'a> Options<'a> {
             "compare" => Options::Compare(compare_options(alloc, matches)?),
             "draw" => Options::Draw(draw_options(alloc, matches)?),
             "stats" => Options::Stats(stats_options(alloc, matches)?),
+            "report" => Options::Report(report_options(alloc, matches)?),
             "test" => Options::Test(test_options(alloc, matches)?),
             "pools" => Options::Pools(pools_options(alloc, matches)?),
             // clap takes no other name; its contract does not say so.
@@ -208,6 +245,7 @@ fn operator_options<'a>(matches: &ArgMatches<'a>) -> Result<OperatorOptions<'a>,
         log: log_of(matches),
         interface: matches.get_str("interface"),
         own: own_of(matches)?,
+        format: format_of(matches),
     })
 }
 
@@ -215,11 +253,13 @@ fn replay_options<'a>(
     alloc: Global,
     matches: &ArgMatches<'a>,
 ) -> Result<ReplayOptions<'a>, UsageError<WrongOption<'a>>> {
+    let terminal = terminal_options(matches)?;
     Ok(ReplayOptions {
         log: log_of(matches),
         interface: matches.get_str("interface"),
         names: all_of(alloc, matches, "names")?,
-        terminal: terminal_options(matches)?,
+        terminal,
+        start: start_options(alloc, matches, terminal.own)?,
     })
 }
 
@@ -230,6 +270,7 @@ fn trace_options<'a>(
     Ok(TraceOptions {
         replay: replay_options(alloc, matches)?,
         filter: line_filter(alloc, matches)?,
+        format: format_of(matches),
     })
 }
 
@@ -254,6 +295,7 @@ fn draw_options<'a>(
         filter: line_filter(alloc, matches)?,
         // clap demands it; its contract does not say so.
         folder: matches.get_str("out").unwrap_or("."),
+        format: format_of(matches),
     })
 }
 
@@ -267,6 +309,17 @@ fn stats_options<'a>(
     })
 }
 
+fn report_options<'a>(
+    alloc: Global,
+    matches: &ArgMatches<'a>,
+) -> Result<ReportOptions<'a>, UsageError<WrongOption<'a>>> {
+    Ok(ReportOptions {
+        replay: replay_options(alloc, matches)?,
+        range: range_of(matches)?,
+        wait: wait_of(matches)?,
+    })
+}
+
 fn test_options<'a>(
     alloc: Global,
     matches: &ArgMatches<'a>,
@@ -276,19 +329,20 @@ fn test_options<'a>(
     if blesses && inputs_in(matches, &["LOG"]) > 0 {
         return Err(UsageError::Wrong(WrongOption::BlessedInput));
     }
+    let terminal = terminal_options(matches)?;
     Ok(TestOptions {
         logs,
         blesses,
-        terminal: terminal_options(matches)?,
+        format: test_format_of(matches),
+        terminal,
+        start: start_options(alloc, matches, terminal.own)?,
     })
 }
 
-fn terminal_options<'a>(matches: &ArgMatches<'a>) -> Result<TerminalOptions<'a>, WrongOption<'a>> {
-    let own = own_of(matches)?;
+fn terminal_options<'a>(matches: &ArgMatches<'a>) -> Result<TerminalOptions, WrongOption<'a>> {
     Ok(TerminalOptions {
-        own,
+        own: own_of(matches)?,
         name: name_of(matches)?,
-        set: set_of(matches, own)?,
     })
 }
 
@@ -311,18 +365,6 @@ fn wait_of<'a>(matches: &ArgMatches<'a>) -> Result<u32, WrongOption<'a>> {
     }
 }
 
-/// The working set that `--pool` and `--owner` give.
-fn set_of<'a>(matches: &ArgMatches<'a>, own: u8) -> Result<Option<StartSet<'a>>, WrongOption<'a>> {
-    match (matches.get_str("pool"), matches.get_str("owner")) {
-        (None, None) => Ok(None),
-        (None, Some(_)) => Err(WrongOption::OwnerAlone),
-        (Some(pool), owner) => {
-            let set = StartSet::new(pool, owner, own).map_err(WrongOption::Owner)?;
-            Ok(Some(set))
-        }
-    }
-}
-
 /// The path of the log, which `clap` demands.
 fn log_of<'a>(matches: &ArgMatches<'a>) -> &'a str {
     matches.get_str("LOG").unwrap_or("-")
@@ -332,6 +374,14 @@ fn format_of(matches: &ArgMatches<'_>) -> Format {
     match matches.get_str("format") {
         Some("json") => Format::Json,
         _ => Format::Text,
+    }
+}
+
+fn test_format_of(matches: &ArgMatches<'_>) -> TestFormat {
+    match matches.get_str("format") {
+        Some("json") => TestFormat::Json,
+        Some("junit") => TestFormat::JUnit,
+        _ => TestFormat::Text,
     }
 }
 

@@ -1,8 +1,8 @@
-//! The subcommands that have the arguments of a replay: `trace`, `compare`, `draw` and `stats`.
+//! The subcommands that have the arguments of a replay: `trace`, `compare`, `draw`, `stats` and `report`.
 
 use crate::arguments::{
     ADDRESS, FORMAT, FROM, FUNCTION, IGNORE, INTERFACE, LOG, NAMES, OBJECT, ONLY, OWN, OWNER,
-    PICTURES_FOLDER, POOL, RECORDED_NAME, TO, WAIT,
+    PICTURES_FOLDER, POOL, POOLS, RECORDED_NAME, TO, WAIT,
 };
 use vt_cli::Subcommand;
 
@@ -40,7 +40,20 @@ of the screen at that place. Filters draw only at some lines, as those of trace;
 /// The text of help after the options of `stats`.
 const AFTER_STATS: &str = "\
 Frames, bytes and load by source, transfers, repeated packets, and frames that were recorded twice; then, for each working set with a
-pool, its commands, and which of its masks, objects and macros the log reached. With --format json each is a line of JSON.";
+pool, its commands, and which of its masks, objects and macros the log reached; then the busiest second, frames by parameter group,
+messages by function, gaps of the terminal's status and of the implements' maintenance, answer times, what is missing of transfers, and
+steps of the clock. With --format json each is a line of JSON.";
+
+/// The text of help after the options of `report`.
+const AFTER_REPORT: &str = "\
+One page of HTML on the standard output, which needs no network: the time line of the log, the pictures of the screens, to be played and
+stepped through, the words of each line beside them, differences, gaps, and the pools with their findings.
+
+  segyolant_log operator field.log > replay.log
+  segyolant_log report replay.log --names my.h > field.html
+
+The page has at most 50,000 lines of the log and 1,000 pictures, from --from on; --from and --to choose others.
+Status: 0 the page is written, 2 not judged.";
 
 pub(crate) const TRACE: Subcommand<'static> = Subcommand {
     name: "trace",
@@ -53,12 +66,14 @@ pub(crate) const TRACE: Subcommand<'static> = Subcommand {
         ADDRESS,
         FUNCTION,
         OBJECT,
+        FORMAT,
         LOG,
         INTERFACE,
         OWN,
         RECORDED_NAME,
         POOL,
         OWNER,
+        POOLS,
     ],
 };
 
@@ -80,6 +95,7 @@ pub(crate) const COMPARE: Subcommand<'static> = Subcommand {
         RECORDED_NAME,
         POOL,
         OWNER,
+        POOLS,
     ],
 };
 
@@ -95,12 +111,14 @@ pub(crate) const DRAW: Subcommand<'static> = Subcommand {
         ADDRESS,
         FUNCTION,
         OBJECT,
+        FORMAT,
         LOG,
         INTERFACE,
         OWN,
         RECORDED_NAME,
         POOL,
         OWNER,
+        POOLS,
     ],
 };
 
@@ -117,5 +135,25 @@ pub(crate) const STATS: Subcommand<'static> = Subcommand {
         RECORDED_NAME,
         POOL,
         OWNER,
+        POOLS,
+    ],
+};
+
+pub(crate) const REPORT: Subcommand<'static> = Subcommand {
+    name: "report",
+    about: "Writes a page for a browser, with the screens of a log in time, its lines in words, differences and pools",
+    after_help: Some(AFTER_REPORT),
+    arguments: &[
+        NAMES,
+        FROM,
+        TO,
+        WAIT,
+        LOG,
+        INTERFACE,
+        OWN,
+        RECORDED_NAME,
+        POOL,
+        OWNER,
+        POOLS,
     ],
 };

@@ -1,9 +1,10 @@
 //! The whole command line.
 
 use crate::arguments::{
-    BLESS, FORMAT, INTERFACE, LOG, LOGS, NAME, NAMES, OWN, OWNER, POOL, POOLS_FOLDER,
+    BLESS, FORMAT, INTERFACE, LOG, LOGS, NAME, NAMES, OWN, OWNER, POOL, POOLS, POOLS_FOLDER,
+    TEST_FORMAT,
 };
-use crate::replays::{COMPARE, DRAW, STATS, TRACE};
+use crate::replays::{COMPARE, DRAW, REPORT, STATS, TRACE};
 use clap::Command;
 use std::alloc::{AllocError, Global};
 use vt_cli::{CommandLine, Subcommand};
@@ -18,7 +19,8 @@ Status: 0 nothing found, 1 something found, 2 not judged (command line, file or 
   segyolant_log compare replay.log                            where the recorded terminal answered differently
   segyolant_log draw replay.log --out screens                 a picture after each line at which the screen changed
   segyolant_log stats replay.log                              what the log holds in numbers, and what it reached of each pool
-  segyolant_log test suite.log                                whether each line prints what the lines #< behind it say
+  segyolant_log report replay.log > field.html                one page with all of this, for a browser
+  segyolant_log test suite                                    whether each line prints what the lines #< behind it say
   segyolant_log test suite.log --bless                        writes these lines
 
 A log is as candump -L writes it. Lines of candump -ta are read too, and padded names of interfaces. - is the standard input.
@@ -46,7 +48,7 @@ lines that the log already has are left out. A log does not show which working s
 /// The text of help after the options of `test`.
 const AFTER_TEST: &str = "\
 A line #< TEXT is an expectation: the line before it must print TEXT when vt_replay replays the log. Other readers of logs see a comment.
-Expectations at the front are those of the first screen.
+Expectations at the front are those of the first screen. In a line #<? TEXT each ? stands for one character.
 
   (2.400000) can0 14E72680#A0640000FFFFFFFF
   #< 14E68026#A064000000FFFFFF
@@ -64,6 +66,7 @@ pub(crate) fn command<'a>(alloc: Global) -> Result<Command<'a>, AllocError> {
     let command = command.subcommand(compare(alloc)?)?;
     let command = command.subcommand(draw(alloc)?)?;
     let command = command.subcommand(stats(alloc)?)?;
+    let command = command.subcommand(report(alloc)?)?;
     let command = command.subcommand(test(alloc)?)?;
     Ok(command)
 }
@@ -100,6 +103,10 @@ fn stats<'a>(alloc: Global) -> Result<Command<'a>, AllocError> {
     STATS.command(alloc)
 }
 
+fn report<'a>(alloc: Global) -> Result<Command<'a>, AllocError> {
+    REPORT.command(alloc)
+}
+
 fn test<'a>(alloc: Global) -> Result<Command<'a>, AllocError> {
     TEST.command(alloc)
 }
@@ -115,12 +122,12 @@ const OPERATOR: Subcommand<'static> = Subcommand {
     name: "operator",
     about: "Prints a log with the operator's actions, as the recorded terminal reported them",
     after_help: Some(AFTER_OPERATOR),
-    arguments: &[LOG, INTERFACE, OWN],
+    arguments: &[LOG, INTERFACE, OWN, FORMAT],
 };
 
 const TEST: Subcommand<'static> = Subcommand {
     name: "test",
     about: "Replays logs, and compares what each line prints with the expectations in the log",
     after_help: Some(AFTER_TEST),
-    arguments: &[LOGS, BLESS, OWN, NAME, POOL, OWNER],
+    arguments: &[LOGS, BLESS, TEST_FORMAT, OWN, NAME, POOL, OWNER, POOLS],
 };

@@ -26,6 +26,10 @@ pub enum WrongOption<'a> {
     Object(&'a str),
     /// The value of `--only` or `--ignore`, the first text, is no part of a topic.
     Topic(&'static str, &'a str),
+    /// Behind `@`, the value of `--pool` has the terminal's own address.
+    PoolOwner(&'a str),
+    /// The value of `--pool` gives the working set at an address that an earlier one gives.
+    PoolTwice(&'a str),
     /// `--owner` is given without a pool.
     OwnerAlone,
     /// With `--bless`, a log is the standard input, which cannot be written anew.
@@ -74,6 +78,14 @@ impl fmt::Display for WrongOption<'_> {
             WrongOption::Topic(option, value) => write!(
                 f,
                 "--{option} {value}: expected a function, such as A0, object=ID, such as object=1000, object=NAME with a name of --names, to=AA, such as to=80, or to=all"
+            ),
+            WrongOption::PoolOwner(value) => write!(
+                f,
+                "--pool {value}: expected another address behind @, as this one is the terminal's own"
+            ),
+            WrongOption::PoolTwice(value) => write!(
+                f,
+                "--pool {value}: another --pool gives the working set at this address; expected the address behind @, such as my.iop@81"
             ),
             WrongOption::OwnerAlone => write!(
                 f,
