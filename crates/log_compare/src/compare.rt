@@ -6,7 +6,7 @@ use crate::steps::Steps;
 use crate::told::Telling;
 use log_answers::{Comparison, Difference};
 use log_replay::{Messages, Replay, ReplayPass, Turn};
-use log_words::{CompareOptions, ReplayOptions};
+use log_words::{CompareOptions, DifferenceOptions};
 use std::alloc::Global;
 use std::io::{self, Write};
 use vt_can::{Line, LineFault};
@@ -27,6 +27,18 @@ pub fn run_compare<F: Open, W: Write, E: Messages>(
     let Some(replay) = Replay::read(alloc, &options.replay, files, errors)? else {
         return Ok(Status::NotJudged);
     };
+    compare_replay(alloc, &replay, &options.report, files, out, errors)
+}
+
+/// Prints the differences in the log of a replay.
+pub fn compare_replay<F: Open, W: Write, E: Messages>(
+    alloc: Global,
+    replay: &Replay<'_>,
+    options: &DifferenceOptions<'_>,
+    files: &mut F,
+    out: &mut W,
+    errors: &mut E,
+) -> io::Result<Status> {
     let selection = Selection {
         filter: &options.filter,
         names: &replay.names,
@@ -40,7 +52,7 @@ pub fn run_compare<F: Open, W: Write, E: Messages>(
     }
     if !replay.recorded.has_messages {
         replay.log.pass(&mut (), files, out, errors)?;
-        tell_no_message(&options.replay, files, errors);
+        tell_no_message(replay, files, errors);
         return Ok(Status::NotJudged);
     }
     let telling = Telling {
@@ -58,36 +70,31 @@ pub fn run_compare<F: Open, W: Write, E: Messages>(
     replay.pass(&mut run, files, out, errors)?;
     run.end(out)?;
     if let Some(count) = run.report.all_ignored() {
-        tell_ignored(count, &options.replay, files, errors);
+        tell_ignored(count, replay, files, errors);
     }
     replay.tell_loss(&run.terminal, files, errors);
     Ok(run.report.status)
 }
 
 /// Writes to `errors` that the log has no message of the recorded terminal.
-fn tell_no_message<F: Program, E: Write>(options: &ReplayOptions<'_>, files: &F, errors: &mut E) {
+fn tell_no_message<F: Program, E: Write>(replay: &Replay<'_>, files: &F, errors: &mut E) {
     let _ = writeln!(
         errors,
         "{}: {}: the log has no message of a terminal at {:02X} to compare with; --own gives another address",
         files.name(),
-        options.log,
-        options.terminal.own
+        replay.log.path(),
+        replay.own()
     );
 }
 
 /// Writes to `errors` that the options select none of the differences.
-fn tell_ignored<F: Program, E: Write>(
-    count: u64,
-    options: &ReplayOptions<'_>,
-    files: &F,
-    errors: &mut E,
-) {
+fn tell_ignored<F: Program, E: Write>(count: u64, replay: &Replay<'_>, files: &F, errors: &mut E) {
     let plural = if count == 1 { "" } else { "s" };
     let _ = writeln!(
         errors,
         "{}: {}: {count} difference{plural} ignored, and none selected by --only, --ignore, --from and --to",
         files.name(),
-        options.log
+        replay.log.path()
     );
 }
 

@@ -1,6 +1,7 @@
 //! The subcommand `pools` of `segyolant_log`: the object pools and updates that were uploaded in a log (ISO 11783-6).
 //!
 //! - `run_pools` runs it with its options, and returns the `Status` with which the program ends. docs/LOGS.md has the subcommand.
+//!   `put_uploads` does the same for a log in memory.
 //! - `Uploads` puts uploads together from the messages of implements to terminals: `Uploads::take` receives a `Message`, and returns
 //!   the `Upload` that it ends. docs/PROFILE.md, "Uploads in a log", has the rules.
 //!
@@ -17,6 +18,6 @@ mod uploads;
 mod verdict;
 
 pub use message::Message;
-pub use pools::run_pools;
+pub use pools::{put_uploads, run_pools};
 pub use upload::Upload;
 pub use uploads::Uploads;

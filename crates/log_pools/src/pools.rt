@@ -36,13 +36,44 @@ pub fn run_pools<F: Open + Save, W: Write, E: Messages>(
             return Ok(Status::NotJudged);
         }
     }
+    let report = Report {
+        alloc,
+        folder,
+        names: &names,
+        format: options.format,
+    };
+    put_pools(&log, report, files, out, errors)
+}
+
+/// Writes the report on every upload of a log as lines of JSON. Writes no file.
+pub fn put_uploads<F: Save, W: Write, E: Messages>(
+    alloc: Global,
+    log: &Log<'_>,
+    names: &Names,
+    files: &mut F,
+    out: &mut W,
+    errors: &mut E,
+) -> io::Result<Status> {
+    let report = Report {
+        alloc,
+        folder: None,
+        names,
+        format: Format::Json,
+    };
+    put_pools(log, report, files, out, errors)
+}
+
+/// Writes a report on every upload of a log.
+fn put_pools<F: Save, W: Write, E: Messages>(
+    log: &Log<'_>,
+    report: Report<'_>,
+    files: &mut F,
+    out: &mut W,
+    errors: &mut E,
+) -> io::Result<Status> {
+    let alloc = report.alloc;
     let mut hearing = Hearing {
-        report: Report {
-            alloc,
-            folder,
-            names: &names,
-            format: options.format,
-        },
+        report,
         listener: Listener::new(alloc),
         uploads: Uploads::new(alloc),
         broken: Vec::new(alloc),
@@ -53,7 +84,7 @@ pub fn run_pools<F: Open + Save, W: Write, E: Messages>(
         return Ok(Status::NotJudged);
     }
     hearing.put_unended(files, out, errors)?;
-    if let Some(folder) = folder {
+    if let Some(folder) = report.folder {
         tell_replaced(folder, files, errors);
     }
     Ok(hearing.status)

@@ -88,6 +88,11 @@ impl<'a> Replay<'a> {
         }))
     }
 
+    /// The address of the terminal.
+    pub fn own(&self) -> u8 {
+        self.options.own
+    }
+
     /// The NAME of the terminal.
     fn name(&self) -> u64 {
         let given = self.options.name.or(self.recorded.name);

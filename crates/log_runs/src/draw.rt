@@ -1,16 +1,13 @@
 //! The subcommand `draw`.
 
-use crate::picture::picture_shown;
+use crate::screens::Screens;
 use crate::sieve::Sieve;
-use check_needs::TERMINAL_SIZES;
-use log_replay::{Messages, Replay, ReplayPass, Turn, take};
-use log_words::DrawOptions;
+use log_replay::{Messages, Replay, ReplayPass, Turn};
+use log_words::{DrawOptions, Format};
 use std::alloc::Global;
 use std::io::{self, Write};
-use std::mem;
 use vt_can::{Line, LineFault};
-use vt_cli::{Open, Save, Status, make_folder, save_file, tell_replaced};
-use vt_server::{Output, Terminal};
+use vt_cli::{JsonLine, Open, Save, Status, make_folder, save_file, tell_replaced};
 
 /// Draws the screen after each line of a log that changes the screen's text.
 pub fn run_draw<F: Open + Save, W: Write, E: Messages>(
@@ -38,11 +35,9 @@ pub fn run_draw<F: Open + Save, W: Write, E: Messages>(
     let mut gallery = Gallery {
         alloc,
         folder,
-        terminal: replay.terminal()?,
+        format: options.format,
+        screens: Screens::new(alloc, replay.terminal()?),
         sieve,
-        screen: Vec::new(alloc),
-        drawn: Vec::new(alloc),
-        outputs: Vec::new(alloc),
         status: Status::Clean,
     };
     gallery.draw(&replay, files, out, errors)
@@ -53,13 +48,9 @@ pub fn run_draw<F: Open + Save, W: Write, E: Messages>(
 struct Gallery<'a> {
     alloc: Global,
     folder: &'a str,
-    terminal: Terminal,
+    format: Format,
+    screens: Screens,
     sieve: Sieve<'a>,
-    /// The text of the screen after the last line of the range.
-    screen: Vec<u8>,
-    /// The buffer for the next text.
-    drawn: Vec<u8>,
-    outputs: Vec<Output>,
     status: Status,
 }
 
@@ -76,16 +67,19 @@ impl<F: Save, W: Write, E: Messages> ReplayPass<F, W, E> for Gallery<'_> {
         errors: &mut E,
     ) -> io::Result<()> {
         self.sieve.take_line(number, turn, &reading)?;
-        self.outputs.clear();
-        let is_taken = take(turn, reading, &mut self.terminal, &mut self.outputs)?;
+        let is_taken = self.screens.take(turn, reading)?;
         if self.sieve.is_first() && !self.sieve.begins_with_log() {
-            self.note_screen()?;
+            self.screens.note()?;
             return self.draw_screen(number, files, out, errors);
         }
-        if !is_taken || !self.sieve.is_in_range() {
+        if !is_taken || !self.sieve.is_in_range() || !self.screens.note_change()? {
             return Ok(());
         }
-        self.look(number, files, out, errors)
+        if self.sieve.shows(self.screens.outputs()) {
+            self.draw_screen(number, files, out, errors)
+        } else {
+            Ok(())
+        }
     }
 }
 
@@ -99,47 +93,19 @@ impl Gallery<'_> {
         errors: &mut E,
     ) -> io::Result<Status> {
         if self.sieve.begins_with_log() {
-            self.note_screen()?;
+            self.screens.note()?;
             self.draw_screen(0, files, out, errors)?;
         }
         if !replay.pass(self, files, out, errors)? {
             self.status = Status::NotJudged;
         }
-        replay.tell_loss(&self.terminal, files, errors);
+        replay.tell_loss(self.screens.terminal(), files, errors);
         tell_replaced(self.folder, files, errors);
         Ok(self.status)
     }
 
-    /// Draws the screen after a line, if its text has changed and the options select the line.
-    fn look<F: Save, W: Write, E: Write>(
-        &mut self,
-        number: u64,
-        files: &mut F,
-        out: &mut W,
-        errors: &mut E,
-    ) -> io::Result<()> {
-        if !self.terminal.redraws() || !self.note_screen()? {
-            return Ok(());
-        }
-        if self.sieve.shows(&self.outputs) {
-            self.draw_screen(number, files, out, errors)
-        } else {
-            Ok(())
-        }
-    }
-
-    /// Notes the text of the screen. Returns whether it has changed.
-    fn note_screen(&mut self) -> io::Result<bool> {
-        self.drawn.clear();
-        self.terminal.screen(&mut self.drawn)?;
-        if self.drawn == self.screen {
-            return Ok(false);
-        }
-        mem::swap(&mut self.screen, &mut self.drawn);
-        Ok(true)
-    }
-
-    /// Writes the picture of the screen after a line, and joins its status to that of the run.
+    /// Writes the picture of the screen after a line, and then the line of the report. If it cannot be written, the status is
+    /// `NotJudged`.
     fn draw_screen<F: Save, W: Write, E: Write>(
         &mut self,
         number: u64,
@@ -147,35 +113,39 @@ impl Gallery<'_> {
         out: &mut W,
         errors: &mut E,
     ) -> io::Result<()> {
-        self.status = self
-            .status
-            .and(self.put_picture(number, files, out, errors)?);
-        Ok(())
+        let mut path = None;
+        if let Some(picture) = self.screens.picture()? {
+            let file = format!(in self.alloc; "{}/line-{number}.svg", self.folder)?;
+            if save_file(file.as_str(), &picture, files, errors)? {
+                path = Some(file);
+            } else {
+                self.status = Status::NotJudged;
+            }
+        }
+        match self.format {
+            Format::Text => self.put_text(number, path.as_deref(), out),
+            Format::Json => self.put_fields(number, path.as_deref(), out),
+        }
     }
 
-    /// Writes the picture of the screen after a line, and names it by the first line of the screen's text.
-    fn put_picture<F: Save, W: Write, E: Write>(
-        &self,
-        number: u64,
-        files: &mut F,
-        out: &mut W,
-        errors: &mut E,
-    ) -> io::Result<Status> {
-        let end = self.screen.iter().position(|byte| *byte == b'\n');
-        let head = self.screen.get(..end.unwrap_or(0)).unwrap_or(&[]);
+    /// Writes the screen after a line, by the first line of its text, and the file of its picture.
+    fn put_text<W: Write>(&self, number: u64, path: Option<&str>, out: &mut W) -> io::Result<()> {
         write!(out, "line {number}: ")?;
-        out.write_all(head)?;
-        let Some(picture) = picture_shown(self.alloc, &self.terminal, TERMINAL_SIZES)? else {
-            writeln!(out)?;
-            return Ok(Status::Clean);
-        };
-        let path = format!(in self.alloc; "{}/line-{number}.svg", self.folder)?;
-        if save_file(path.as_str(), &picture, files, errors)? {
-            writeln!(out, " -> {path}")?;
-            Ok(Status::Clean)
-        } else {
-            writeln!(out)?;
-            Ok(Status::NotJudged)
+        out.write_all(self.screens.head())?;
+        match path {
+            Some(path) => writeln!(out, " -> {path}"),
+            None => writeln!(out),
         }
+    }
+
+    /// Writes the same as an object of JSON.
+    fn put_fields<W: Write>(&self, number: u64, path: Option<&str>, out: &mut W) -> io::Result<()> {
+        let mut line = JsonLine::new(self.alloc);
+        line.put_text_if("file", path)?;
+        line.put_text("kind", "screen")?;
+        line.put_number("line", number)?;
+        self.screens.put_shown(&mut line)?;
+        line.put_number("time", self.sieve.now())?;
+        line.write(out)
     }
 }

@@ -93,6 +93,11 @@ impl<'a> Sieve<'a> {
         Ok(())
     }
 
+    /// The latest time so far, in microseconds.
+    pub(crate) fn now(&self) -> u64 {
+        self.now
+    }
+
     /// Whether the last line is the first one of the range.
     pub(crate) fn is_first(&self) -> bool {
         self.is_first

@@ -1,9 +1,10 @@
 //! The subcommand `trace`.
 
 use crate::sieve::Sieve;
+use crate::traced_line::TracedLine;
 use log_replay::{Messages, Replay, ReplayPass, Turn};
 use log_trace::Tracer;
-use log_words::TraceOptions;
+use log_words::{Format, LineFilter, TraceOptions};
 use std::alloc::{AllocError, Global};
 use std::io::{self, Write};
 use vt_can::{Line, LineFault};
@@ -21,12 +22,35 @@ pub fn run_trace<F: Open, W: Write, E: Messages>(
     let Some(replay) = Replay::follow(alloc, &options.replay, files, errors)? else {
         return Ok(Status::NotJudged);
     };
-    let sieve = Sieve::new(alloc, &options.filter, &replay.names);
+    trace_replay(
+        alloc,
+        &replay,
+        &options.filter,
+        options.format,
+        files,
+        out,
+        errors,
+    )
+}
+
+/// Prints the selected lines of the log of a replay.
+pub fn trace_replay<F: Open, W: Write, E: Messages>(
+    alloc: Global,
+    replay: &Replay<'_>,
+    filter: &LineFilter<'_>,
+    format: Format,
+    files: &mut F,
+    out: &mut W,
+    errors: &mut E,
+) -> io::Result<Status> {
+    let sieve = Sieve::new(alloc, filter, &replay.names);
     if !sieve.has_known_names(files, errors) {
         return Ok(Status::NotJudged);
     }
     let terminal = replay.terminal()?;
     let mut trace = Trace {
+        alloc,
+        format,
         tracer: Tracer::new(alloc, &replay.names, &terminal)?,
         terminal,
         sieve,
@@ -42,6 +66,8 @@ pub fn run_trace<F: Open, W: Write, E: Messages>(
 /// A trace in progress.
 #[derive(Drop)]
 struct Trace<'a> {
+    alloc: Global,
+    format: Format,
     tracer: Tracer<'a>,
     terminal: Terminal,
     sieve: Sieve<'a>,
@@ -62,10 +88,16 @@ impl<F, W: Write, E> ReplayPass<F, W, E> for Trace<'_> {
         self.text.clear();
         self.sieve.take_line(number, turn, &reading)?;
         self.trace_line(number, turn, &reading)?;
-        if !self.sieve.shows(self.tracer.outputs()) {
+        if self.text.is_empty() || !self.sieve.shows(self.tracer.outputs()) {
             return Ok(());
         }
-        out.write_all(&self.text)
+        match self.format {
+            Format::Text => out.write_all(&self.text),
+            Format::Json => {
+                let traced = TracedLine::new(self.alloc, number, self.sieve.now(), &self.text)?;
+                traced.write(&reading, out)
+            }
+        }
     }
 }
 

@@ -1,6 +1,7 @@
 //! The subcommand `stats` of `segyolant_log`: a log in numbers, what it reached of each pool, and what it tells of time.
 //!
 //! - `run_stats` runs it with its options, and returns the `Status` with which the program ends. docs/LOGS.md has the subcommand.
+//!   `put_numbers` is the part of it after the files are read.
 //! - `Traffic` takes the frames of a log, one after the other. It counts the `Counts` of each source exactly.
 //! - `Traffic::report` returns a `TrafficReport`: the times of the first and the last frame, the least load of the bus, the `Share` of each
 //!   source, the `Transfers` of both transport protocols, and how many frames were seen twice. Its `Display` is the text of the report.
@@ -54,7 +55,7 @@ pub use moment::Moment;
 pub use occurrences::Occurrences;
 pub use report::{Share, TrafficReport};
 pub use rhythm::Gap;
-pub use stats::run_stats;
+pub use stats::{put_numbers, run_stats};
 pub use summary::Summary;
 pub use timing::{Timing, TimingReport};
 pub use traffic::Traffic;

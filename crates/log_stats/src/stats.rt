@@ -28,6 +28,19 @@ pub fn run_stats<F: Open, W: Write, E: Messages>(
         replay.log.tell_no_frame(files, errors)?;
         return Ok(Status::NotJudged);
     }
+    put_numbers(alloc, &replay, options.format, files, out, errors)?;
+    Ok(Status::Clean)
+}
+
+/// Writes the numbers of the log of a replay.
+pub fn put_numbers<F: Open, W: Write, E: Messages>(
+    alloc: Global,
+    replay: &Replay<'_>,
+    format: Format,
+    files: &mut F,
+    out: &mut W,
+    errors: &mut E,
+) -> io::Result<()> {
     let terminal = replay.terminal()?;
     let reach = Reach::new(alloc, &terminal)?;
     let mut run = Run {
@@ -38,9 +51,9 @@ pub fn run_stats<F: Open, W: Write, E: Messages>(
         outputs: Vec::new(alloc),
     };
     replay.pass(&mut run, files, out, errors)?;
-    run.put(&replay.names, options.format, alloc, out)?;
+    run.put(&replay.names, format, alloc, out)?;
     replay.tell_loss(&run.terminal, files, errors);
-    Ok(Status::Clean)
+    Ok(())
 }
 
 /// The numbers of a log so far, what it reached, and what it tells of time.

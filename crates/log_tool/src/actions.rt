@@ -1,8 +1,10 @@
 //! The operator's actions that messages of a terminal report.
 
 use byteorder::{ByteOrder, LittleEndian};
+use std::alloc::Global;
 use std::io::{self, Write};
 use vt_can::Action;
+use vt_cli::JsonLine;
 use vt_commands::function::{BUTTON_ACTIVATION, NUMERIC_VALUE, SOFT_KEY_ACTIVATION, STRING_VALUE};
 use vt_frames_text::SELECT_INPUT;
 
@@ -72,4 +74,38 @@ pub(crate) fn put_action<W: Write>(action: Action<'_>, out: &mut W) -> io::Resul
         }
         Action::Set(address) => writeln!(out, "! set {address:02X}"),
     }
+}
+
+/// Writes an action as a line of JSON, with the line of the log at which its message begins, and the latest time up to the message in
+/// microseconds.
+pub(crate) fn put_fields<W: Write>(
+    alloc: Global,
+    number: u64,
+    time: u64,
+    action: Action<'_>,
+    out: &mut W,
+) -> io::Result<()> {
+    let (name, object) = match action {
+        Action::Press(id) => ("press", Some(id)),
+        Action::Release(id) => ("release", Some(id)),
+        Action::Select(id) => ("select", Some(id)),
+        Action::Number(id, _) => ("number", Some(id)),
+        Action::Text(id, _) => ("text", Some(id)),
+        Action::Set(_) => ("set", None),
+    };
+    let mut line = JsonLine::new(alloc);
+    line.put_text("action", name)?;
+    line.put_text("kind", "action")?;
+    line.put_number("line", number)?;
+    line.put_number_if("object", object.map(u64::from))?;
+    line.put_number("time", time)?;
+    match action {
+        Action::Number(_, number) => line.put_number("value", u64::from(number))?,
+        Action::Text(_, text) => line.put_bytes_if("value", Some(text))?,
+        Action::Set(address) => line.put_address("value", address)?,
+        Action::Press(_) | Action::Release(_) | Action::Select(_) => {
+            line.put_text_if("value", None::<&str>)?;
+        }
+    }
+    line.write(out)
 }

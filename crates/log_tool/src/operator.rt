@@ -1,9 +1,9 @@
 //! The subcommand `operator`.
 
-use crate::actions::{action_in, put_action};
+use crate::actions::{action_in, put_action, put_fields};
 use log_listen::{Broken, Listener};
 use log_replay::{Log, Messages, Pass};
-use log_words::OperatorOptions;
+use log_words::{Format, OperatorOptions};
 use std::alloc::{AllocError, Global};
 use std::io::{self, Write};
 use vt_can::assigned::{TP_CM, TP_RTS, VT_TO_ECU};
@@ -11,7 +11,7 @@ use vt_can::{Frame, Line, LineFault};
 use vt_cli::{Open, Status};
 use vt_recorded::{Reader, is_of_interface};
 
-/// Prints the log with the operator's lines, each before the message that reports it.
+/// Prints the log with the operator's lines, each before the message that reports it; or only the operator's actions as lines of JSON.
 pub(crate) fn run_operator<F: Open, W: Write, E: Messages>(
     alloc: Global,
     options: OperatorOptions<'_>,
@@ -22,11 +22,17 @@ pub(crate) fn run_operator<F: Open, W: Write, E: Messages>(
     let Some(log) = Log::read(alloc, options.log, options.interface, files, errors)? else {
         return Ok(Status::NotJudged);
     };
-    let mut recording = Recording::new(alloc, options.own);
+    let mut recording = Recording::new(alloc, options.own, options.format);
     if !log.pass(&mut recording, files, out, errors)? {
         return Ok(Status::NotJudged);
     }
     recording.told.sort_by_key(|told| told.before)?;
+    if options.format == Format::Json {
+        for told in recording.told.iter() {
+            out.write_all(&told.line)?;
+        }
+        return Ok(Status::Clean);
+    }
     let left_out = put_lines(alloc, &log, recording.told.as_slice(), out)?;
     if left_out > 0 {
         let _ = writeln!(
@@ -39,7 +45,8 @@ pub(crate) fn run_operator<F: Open, W: Write, E: Messages>(
     Ok(Status::Clean)
 }
 
-/// The operator's line that a message reports, and the line of the log before which it is written: that of the message's first frame.
+/// The line of output for an action that a message reports, and the line of the log before which it is written: that of the message's
+/// first frame.
 #[derive(Drop)]
 struct Told {
     before: u64,
@@ -51,6 +58,9 @@ struct Told {
 struct Recording {
     alloc: Global,
     own: u8,
+    format: Format,
+    /// The latest time so far, in microseconds.
+    now: u64,
     listener: Listener,
     broken: Vec<Broken>,
     /// The line of the last request to each address.
@@ -69,7 +79,8 @@ impl<F, W, E> Pass<F, W, E> for Recording {
         _out: &mut W,
         _errors: &mut E,
     ) -> io::Result<()> {
-        if let Ok(Line::Frame { frame, .. }) = reading {
+        if let Ok(Line::Frame { time, frame }) = reading {
+            self.now = self.now.max(time);
             self.hear(number, &frame)?;
         }
         Ok(())
@@ -78,10 +89,12 @@ impl<F, W, E> Pass<F, W, E> for Recording {
 
 impl Recording {
     /// A recording of the terminal at an address, before its first frame. Does not allocate.
-    fn new(alloc: Global, own: u8) -> Recording {
+    fn new(alloc: Global, own: u8, format: Format) -> Recording {
         Recording {
             alloc,
             own,
+            format,
+            now: 0,
             listener: Listener::new(alloc),
             broken: Vec::new(alloc),
             requests: [0; 256],
@@ -123,7 +136,11 @@ impl Recording {
             return Ok(());
         };
         let mut line = Vec::new(self.alloc);
-        put_action(action, &mut line).map_err(|_| AllocError)?;
+        match self.format {
+            Format::Text => put_action(action, &mut line),
+            Format::Json => put_fields(self.alloc, before, self.now, action, &mut line),
+        }
+        .map_err(|_| AllocError)?;
         self.told.push(Told { before, line })?;
         Ok(())
     }

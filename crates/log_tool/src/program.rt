@@ -3,6 +3,7 @@
 use crate::operator::run_operator;
 use log_bench::run_test;
 use log_compare::run_compare;
+use log_page::run_report;
 use log_pools::run_pools;
 use log_replay::Messages;
 use log_runs::{run_draw, run_trace};
@@ -46,6 +47,7 @@ fn run_subcommand<F: Open + Save, W: Write, E: Messages>(
         Options::Compare(options) => run_compare(alloc, options, files, out, errors),
         Options::Draw(options) => run_draw(alloc, options, files, out, errors),
         Options::Stats(options) => run_stats(alloc, options, files, out, errors),
+        Options::Report(options) => run_report(alloc, options, files, out, errors),
         Options::Test(options) => run_test(alloc, options, files, out, errors),
     }
 }

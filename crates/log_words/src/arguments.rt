@@ -141,7 +141,7 @@ pub(crate) const POOL: Argument<'static> = Argument {
 };
 
 /// The folder of pools that are there from the start.
-pub(crate) const POOLS: Argument<'static> = Argument {
+pub(crate) const START_POOLS: Argument<'static> = Argument {
     name: "pools",
     help: "A folder of pools that are there from the start: of each address AA, the last file AA-1.iop, AA-2.iop, .. that is accepted",
     form: Form::Setting("FOLDER", Allowed::Any),

@@ -22,8 +22,9 @@ mod wrong_option;
 
 pub use filters::{LineFilter, ObjectWord, TopicFilter, TopicPart, UnknownName};
 pub use options::{
-    CompareOptions, DrawOptions, Format, OperatorOptions, Options, PoolsOptions, ReplayOptions,
-    ReportOptions, StatsOptions, TerminalOptions, TestFormat, TestOptions, TraceOptions,
+    CompareOptions, DifferenceOptions, DrawOptions, Format, OperatorOptions, Options, PoolsOptions,
+    ReplayOptions, ReportOptions, StatsOptions, TerminalOptions, TestFormat, TestOptions,
+    TraceOptions,
 };
 pub use places::{LineRange, LogPlace, Seconds};
 pub use start_options::StartOptions;

@@ -113,6 +113,13 @@ pub struct TraceOptions<'a> {
 pub struct CompareOptions<'a> {
     /// The log, and the terminal that replays it.
     pub replay: ReplayOptions<'a>,
+    /// What is reported.
+    pub report: DifferenceOptions<'a>,
+}
+
+/// How answers are compared, and which differences are reported.
+#[derive(Drop)]
+pub struct DifferenceOptions<'a> {
     /// The differences that are reported.
     pub filter: TopicFilter<'a>,
     /// How long an answer may take, in milliseconds.
@@ -280,9 +287,11 @@ fn compare_options<'a>(
 ) -> Result<CompareOptions<'a>, UsageError<WrongOption<'a>>> {
     Ok(CompareOptions {
         replay: replay_options(alloc, matches)?,
-        filter: topic_filter(alloc, matches)?,
-        wait: wait_of(matches)?,
-        format: format_of(matches),
+        report: DifferenceOptions {
+            filter: topic_filter(alloc, matches)?,
+            wait: wait_of(matches)?,
+            format: format_of(matches),
+        },
     })
 }
 

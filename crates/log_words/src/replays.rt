@@ -2,7 +2,7 @@
 
 use crate::arguments::{
     ADDRESS, FORMAT, FROM, FUNCTION, IGNORE, INTERFACE, LOG, NAMES, OBJECT, ONLY, OWN, OWNER,
-    PICTURES_FOLDER, POOL, POOLS, RECORDED_NAME, TO, WAIT,
+    PICTURES_FOLDER, POOL, RECORDED_NAME, START_POOLS, TO, WAIT,
 };
 use vt_cli::Subcommand;
 
@@ -73,7 +73,7 @@ pub(crate) const TRACE: Subcommand<'static> = Subcommand {
         RECORDED_NAME,
         POOL,
         OWNER,
-        POOLS,
+        START_POOLS,
     ],
 };
 
@@ -95,7 +95,7 @@ pub(crate) const COMPARE: Subcommand<'static> = Subcommand {
         RECORDED_NAME,
         POOL,
         OWNER,
-        POOLS,
+        START_POOLS,
     ],
 };
 
@@ -118,7 +118,7 @@ pub(crate) const DRAW: Subcommand<'static> = Subcommand {
         RECORDED_NAME,
         POOL,
         OWNER,
-        POOLS,
+        START_POOLS,
     ],
 };
 
@@ -135,7 +135,7 @@ pub(crate) const STATS: Subcommand<'static> = Subcommand {
         RECORDED_NAME,
         POOL,
         OWNER,
-        POOLS,
+        START_POOLS,
     ],
 };
 
@@ -154,6 +154,6 @@ pub(crate) const REPORT: Subcommand<'static> = Subcommand {
         RECORDED_NAME,
         POOL,
         OWNER,
-        POOLS,
+        START_POOLS,
     ],
 };

@@ -1,7 +1,7 @@
 //! The whole command line.
 
 use crate::arguments::{
-    BLESS, FORMAT, INTERFACE, LOG, LOGS, NAME, NAMES, OWN, OWNER, POOL, POOLS, POOLS_FOLDER,
+    BLESS, FORMAT, INTERFACE, LOG, LOGS, NAME, NAMES, OWN, OWNER, POOL, POOLS_FOLDER, START_POOLS,
     TEST_FORMAT,
 };
 use crate::replays::{COMPARE, DRAW, REPORT, STATS, TRACE};
@@ -129,5 +129,14 @@ const TEST: Subcommand<'static> = Subcommand {
     name: "test",
     about: "Replays logs, and compares what each line prints with the expectations in the log",
     after_help: Some(AFTER_TEST),
-    arguments: &[LOGS, BLESS, TEST_FORMAT, OWN, NAME, POOL, OWNER, POOLS],
+    arguments: &[
+        LOGS,
+        BLESS,
+        TEST_FORMAT,
+        OWN,
+        NAME,
+        POOL,
+        OWNER,
+        START_POOLS,
+    ],
 };

@@ -1,0 +1,215 @@
+//! The subcommand `report`.
+
+use crate::block::Block;
+use crate::page::{BODY, END, HEAD};
+use log_compare::compare_replay;
+use log_pools::put_uploads;
+use log_replay::{Messages, Replay};
+use log_runs::{put_screens, trace_replay};
+use log_stats::put_numbers;
+use log_words::{DifferenceOptions, Format, LineFilter, ReportOptions, TopicFilter};
+use std::alloc::Global;
+use std::io::{self, Write};
+use vt_cli::{JsonLine, Open, Save, Status, VERSION};
+
+/// The most lines of the log in the page.
+const MOST_LINES: u64 = 50_000;
+
+/// The most pictures in the page.
+const MOST_PICTURES: usize = 1000;
+
+/// Writes the page of a log.
+pub fn run_report<F: Open + Save, W: Write, E: Messages>(
+    alloc: Global,
+    options: &ReportOptions<'_>,
+    files: &mut F,
+    out: &mut W,
+    errors: &mut E,
+) -> io::Result<Status> {
+    let Some(replay) = Replay::read(alloc, &options.replay, files, errors)? else {
+        return Ok(Status::NotJudged);
+    };
+    if !replay.recorded.has_frames {
+        replay.log.tell_no_frame(files, errors)?;
+        return Ok(Status::NotJudged);
+    }
+    out.write_all(HEAD.as_bytes())?;
+    out.write_all(BODY.as_bytes())?;
+    let page = Page {
+        alloc,
+        options,
+        replay: &replay,
+    };
+    page.put_blocks(files, out, errors)?;
+    out.write_all(END.as_bytes())?;
+    Ok(Status::Clean)
+}
+
+/// The page of a log.
+#[derive(Clone, Copy, Drop)]
+struct Page<'a> {
+    alloc: Global,
+    options: &'a ReportOptions<'a>,
+    replay: &'a Replay<'a>,
+}
+
+impl Page<'_> {
+    /// Writes the blocks of data. The messages of the first pass over the log are written to `errors`; those of the others are the same.
+    fn put_blocks<F: Open + Save, W: Write, E: Messages>(
+        &self,
+        files: &mut F,
+        out: &mut W,
+        errors: &mut E,
+    ) -> io::Result<()> {
+        let mut repeated = Vec::new(self.alloc);
+        let lines_left_out = self.put_trace(files, out, errors)?;
+        let screens_left_out = self.put_screens(files, out, &mut repeated)?;
+        self.put_differences(files, out, &mut repeated)?;
+        begin_block("stats", out)?;
+        put_numbers(
+            self.alloc,
+            self.replay,
+            Format::Json,
+            files,
+            &mut Block::new(out, u64::MAX),
+            &mut repeated,
+        )?;
+        end_block(out)?;
+        begin_block("pools", out)?;
+        put_uploads(
+            self.alloc,
+            &self.replay.log,
+            &self.replay.names,
+            files,
+            &mut Block::new(out, u64::MAX),
+            &mut repeated,
+        )?;
+        end_block(out)?;
+        self.tell_left_out(lines_left_out, screens_left_out, files.name(), errors);
+        self.put_about(lines_left_out, screens_left_out, out)
+    }
+
+    /// Writes the lines of the log in words. Returns how many are left out.
+    fn put_trace<F: Open, W: Write, E: Messages>(
+        &self,
+        files: &mut F,
+        out: &mut W,
+        errors: &mut E,
+    ) -> io::Result<u64> {
+        let filter = LineFilter {
+            range: self.options.range,
+            addresses: Vec::new(self.alloc),
+            functions: Vec::new(self.alloc),
+            objects: Vec::new(self.alloc),
+        };
+        begin_block("trace", out)?;
+        let mut block = Block::new(out, MOST_LINES);
+        trace_replay(
+            self.alloc,
+            self.replay,
+            &filter,
+            Format::Json,
+            files,
+            &mut block,
+            errors,
+        )?;
+        let left_out = block.left_out;
+        end_block(out)?;
+        Ok(left_out)
+    }
+
+    /// Writes the screens with their pictures. Returns how many are left out.
+    fn put_screens<F: Open, W: Write, E: Messages>(
+        &self,
+        files: &mut F,
+        out: &mut W,
+        errors: &mut E,
+    ) -> io::Result<u64> {
+        begin_block("screens", out)?;
+        let left_out = put_screens(
+            self.alloc,
+            self.replay,
+            self.options.range,
+            MOST_PICTURES,
+            files,
+            &mut Block::new(out, u64::MAX),
+            errors,
+        )?;
+        end_block(out)?;
+        Ok(left_out)
+    }
+
+    /// Writes the differences of the recorded terminal, if its messages are in the log.
+    fn put_differences<F: Open, W: Write, E: Messages>(
+        &self,
+        files: &mut F,
+        out: &mut W,
+        errors: &mut E,
+    ) -> io::Result<()> {
+        let options = DifferenceOptions {
+            filter: TopicFilter {
+                range: self.options.range,
+                only: Vec::new(self.alloc),
+                ignored: Vec::new(self.alloc),
+            },
+            wait: self.options.wait,
+            format: Format::Json,
+        };
+        begin_block("compare", out)?;
+        compare_replay(
+            self.alloc,
+            self.replay,
+            &options,
+            files,
+            &mut Block::new(out, u64::MAX),
+            errors,
+        )?;
+        end_block(out)
+    }
+
+    /// Writes what the page is about.
+    fn put_about<W: Write>(
+        &self,
+        lines_left_out: u64,
+        screens_left_out: u64,
+        out: &mut W,
+    ) -> io::Result<()> {
+        begin_block("about", out)?;
+        let mut line = JsonLine::new(self.alloc);
+        line.put_text("kind", "about")?;
+        line.put_number("lines_left_out", lines_left_out)?;
+        line.put_text("log", self.replay.log.path())?;
+        line.put_address("own", self.replay.own())?;
+        line.put_number("screens_left_out", screens_left_out)?;
+        line.put_text("version", VERSION)?;
+        line.write(&mut Block::new(out, u64::MAX))?;
+        end_block(out)
+    }
+
+    /// Writes to `errors` what the page leaves out, if it does.
+    fn tell_left_out<E: Write>(&self, lines: u64, screens: u64, program: &str, errors: &mut E) {
+        let path = self.replay.log.path();
+        if lines > 0 {
+            let _ = writeln!(
+                errors,
+                "{program}: {path}: the page has the first {MOST_LINES} lines, and {lines} are left out; --from and --to choose others"
+            );
+        }
+        if screens > 0 {
+            let _ = writeln!(
+                errors,
+                "{program}: {path}: the page has the first {MOST_PICTURES} pictures, and {screens} screens are left out; --from and --to choose others"
+            );
+        }
+    }
+}
+
+/// Begins a block of data with this name.
+fn begin_block<W: Write>(name: &str, out: &mut W) -> io::Result<()> {
+    writeln!(out, "<script type='application/json' id='{name}'>")
+}
+
+/// Ends a block of data.
+fn end_block<W: Write>(out: &mut W) -> io::Result<()> {
+    out.write_all(b"</script>\n")
+}
