@@ -10,8 +10,11 @@ use vt_can::assigned::{
     NULL_ADDRESS, VT_STATUS,
 };
 use vt_can::{Frame, Line, LineFault};
+use vt_commands::CommandRow;
 use vt_commands::function::{BUTTON_ACTIVATION, NUMERIC_VALUE, SOFT_KEY_ACTIVATION, STRING_VALUE};
-use vt_frames_text::{DELETE_VERSION, GET_VERSIONS, HexByte, LOAD_VERSION, STORE_VERSION};
+use vt_frames_text::{
+    DELETE_VERSION, GET_VERSIONS, GET_VERSIONS_RESPONSE, HexByte, LOAD_VERSION, STORE_VERSION,
+};
 use vt_server::{Terminal, UploadEnd};
 
 /// Why this terminal sends another message than the recorded one, or none.
@@ -23,6 +26,8 @@ pub(crate) enum Cause {
     AddressLost,
     /// It stores no pools.
     StoresNone,
+    /// It never sends a message of this function.
+    NeverSent,
     /// It has no working set at an address.
     NoSet(u8),
     /// It has no pool of the working set at an address, and no upload from there has ended.
@@ -39,6 +44,7 @@ impl fmt::Display for Cause {
             Cause::Late => f.write_str("this terminal sent it before, longer ago than --wait"),
             Cause::AddressLost => f.write_str("this terminal has lost its address"),
             Cause::StoresNone => f.write_str("this terminal stores no pools"),
+            Cause::NeverSent => f.write_str("this terminal never sends this function"),
             Cause::NoSet(address) => {
                 write!(f, "this terminal has no working set {}", HexByte(*address))
             }
@@ -187,6 +193,9 @@ impl Causes {
         if is_about_stored_pools(function) {
             return Some(Cause::StoresNone);
         }
+        if !is_sent(function) {
+            return Some(Cause::NeverSent);
+        }
         if let Some(address) = set_of(theirs) {
             if !terminal.registered(address) {
                 return Some(Cause::NoSet(address));
@@ -230,8 +239,14 @@ fn set_of(said: &Said) -> Option<u8> {
 fn is_about_stored_pools(function: u8) -> bool {
     matches!(
         function,
-        GET_VERSIONS | STORE_VERSION | LOAD_VERSION | DELETE_VERSION
+        GET_VERSIONS | GET_VERSIONS_RESPONSE | STORE_VERSION | LOAD_VERSION | DELETE_VERSION
     )
+}
+
+/// Whether this terminal sends messages of a function.
+fn is_sent(function: u8) -> bool {
+    let is_reply = CommandRow::of(function).is_some();
+    is_reply || !needs_pool(function) || reports_action(function) || function == VT_STATUS
 }
 
 /// Whether only a set with a pool gets a message of a function.

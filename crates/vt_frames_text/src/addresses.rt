@@ -1,5 +1,6 @@
 //! Address claims, requests, working sets and parameter groups in words.
 
+use crate::groups::{ACKNOWLEDGEMENT, LANGUAGE};
 use crate::shown::{Count, HexBytes};
 use byteorder::{ByteOrder, LittleEndian};
 use std::fmt;
@@ -7,6 +8,10 @@ use vt_can::assigned::{
     ADDRESS_CLAIMED, ECU_TO_VT, ETP_CM, ETP_DT, NULL_ADDRESS, REQUEST, TP_CM, TP_DT, VT_TO_ECU,
     WORKING_SET_MASTER, WORKING_SET_MEMBER,
 };
+use vt_names::Name;
+
+/// The function of a virtual terminal in a NAME.
+const VIRTUAL_TERMINAL: u8 = 29;
 
 /// A message that a NAME claims an address, or that it cannot claim one.
 #[derive(Clone, Copy, Drop)]
@@ -70,7 +75,7 @@ impl fmt::Display for MemberSentence<'_> {
     }
 }
 
-/// The NAME in eight bytes, as a number in hex; the bytes themselves if there are fewer.
+/// The NAME in eight bytes, as a number in hex and by its fields; the bytes themselves if there are fewer.
 #[derive(Clone, Copy, Drop)]
 struct NameText<'a>(&'a [u8]);
 
@@ -79,7 +84,47 @@ impl fmt::Display for NameText<'_> {
         if self.0.len() < 8 {
             return write!(f, "{}", HexBytes(self.0));
         }
-        write!(f, "NAME {:016X}", LittleEndian::read_u64(self.0))
+        let name = Name::from_raw(LittleEndian::read_u64(self.0));
+        write!(f, "NAME {:016X} ({})", name.raw(), NameFields(name))
+    }
+}
+
+/// The fields of a NAME, such as `agriculture, virtual terminal, manufacturer 95, identity 1`.
+#[derive(Clone, Copy, Drop)]
+struct NameFields(Name);
+
+impl fmt::Display for NameFields {
+    fn fmt<W: fmt::Write>(&self, f: &mut fmt::Formatter<W>) -> fmt::Result {
+        let name = self.0;
+        let group = name.industry_group();
+        match industry(group) {
+            Some(industry) => write!(f, "{industry}, ")?,
+            None => write!(f, "industry group {group}, ")?,
+        }
+        match name.function() {
+            VIRTUAL_TERMINAL => f.write_str("virtual terminal, ")?,
+            function => write!(
+                f,
+                "device class {}, function {function}, ",
+                name.device_class()
+            )?,
+        }
+        let manufacturer = name.manufacturer();
+        let identity = name.identity();
+        write!(f, "manufacturer {manufacturer}, identity {identity}")
+    }
+}
+
+/// The industry of an industry group (ISO 11783-5). `None` if it is not assigned.
+fn industry(group: u8) -> Option<&'static str> {
+    match group {
+        0 => Some("all industries"),
+        1 => Some("on-highway"),
+        2 => Some("agriculture"),
+        3 => Some("construction"),
+        4 => Some("marine"),
+        5 => Some("industrial"),
+        _ => None,
     }
 }
 
@@ -111,6 +156,8 @@ impl ParameterGroup {
             TP_DT => Some("TP packet"),
             ETP_CM => Some("ETP control"),
             ETP_DT => Some("ETP packet"),
+            LANGUAGE => Some("Language"),
+            ACKNOWLEDGEMENT => Some("Acknowledgement"),
             _ => None,
         }
     }

@@ -5,7 +5,9 @@ ghost use Rattle.vt_commands.specs.declared.command.Command.{Command};
 ghost use Rattle.vt_server.specs.message.CommandReplies.{command_reply};
 ghost use Rattle.vt_frames_text.specs.Replies.{error_in, error_place};
 
-use crate::pool_requests::{DELETE_VERSION, GET_VERSIONS, LOAD_VERSION, STORE_VERSION};
+use crate::pool_requests::{
+    DELETE_VERSION, GET_VERSIONS, GET_VERSIONS_RESPONSE, LOAD_VERSION, STORE_VERSION,
+};
 use vt_can::assigned::{
     END_OF_POOL, GET_FONTS, GET_HARDWARE, GET_MEMORY, GET_SOFT_KEYS, TRANSFER, VT_STATUS,
 };
@@ -41,11 +43,40 @@ fn other_name(function: u8) -> Option<&'static str> {
         GET_FONTS => Some("Get Text Font Data"),
         GET_HARDWARE => Some("Get Hardware"),
         GET_VERSIONS => Some("Get Versions"),
+        GET_VERSIONS_RESPONSE => Some("Get Versions Response"),
         STORE_VERSION => Some("Store Version"),
         LOAD_VERSION => Some("Load Version"),
         DELETE_VERSION => Some("Delete Version"),
         VT_STATUS => Some("VT Status"),
         MAINTENANCE => Some("Working Set Maintenance"),
+        _ => name_elsewhere(function),
+    }
+}
+
+/// The name of a function that other terminals or other versions of the standard have, and this terminal does not (ISO 11783-6).
+fn name_elsewhere(function: u8) -> Option<&'static str> {
+    match function {
+        0x02 => Some("Pointing Event"),
+        0x04 => Some("VT Esc"),
+        0x06 => Some("VT Change Active Mask"),
+        0x07 => Some("VT Change Soft Key Mask"),
+        0x09 => Some("VT On User-Layout Hide/Show"),
+        0x0A => Some("VT Control Audio Signal Termination"),
+        0x20 => Some("Auxiliary Assignment Type 1"),
+        0x21 => Some("Auxiliary Input Type 1 Status"),
+        0x22 => Some("Preferred Assignment"),
+        0x23 => Some("Auxiliary Input Type 2 Maintenance"),
+        0x24 => Some("Auxiliary Assignment Type 2"),
+        0x25 => Some("Auxiliary Input Status Type 2 Enable"),
+        0x26 => Some("Auxiliary Input Type 2 Status"),
+        0x27 => Some("Auxiliary Capabilities"),
+        0x92 => Some("Esc"),
+        0xA2 => Some("Select Input Object"),
+        0xC1 => Some("Get Supported Wide Characters"),
+        0xC4 => Some("Get Window Mask Data"),
+        0xC5 => Some("Get Supported Objects"),
+        0xD3 => Some("Extended Get Versions"),
+        0xFD => Some("Unsupported VT Function"),
         _ => None,
     }
 }

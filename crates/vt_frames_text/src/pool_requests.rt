@@ -7,6 +7,9 @@ use vt_commands::function::DELETE_POOL;
 /// Get Versions: which pools the terminal has stored.
 pub const GET_VERSIONS: u8 = 0xDF;
 
+/// Get Versions Response: the labels of the pools that the terminal has stored.
+pub const GET_VERSIONS_RESPONSE: u8 = 0xE0;
+
 /// Store Version: the pool is to be stored under a label.
 pub const STORE_VERSION: u8 = 0xD0;
 

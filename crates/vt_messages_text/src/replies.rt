@@ -5,7 +5,10 @@ use crate::objects::{Objects, id_of};
 use crate::told::ToldSentence;
 use std::fmt;
 use vt_can::assigned::{END_OF_POOL, GET_FONTS, GET_HARDWARE, GET_MEMORY, GET_SOFT_KEYS};
-use vt_frames_text::{PlainMessage, error_of, function_name};
+use vt_frames_text::{
+    Count, DELETE_VERSION, GET_VERSIONS_RESPONSE, HexByte, LOAD_VERSION, PlainMessage, QuotedText,
+    STORE_VERSION, error_of, function_name,
+};
 use vt_objects::ObjectId;
 use vt_server::Terminal;
 
@@ -53,6 +56,16 @@ impl fmt::Display for ReplySentence<'_> {
                     "Get Hardware: boot time {boot}, graphic type {graphic}, hardware {hardware:02X}, {width}x{height} pixels"
                 )
             }
+            [GET_VERSIONS_RESPONSE, count, labels @ ..] => write_versions(f, *count, labels),
+            [
+                STORE_VERSION | LOAD_VERSION | DELETE_VERSION,
+                _,
+                _,
+                _,
+                _,
+                error,
+                ..
+            ] => write_stored(f, self.bytes, *error),
             _ => self.write_outcome(f),
         }
     }
@@ -120,6 +133,36 @@ fn code_meaning(code: u8) -> Option<&'static str> {
         2 => Some("an object is missing"),
         4 => Some("any other error"),
         _ => None,
+    }
+}
+
+/// The bytes of a label.
+const LABEL: usize = 7;
+
+/// Writes the labels of the pools that a terminal has stored.
+fn write_versions<W: fmt::Write>(
+    f: &mut fmt::Formatter<W>,
+    count: u8,
+    labels: &[u8],
+) -> fmt::Result {
+    write!(
+        f,
+        "Get Versions Response: {}",
+        Count(u64::from(count), "version")
+    )?;
+    for label in labels.chunks_exact(LABEL).take(usize::from(count)) {
+        write!(f, " {}", QuotedText(label))?;
+    }
+    Ok(())
+}
+
+/// Writes the reply to a request about a stored pool.
+fn write_stored<W: fmt::Write>(f: &mut fmt::Formatter<W>, bytes: &[u8], error: u8) -> fmt::Result {
+    let function = bytes.first().copied().unwrap_or(0);
+    let name = function_name(function).unwrap_or("stored version");
+    match error {
+        0 => write!(f, "{name}: done"),
+        error => write!(f, "{name}: refused, error {}", HexByte(error)),
     }
 }
 

@@ -5,13 +5,11 @@ use crate::objects::Objects;
 use byteorder::{ByteOrder, LittleEndian};
 use std::fmt;
 use vt_can::assigned::{END_OF_POOL, GET_FONTS, GET_HARDWARE, GET_MEMORY, GET_SOFT_KEYS, TRANSFER};
-use vt_commands::Command;
-use vt_commands::function::{
-    BUTTON_ACTIVATION, EXECUTE_MACRO, HIDE_SHOW, NUMERIC_VALUE, SOFT_KEY_ACTIVATION, STRING_VALUE,
-};
+use vt_commands::function::{BUTTON_ACTIVATION, NUMERIC_VALUE, SOFT_KEY_ACTIVATION, STRING_VALUE};
+use vt_commands::{Command, CommandRow};
 use vt_frames_text::{
     Count, DELETE_VERSION, GET_VERSIONS, HexBytes, LOAD_VERSION, MAINTENANCE, PlainMessage,
-    QuotedText, STORE_VERSION, function_name,
+    QuotedText, STORE_VERSION,
 };
 
 /// A message of an implement to a terminal.
@@ -59,16 +57,16 @@ impl RequestSentence<'_> {
                 SOFT_KEY_ACTIVATION | BUTTON_ACTIVATION | NUMERIC_VALUE | STRING_VALUE,
                 ..
             ] => write!(f, "answer to {}", PlainMessage(self.bytes)),
-            [function, ..] if is_command(*function) => {
-                let name = function_name(*function).unwrap_or("command");
-                write!(f, "{name}, cut short: {}", HexBytes(self.bytes))
-            }
-            bytes => write!(f, "{}", PlainMessage(bytes)),
+            bytes => self.write_unread(f, bytes),
         }
     }
-}
 
-/// Whether a function with a name is that of a command.
-fn is_command(function: u8) -> bool {
-    (HIDE_SHOW..=EXECUTE_MACRO).contains(&function) && function_name(function).is_some()
+    /// Writes a command that is cut short, or a message for which there are no other words.
+    fn write_unread<W: fmt::Write>(&self, f: &mut fmt::Formatter<W>, bytes: &[u8]) -> fmt::Result {
+        let function = bytes.first().copied();
+        match function.and_then(CommandRow::of) {
+            Some(row) => write!(f, "{}, cut short: {}", row.name, HexBytes(bytes)),
+            None => write!(f, "{}", PlainMessage(bytes)),
+        }
+    }
 }

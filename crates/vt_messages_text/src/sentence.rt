@@ -11,8 +11,9 @@ use vt_can::assigned::{
     WORKING_SET_MASTER, WORKING_SET_MEMBER,
 };
 use vt_frames_text::{
-    ClaimSentence, Destination, EtpControl, GroupRequest, HexByte, HexBytes, MasterSentence,
-    MemberSentence, Packet, ParameterGroup, TpControl,
+    ACKNOWLEDGEMENT, AcknowledgementSentence, ClaimSentence, Destination, EtpControl, GroupRequest,
+    HexByte, HexBytes, LANGUAGE, LanguageSentence, MasterSentence, MemberSentence, Packet,
+    ParameterGroup, TpControl,
 };
 use vt_server::Terminal;
 
@@ -113,6 +114,8 @@ impl fmt::Display for MessageSentence<'_> {
             REQUEST => write!(f, "{}", GroupRequest(bytes)),
             WORKING_SET_MASTER => write!(f, "{}", MasterSentence(bytes)),
             WORKING_SET_MEMBER => write!(f, "{}", MemberSentence(bytes)),
+            LANGUAGE => write!(f, "{}", LanguageSentence(bytes)),
+            ACKNOWLEDGEMENT => write!(f, "{}", AcknowledgementSentence(bytes)),
             group => write!(f, "{}: {}", ParameterGroup(group), HexBytes(bytes)),
         }
     }
