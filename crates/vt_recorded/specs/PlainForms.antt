@@ -1,6 +1,7 @@
 -- The plain form of a line: what `candump -L` writes for a frame that was recorded in another way (docs/PROFILE.md, "Lines of
 -- other recorders").
 use Rattle.std.specs.Prelude.{ℕ, zero, suc, ◌==◌, ◌&&◌, ◌||◌, not, Bool, false, if◌then◌else◌, unwrap_or, List, [], ◌∷◌, ◌++◌, length, take, drop, codes, position}
+use Rattle.std.specs.Str.{bytes_eq}
 
 -- where the first word of a text begins, and how long the word at the front of a text is: words stand between spaces
 unfoldable pub word_start : List ℕ → ℕ
@@ -59,6 +60,15 @@ frame_form text =
     else if is_of_fd (second_word text) then word text ++ codes "##"
     else word text ++ codes "#" ++ data_form (after_word (after_word text))
 
+-- the direction of a frame, which candump -x writes in front of it: RX or TX
+abbrev pub is_direction : List ℕ → Bool
+is_direction word = bytes_eq word (codes "RX") || bytes_eq word (codes "TX")
+
+-- a text without a direction at its front, and without the two words of flags behind the direction, as RX - -
+abbrev pub without_direction : List ℕ → List ℕ
+without_direction text = if is_direction (word text) then unpadded (after_word (after_word (after_word text))) else text
+
 -- the plain form of a line that begins with a time
 abbrev pub plain_form : List ℕ → List ℕ
-plain_form line = word line ++ codes " " ++ second_word line ++ codes " " ++ frame_form (unpadded (after_word (after_word line)))
+plain_form line =
+    word line ++ codes " " ++ second_word line ++ codes " " ++ frame_form (without_direction (unpadded (after_word (after_word line))))

@@ -1,7 +1,7 @@
 //! The plain form of a line.
 
 ghost use Rattle.std.specs.Prelude.{◌≡◌, ◌++◌, OnOk};
-ghost use Rattle.vt_recorded.specs.PlainForms.{is_data, is_of_fd, is_pair, pairs, data_form, frame_form, plain_form};
+ghost use Rattle.vt_recorded.specs.PlainForms.{is_data, is_direction, is_of_fd, is_pair, pairs, data_form, frame_form, plain_form, without_direction};
 
 use crate::words::{next_word, starts_with, unpadded};
 use std::alloc::AllocError;
@@ -16,7 +16,27 @@ pub(crate) fn put_plain_form(line: &[u8], plain: &mut Vec<u8>) -> Result<(), All
     plain.push(b' ')?;
     plain.extend_from_slice(interface)?;
     plain.push(b' ')?;
-    put_frame(unpadded(rest), plain)
+    put_frame(without_direction(unpadded(rest)), plain)
+}
+
+/// A text without the direction and the flags at its front, which candump -x writes.
+fn without_direction(text: &[u8]) -> &[u8]
+    ensures { result.now ≡ without_direction text.now }
+{
+    let (direction, rest) = next_word(text);
+    if !is_direction(direction) {
+        return text;
+    }
+    let (_, rest) = next_word(rest);
+    let (_, rest) = next_word(rest);
+    unpadded(rest)
+}
+
+/// Whether a word is the direction of a frame.
+fn is_direction(word: &[u8]) -> bool
+    ensures { result ≡ is_direction word.now }
+{
+    word == b"RX".as_slice() || word == b"TX".as_slice()
 }
 
 /// Appends the frame of a line, which begins behind its time and its interface.
