@@ -27,7 +27,7 @@ pub fn items_of<'a>(
         let is_judged = match warning {
             Warning::Unused { .. } => is_read,
             Warning::TextTooWide(field) => !is_mended(inspection, mended.as_slice(), field.id),
-            _ => true,
+            Warning::TextTooHigh(_) | Warning::Outside { .. } | Warning::ExtraKeys { .. } => true,
         };
         if is_judged {
             items.push(Item::Warning(warning))?;
@@ -61,7 +61,33 @@ fn is_mended(inspection: &Inspection, mended: &[usize], id: ObjectId) -> bool {
     let size = match record.kind {
         Kind::InputNumber => INPUT_NUMBER_BYTES,
         Kind::OutputNumber => OUTPUT_NUMBER_BYTES,
-        _ => 0,
+        Kind::WorkingSet
+        | Kind::DataMask
+        | Kind::AlarmMask
+        | Kind::Container
+        | Kind::SoftKeyMask
+        | Kind::Key
+        | Kind::Button
+        | Kind::InputBoolean
+        | Kind::InputString
+        | Kind::InputList
+        | Kind::OutputString
+        | Kind::Line
+        | Kind::Rectangle
+        | Kind::Ellipse
+        | Kind::Polygon
+        | Kind::Meter
+        | Kind::LinearBar
+        | Kind::ArchedBar
+        | Kind::Picture
+        | Kind::NumberVariable
+        | Kind::StringVariable
+        | Kind::Font
+        | Kind::LineAttributes
+        | Kind::FillAttributes
+        | Kind::InputAttributes
+        | Kind::ObjectPointer
+        | Kind::Macro => 0,
     };
     let next = mended.partition_point(|at| *at < record.at);
     match mended.get(next) {

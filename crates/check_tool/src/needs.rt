@@ -1,7 +1,7 @@
 //! The subcommand `needs`.
 
 use crate::program::is_read;
-use check_inspect::{Inspection, inspect};
+use check_inspect::{Finding, Inspection, inspect};
 use check_needs::{
     Lack, Needs, Sizes, dearest_event, has_font, has_kind, lacks, longest_chain, needs_of,
 };
@@ -10,9 +10,9 @@ use check_words::NeedsOptions;
 use std::alloc::Global;
 use std::io::{self, Error, ErrorKind, Write};
 use vt_cli::{Open, Status, read_names, read_pool_file};
-use vt_judge::{NotAccepted, judge};
 use vt_objects::{Kind, Store};
-use vt_verify::Accepted;
+use vt_pool::read_pool;
+use vt_verify::{Accepted, Refusal, verify_update};
 
 /// Prints what a pool needs, and whether the terminal has it.
 pub(crate) fn run_needs<F: Open, W: Write, E: Write>(
@@ -39,7 +39,7 @@ pub(crate) fn run_needs<F: Open, W: Write, E: Write>(
     if !is_read(&inspection, options.pool, errors) {
         return Ok(Status::NotJudged);
     }
-    let cause = put_load(alloc, &source, bytes.as_slice(), out)?;
+    let cause = put_load(alloc, &source, out)?;
     let fits = put_lacks(&needs, options.sizes, out)?;
     if let Some(cause) = cause {
         let _ = writeln!(
@@ -100,21 +100,37 @@ fn colours(colour: u8) -> u16 {
     }
 }
 
-/// Prints the longest chain and the dearest event of an accepted pool. If the pool is not accepted, returns the reason.
+/// Prints the longest chain and the dearest event of an accepted pool. If the pool is not accepted, returns the reason. The objects that
+/// were inspected are verified as they are, so that the pool is not read again.
 fn put_load<W: Write>(
     alloc: Global,
     source: &CheckedPool<'_>,
-    bytes: &[u8],
     out: &mut W,
 ) -> io::Result<Option<&'static str>> {
-    match judge(alloc, bytes) {
+    let Inspection {
+        findings,
+        objects,
+        ..
+    } = source.inspection;
+    if findings
+        .iter()
+        .any(|finding| matches!(finding, Finding::Record(_)))
+    {
+        return Ok(Some("a record of the pool has a fault"));
+    }
+    if !findings.is_empty() {
+        return Ok(Some("the pool is refused"));
+    }
+    let Ok(no_update) = read_pool(alloc, &[]) else {
+        return Err(Error::from(ErrorKind::OutOfMemory));
+    };
+    match verify_update(alloc, objects, &no_update) {
         Ok(accepted) => {
             put_accepted(source, accepted, out)?;
             Ok(None)
         }
-        Err(refusal) if refusal.wants_memory() => Err(Error::from(ErrorKind::OutOfMemory)),
-        Err(NotAccepted::Fault(_)) => Ok(Some("a record of the pool has a fault")),
-        Err(NotAccepted::Refused(_)) => Ok(Some("the pool is refused")),
+        Err(Refusal::OutOfMemory) => Err(Error::from(ErrorKind::OutOfMemory)),
+        Err(_) => Ok(Some("the pool is refused")),
     }
 }
 

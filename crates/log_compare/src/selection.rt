@@ -70,6 +70,6 @@ impl Selection<'_> {
 fn object_of<'a>(part: TopicPart<'a>) -> Option<ObjectWord<'a>> {
     match part {
         TopicPart::Object(object) => Some(object),
-        _ => None,
+        TopicPart::Function(_) | TopicPart::Destination(_) => None,
     }
 }

@@ -86,7 +86,30 @@ fn children(object: &Object<Vec<u8>>) -> &[Child] {
         Object::Container(o) if o.hidden == 0 => o.children.as_slice(),
         Object::Key(o) => o.children.as_slice(),
         Object::Button(o) => o.children.as_slice(),
-        _ => &[],
+        Object::Container(_)
+        | Object::SoftKeyMask(_)
+        | Object::InputBoolean(_)
+        | Object::InputString(_)
+        | Object::InputNumber(_)
+        | Object::InputList(_)
+        | Object::OutputString(_)
+        | Object::OutputNumber(_)
+        | Object::Line(_)
+        | Object::Rectangle(_)
+        | Object::Ellipse(_)
+        | Object::Polygon(_)
+        | Object::Meter(_)
+        | Object::LinearBar(_)
+        | Object::ArchedBar(_)
+        | Object::Picture(_)
+        | Object::NumberVariable(_)
+        | Object::StringVariable(_)
+        | Object::Font(_)
+        | Object::LineAttributes(_)
+        | Object::FillAttributes(_)
+        | Object::InputAttributes(_)
+        | Object::ObjectPointer(_)
+        | Object::Macro(_) => &[],
     }
 }
 

@@ -188,7 +188,30 @@ fn value_bytes(kind: Kind) -> ValueType {
     match kind {
         Kind::InputBoolean | Kind::InputList => ValueType::Byte,
         Kind::Meter | Kind::LinearBar | Kind::ArchedBar => ValueType::Word,
-        _ => ValueType::Long,
+        Kind::WorkingSet
+        | Kind::DataMask
+        | Kind::AlarmMask
+        | Kind::Container
+        | Kind::SoftKeyMask
+        | Kind::Key
+        | Kind::Button
+        | Kind::InputString
+        | Kind::InputNumber
+        | Kind::OutputString
+        | Kind::OutputNumber
+        | Kind::Line
+        | Kind::Rectangle
+        | Kind::Ellipse
+        | Kind::Polygon
+        | Kind::Picture
+        | Kind::NumberVariable
+        | Kind::StringVariable
+        | Kind::Font
+        | Kind::LineAttributes
+        | Kind::FillAttributes
+        | Kind::InputAttributes
+        | Kind::ObjectPointer
+        | Kind::Macro => ValueType::Long,
     }
 }
 
