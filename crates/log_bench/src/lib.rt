@@ -15,6 +15,7 @@
 mod blessing;
 mod comparison;
 mod difference;
+mod entries;
 mod expectation;
 pub mod laws;
 mod test;

@@ -3,12 +3,13 @@
 ghost use Rattle.std.specs.Prelude.{◌≡◌, IfOk};
 ghost use Rattle.log_bench.specs.Statuses.{status_of};
 
+use crate::entries::{Entry, entries_at};
 use crate::{Blessed, LineDifference, bless, differences};
 use log_replay::{LoadedSet, Log, new_terminal, read_sets, tell_loss};
 use log_words::{TerminalOptions, TestOptions};
 use std::alloc::{AllocError, Global};
 use std::io::{self, Error, ErrorKind, Write};
-use vt_cli::{Open, Program, Save, Status, overwrite_file};
+use vt_cli::{List, Open, Program, Save, Status, overwrite_file};
 use vt_logs::ReplayFault;
 use vt_recorded::{LineHint, Survey};
 use vt_server::Terminal;
@@ -16,9 +17,10 @@ use vt_server::Terminal;
 /// The most bytes of a log.
 const MOST_BYTES: usize = 1 << 40;
 
-/// Tests each log in turn, or writes each anew. A log that cannot be read or replayed is reported, and the other logs are still tested.
-/// The status is the worst of the logs. An error is returned if `out` cannot be written or memory is refused.
-pub fn run_test<F: Open + Save, W: Write, E: Write>(
+/// Tests each log in turn, or writes each anew; of a folder, each log in it. A log that cannot be read or replayed is reported, and the
+/// other logs are still tested. The status is the worst of the logs. An error is returned if `out` cannot be written or memory is
+/// refused.
+pub fn run_test<F: Open + Save + List, W: Write, E: Write>(
     alloc: Global,
     options: &TestOptions<'_>,
     files: &mut F,
@@ -31,17 +33,13 @@ pub fn run_test<F: Open + Save, W: Write, E: Write>(
     };
     let bench = Bench {
         alloc,
+        blesses: options.blesses,
         terminal: options.terminal,
         sets: sets.as_slice(),
     };
     let mut status = Status::Clean;
-    for path in options.logs.iter() {
-        let found = match Log::read(alloc, path, None, files, errors)? {
-            None => Status::NotJudged,
-            Some(log) if options.blesses => bench.bless(&log, files, out, errors)?,
-            Some(log) => bench.test(&log, files, out, errors)?,
-        };
-        status = status.and(found);
+    for entry in entries_at(alloc, &options.logs, files)?.iter() {
+        status = status.and(bench.run(entry, files, out, errors)?);
     }
     Ok(status)
 }
@@ -50,11 +48,33 @@ pub fn run_test<F: Open + Save, W: Write, E: Write>(
 #[derive(Clone, Copy, Drop)]
 struct Bench<'a> {
     alloc: Global,
+    /// Whether each log is written anew.
+    blesses: bool,
     terminal: TerminalOptions,
     sets: &'a [LoadedSet],
 }
 
 impl Bench<'_> {
+    /// Tests a log, or writes it anew.
+    fn run<F: Open + Save, W: Write, E: Write>(
+        &self,
+        entry: &Entry,
+        files: &mut F,
+        out: &mut W,
+        errors: &mut E,
+    ) -> io::Result<Status> {
+        let path = entry.path.as_str();
+        if let Some(fault) = &entry.fault {
+            let _ = writeln!(errors, "{}: {path}: {fault}", files.name());
+            return Ok(Status::NotJudged);
+        }
+        match Log::read(self.alloc, path, None, files, errors)? {
+            None => Ok(Status::NotJudged),
+            Some(log) if self.blesses => self.bless(&log, files, out, errors),
+            Some(log) => self.test(&log, files, out, errors),
+        }
+    }
+
     /// Prints the differences of a log.
     fn test<F: Program, W: Write, E: Write>(
         &self,

@@ -12,11 +12,11 @@ use log_words::Options;
 use std::alloc::Global;
 use std::convert::AsStr;
 use std::io::{self, Write};
-use vt_cli::{Open, Save, Status, refuse};
+use vt_cli::{List, Open, Save, Status, refuse};
 
 /// Runs the program on the words of its command line, of which the first is its name. `errors` receives a sentence for a wrong
 /// command line and for each file that cannot be read or written. An error is returned if `out` cannot be written or memory is refused.
-pub fn run<S: AsStr, F: Open + Save, W: Write, E: Messages>(
+pub fn run<S: AsStr, F: Open + Save + List, W: Write, E: Messages>(
     alloc: Global,
     words: &[S],
     files: &mut F,
@@ -33,7 +33,7 @@ pub fn run<S: AsStr, F: Open + Save, W: Write, E: Messages>(
 }
 
 /// Runs the subcommand of the options, and returns its status. An error is returned if `out` cannot be written or memory is refused.
-fn run_subcommand<F: Open + Save, W: Write, E: Messages>(
+fn run_subcommand<F: Open + Save + List, W: Write, E: Messages>(
     alloc: Global,
     options: &Options<'_>,
     files: &mut F,

@@ -8,6 +8,9 @@ use std::io::{self, Error, ErrorKind, Read, Stdin, Write};
 /// The end of the name of a file that is being written.
 const PART: &str = ".segyolant-part";
 
+/// The end of the name of a log.
+const LOG: &str = ".log";
+
 /// A program that reads and writes files, by its name.
 pub trait Program {
     /// The name with which its messages about files begin.
@@ -35,6 +38,13 @@ pub trait Save: Program {
 
     /// Makes a folder, unless it is there.
     fn make_folder(&mut self, path: &str) -> io::Result<()>;
+}
+
+/// Lists the logs in folders.
+pub trait List: Program {
+    /// The paths of the files in a folder whose names end in `.log`, in the order of the bytes of their names. `None` if the path is no
+    /// folder.
+    fn logs_in(&mut self, path: &str) -> io::Result<Option<Vec<String>>>;
 }
 
 /// What a saved file replaced.
@@ -77,6 +87,14 @@ impl<'a> Files<'a> {
         }
     }
 
+    /// Whether a path is that of a folder, or of a symbolic link to one.
+    fn is_folder(&self, path: &str) -> bool {
+        match fs::metadata(self.rt, path) {
+            Ok(found) => found.is_dir(),
+            Err(_) => false,
+        }
+    }
+
     /// Makes a file that is not there, with these bytes.
     fn create(&self, path: &str, bytes: &[u8]) -> io::Result<()> {
         File::create_new(self.rt, path)?.write_all(bytes)
@@ -111,6 +129,25 @@ impl Open for Files<'_> {
             return Err(Error::from(ErrorKind::IsADirectory));
         }
         Ok(Opened::File(file))
+    }
+}
+
+impl List for Files<'_> {
+    fn logs_in(&mut self, path: &str) -> io::Result<Option<Vec<String>>> {
+        if path == "-" || !self.is_folder(path) {
+            return Ok(None);
+        }
+        let alloc = self.rt.alloc();
+        let mut logs = Vec::new(alloc);
+        for entry in fs::read_dir(self.rt, path)? {
+            let entry = entry?;
+            let path = entry.path().as_str();
+            if path.ends_with(LOG) && !self.is_folder(path) {
+                logs.push(String::from_str(alloc, path)?)?;
+            }
+        }
+        logs.sort()?;
+        Ok(Some(logs))
     }
 }
 

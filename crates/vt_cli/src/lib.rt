@@ -4,10 +4,10 @@
 //!   `address` and `StartSet::new` read the values of options.
 //! - A `UsageError` is a refusal of a command line, generic over the wrong options of a program, and `refuse` tells it. A `Status` is
 //!   how a run ended.
-//! - `Open` opens files by their paths, and `Save` writes files and makes folders. `Files` are those of the system. `read_file`,
-//!   `read_pool_file` and `read_names` read whole files. `save_file` writes a file beside the old one and moves it there,
-//!   `overwrite_file` writes into it, and `make_folder` makes a folder. If one fails, it writes the name of the `Program`, the path and
-//!   the reason. `tell_replaced` says how many files were replaced.
+//! - `Open` opens files by their paths, `List` lists the logs in a folder, and `Save` writes files and makes folders. `Files` are those of
+//!   the system. `read_file`, `read_pool_file` and `read_names` read whole files. `save_file` writes a file beside the old one and moves
+//!   it there, `overwrite_file` writes into it, and `make_folder` makes a folder. If one fails, it writes the name of the `Program`, the
+//!   path and the reason. `tell_replaced` says how many files were replaced.
 //! - A `JsonLine` is an object of JSON that is built member by member and written as a line.
 //! - `words_of` collects the words of the process, and `exit_code` ends it: with them, `main` of a program is a page.
 //!
@@ -31,7 +31,7 @@ mod writing;
 
 pub use argument::{Allowed, Argument, Form};
 pub use command_line::{CommandLine, Subcommand, VERSION};
-pub use files::{Files, Open, Opened, Program, Replaced, Save};
+pub use files::{Files, List, Open, Opened, Program, Replaced, Save};
 pub use json_line::JsonLine;
 pub use process::{exit_code, words_of};
 pub use reading::{read_file, read_names, read_pool_file};
