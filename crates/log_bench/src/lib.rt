@@ -12,13 +12,18 @@
 //! What a line prints is decided in vt_logs. Come here to ask how `test` compares a log with its expectations.
 #![tactic(auto)]
 
+mod bench;
 mod blessing;
 mod comparison;
 mod difference;
 mod entries;
 mod expectation;
+mod junit;
 pub mod laws;
+mod outcome;
+mod report;
 mod test;
+mod xml;
 
 pub use blessing::{Blessed, bless};
 pub use comparison::differences;

@@ -1,0 +1,178 @@
+//! The reports of a test, as text and as lines of JSON.
+
+use crate::LineDifference;
+use crate::outcome::Outcome;
+use serde_json::Value;
+use std::alloc::{AllocError, Global};
+use std::fmt;
+use std::io::{self, Write};
+use vt_cli::JsonLine;
+
+/// The form of a report.
+#[derive(Clone, Copy, PartialEq, Eq)]
+pub(crate) enum Form {
+    /// Lines for people.
+    Text,
+    /// Lines of JSON.
+    Json,
+}
+
+/// Writes each line of a log that differs.
+pub(crate) fn put_differences<W: Write>(
+    alloc: Global,
+    form: Form,
+    path: &str,
+    differences: &[LineDifference],
+    out: &mut W,
+) -> io::Result<()> {
+    for difference in differences {
+        let changed = Changed::of(alloc, difference)?;
+        match form {
+            Form::Text => put_difference(path, difference.line, &changed, out)?,
+            Form::Json => difference_line(alloc, path, difference.line, &changed)?.write(out)?,
+        }
+    }
+    Ok(())
+}
+
+/// Writes what became of a log. For people nothing is written of one that is not judged: the error output says why.
+pub(crate) fn put_outcome<W: Write>(
+    alloc: Global,
+    form: Form,
+    path: &str,
+    outcome: Outcome,
+    out: &mut W,
+) -> io::Result<()> {
+    match (form, outcome) {
+        (Form::Json, _) => outcome_line(alloc, path, outcome)?.write(out),
+        (Form::Text, Outcome::NotJudged) => Ok(()),
+        (Form::Text, Outcome::Differs(count)) => writeln!(out, "{path}: {}", Differing { count }),
+        (Form::Text, _) => writeln!(out, "{path}: {}", outcome.word()),
+    }
+}
+
+/// How many lines differ, in words.
+#[derive(Clone, Copy, Drop)]
+pub(crate) struct Differing {
+    /// The number of lines.
+    pub count: usize,
+}
+
+impl fmt::Display for Differing {
+    fn fmt<W: fmt::Write>(&self, f: &mut fmt::Formatter<W>) -> fmt::Result {
+        let verb = if self.count == 1 { "differs" } else { "differ" };
+        write!(f, "{} of its lines {verb}", self.count)
+    }
+}
+
+/// Writes a difference for people.
+fn put_difference<W: Write>(
+    path: &str,
+    line: u64,
+    changed: &Changed<'_>,
+    out: &mut W,
+) -> io::Result<()> {
+    match line {
+        0 => writeln!(out, "{path}: the first screen differs")?,
+        line => writeln!(out, "{path}:{line}: prints something else than is expected")?,
+    }
+    put_marked(b"  - ", changed.expected(), out)?;
+    put_marked(b"  + ", changed.printed(), out)
+}
+
+/// Writes lines, each behind a mark.
+fn put_marked<W: Write>(mark: &[u8], lines: &[&[u8]], out: &mut W) -> io::Result<()> {
+    for line in lines {
+        out.write_all(mark)?;
+        out.write_all(line)?;
+    }
+    Ok(())
+}
+
+/// The line of JSON of a difference.
+fn difference_line(
+    alloc: Global,
+    path: &str,
+    line: u64,
+    changed: &Changed<'_>,
+) -> Result<JsonLine, AllocError> {
+    let mut json = JsonLine::new(alloc);
+    json.put_text("kind", "difference")?;
+    json.put_text("log", path)?;
+    json.put_number("line", line)?;
+    json.put("expected", texts_in(alloc, changed.expected())?)?;
+    json.put("printed", texts_in(alloc, changed.printed())?)?;
+    Ok(json)
+}
+
+/// Lines without their newlines, as a list of JSON. Bytes that are no UTF-8 are replaced.
+fn texts_in(alloc: Global, lines: &[&[u8]]) -> Result<Value, AllocError> {
+    let mut texts = Vec::new(alloc);
+    for line in lines {
+        let line = line.strip_suffix(b"\n").unwrap_or(line);
+        texts.push(Value::String(String::from_utf8_lossy(alloc, line)?))?;
+    }
+    Ok(Value::Array(texts))
+}
+
+/// The line of JSON of what became of a log.
+fn outcome_line(alloc: Global, path: &str, outcome: Outcome) -> Result<JsonLine, AllocError> {
+    let mut json = JsonLine::new(alloc);
+    json.put_text("kind", "log")?;
+    json.put_text("log", path)?;
+    json.put_text("result", outcome.word())?;
+    json.put_number("differences", outcome.differences() as u64)?;
+    Ok(json)
+}
+
+/// The lines of an expected text and of a printed one.
+#[derive(Drop)]
+struct Changed<'a> {
+    expected: Vec<&'a [u8]>,
+    printed: Vec<&'a [u8]>,
+    /// How many lines are the same at the front of both.
+    front: usize,
+    /// How many behind them are the same at the end of both.
+    back: usize,
+}
+
+impl<'a> Changed<'a> {
+    /// The lines of a difference.
+    fn of(alloc: Global, difference: &'a LineDifference) -> Result<Changed<'a>, AllocError> {
+        let expected = lines_in(alloc, &difference.expected)?;
+        let printed = lines_in(alloc, &difference.printed)?;
+        let pairs = expected.iter().zip(printed.iter());
+        let front = pairs.take_while(|(line, other)| line == other).count();
+        let rest = expected.get(front..).unwrap_or(&[]);
+        let others = printed.get(front..).unwrap_or(&[]);
+        let pairs = rest.iter().rev().zip(others.iter().rev());
+        let back = pairs.take_while(|(line, other)| line == other).count();
+        Ok(Changed {
+            expected,
+            printed,
+            front,
+            back,
+        })
+    }
+
+    /// The expected lines, without those with which both texts begin and those with which both end.
+    fn expected(&self) -> &[&'a [u8]] {
+        middle(&self.expected, self.front, self.back)
+    }
+
+    /// The printed lines, without the same ones.
+    fn printed(&self) -> &[&'a [u8]] {
+        middle(&self.printed, self.front, self.back)
+    }
+}
+
+/// The lines of a text, each with its newline.
+fn lines_in(alloc: Global, text: &[u8]) -> Result<Vec<&[u8]>, AllocError> {
+    text.split_inclusive(|byte| *byte == b'\n').collect(alloc)
+}
+
+/// Lines without the first and the last ones.
+fn middle<'a, 'b>(lines: &'b [&'a [u8]], front: usize, back: usize) -> &'b [&'a [u8]] {
+    let end = lines.len().saturating_sub(back);
+    lines.get(front..end).unwrap_or(&[])
+}
