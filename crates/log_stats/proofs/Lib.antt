@@ -1,5 +1,0 @@
-pub mod Rhythms
-pub mod Seconds
-pub mod SeenBefore
-pub mod Senders
-pub mod Summaries

@@ -3,7 +3,7 @@ use Rattle.std.proofs.Common.{◌≡◌, ◌+◌, ◌-◌, ◌<◌, ◌≤◌, L
 use Rattle.std.specs.Prelude.{All, Option, Some, None, MatchOption, nat_le, min, cond, filter}
 use Rattle.std.proofs.lemmas.Bool.{cond_both, cond-true, leb-true, leb-false, lt-ltb}
 use Rattle.std.proofs.lemmas.List.Elements.{All-append, All-cons, All-nil}
-use Rattle.log_stats.specs.declared.moment.Moment.{Moment}
+use Rattle.log_traffic.specs.declared.moment.Moment.{Moment}
 use Rattle.log_stats.specs.declared.rhythm.Gap.{Gap}
 use Rattle.log_stats.specs.declared.rhythm.Rhythm.{Rhythm}
 use Rattle.log_stats.specs.Rhythms.{length_of, longer, is_gap, gaps_of, times_between, IsLongest, HasTaken}

@@ -6,8 +6,8 @@ use Rattle.std.proofs.lemmas.List.{take_more, take_more_set, append_assoc, lengt
 use Rattle.std.proofs.lemmas.List.Elements.{All-append, All-cons, All-nil, All-tail}
 use Rattle.std.proofs.Math.Seq.{take-length}
 use Rattle.log_stats.specs.declared.busy_seconds.BusySecond.{BusySecond}
-use Rattle.log_stats.specs.declared.counts.Counts.{Counts}
-use Rattle.log_stats.specs.Counted.{nothing, with_frame}
+use Rattle.log_traffic.specs.declared.counts.Counts.{Counts}
+use Rattle.log_traffic.specs.Counted.{nothing, with_frame}
 use Rattle.log_stats.specs.Seconds.{Sent, first_time, start_of, counts_of, sent_in, counts_at, AreRising, begin_of, HasCounted, IsBusiest, IsFirstMost, busier}
 
 -- ---- numbers

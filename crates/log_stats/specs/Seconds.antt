@@ -1,8 +1,8 @@
 -- The seconds of a log (docs/PROFILE.md, "A log in numbers").
 use Rattle.std.specs.Prelude.{◌≡◌, ◌<◌, ◌≤◌, ◌-◌, ◌%◌, ◌==◌, ◌++◌, ℕ, nat_le, if◌then◌else◌, Option, None, Some, List, [], ◌∷◌, All}
 use Rattle.log_stats.specs.declared.busy_seconds.BusySecond.{BusySecond}
-use Rattle.log_stats.specs.declared.counts.Counts.{Counts}
-use Rattle.log_stats.specs.Counted.{nothing, with_frame}
+use Rattle.log_traffic.specs.declared.counts.Counts.{Counts}
+use Rattle.log_traffic.specs.Counted.{nothing, with_frame}
 
 -- a frame by its time, in microseconds, and its number of bytes
 pub record Sent : Type 0 where

@@ -2,10 +2,10 @@
 
 use crate::groups::FunctionLabel;
 use crate::message::{Direction, Message};
-use crate::moment::Milliseconds;
 use crate::open_requests::OpenRequests;
 use crate::subject::{Subject, answered_by, asked_by};
 use crate::summary::{Summary, summary_of};
+use log_traffic::Milliseconds;
 use std::alloc::{AllocError, Global};
 use std::collections::BTreeMap;
 use std::fmt;

@@ -3,9 +3,7 @@
 ghost use Rattle.std.specs.Prelude.{◌≡◌, ◌≤◌, ℕ, List, [], ◌∷◌, OnOk, MatchOption};
 ghost use Rattle.log_stats.specs.Seconds.{Sent, start_of, begin_of, busier, HasCounted, IsBusiest, IsFirstMost};
 
-use crate::counts::Counts;
-use crate::load::{Percent, load_of};
-use crate::moment::Seconds;
+use log_traffic::{Counts, Percent, Seconds, load_of};
 use std::alloc::{AllocError, Global};
 use std::fmt;
 use vt_frames_text::Count;

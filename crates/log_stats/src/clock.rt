@@ -1,7 +1,7 @@
 //! Steps of a log's clock.
 
-use crate::moment::Seconds;
 use crate::occurrences::{FirstPlace, Occurrences};
+use log_traffic::Seconds;
 use std::fmt;
 use vt_frames_text::Count;
 

@@ -1,8 +1,8 @@
 //! The numbers of a log as lines of JSON.
 
-use crate::{LongTransfer, Share, TrafficReport, Transfers};
 use check_text::Names;
 use log_reach::{PoolObject, SetReach};
+use log_traffic::{LongTransfer, Share, TrafficReport, Transfers};
 use serde_json::Value;
 use std::alloc::{AllocError, Global};
 use std::io::{self, Write};

@@ -1,8 +1,8 @@
 //! Gaps between messages that are sent each second.
 
 use crate::message::{Direction, Message};
-use crate::moment::{Moment, Seconds};
 use crate::rhythm::{Gap, Rhythm};
+use log_traffic::{Moment, Seconds};
 use std::alloc::{AllocError, Global};
 use std::collections::BTreeMap;
 use std::fmt;

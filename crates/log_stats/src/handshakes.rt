@@ -1,10 +1,8 @@
 //! Transfers whose receiver did not answer.
 
-use crate::control::{Control, control_in};
-use crate::moment::Moment;
 use crate::occurrences::{FirstPlace, Occurrences};
-use crate::requests::Channel;
 use log_listen::SentMessage;
+use log_traffic::{Channel, Control, Moment, control_in};
 use std::alloc::{AllocError, Global};
 use std::collections::BTreeMap;
 use std::fmt;

@@ -1,10 +1,10 @@
 //! Messages that are sent each second, and the gaps between them.
 
 ghost use Rattle.std.specs.Prelude.{◌≡◌, ◌<◌, ◌≤◌, ℕ, List, [], ◌∷◌, MatchOption};
-ghost use Rattle.log_stats.specs.declared.moment.Moment.{Moment as Message};
+ghost use Rattle.log_traffic.specs.declared.moment.Moment.{Moment as Message};
 ghost use Rattle.log_stats.specs.Rhythms.{longer};
 
-use crate::moment::Moment;
+use log_traffic::Moment;
 
 /// The most microseconds from a message to the next one that are no gap (docs/PROFILE.md, "Silence").
 const MOST_SILENT: u64 = 3_000_000;

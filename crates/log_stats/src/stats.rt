@@ -1,11 +1,12 @@
 //! The subcommand `stats`.
 
+use crate::Timing;
 use crate::fields::Fields;
 use crate::timing_fields::TimingFields;
-use crate::{Timing, Traffic};
 use check_text::Names;
 use log_reach::{Reach, ReachText};
 use log_replay::{Messages, Replay, ReplayPass, Turn, take};
+use log_traffic::Traffic;
 use log_words::{Format, StatsOptions};
 use std::alloc::Global;
 use std::io::{self, Write};

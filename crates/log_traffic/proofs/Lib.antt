@@ -1,0 +1,3 @@
+-- The lemmas of log_traffic.
+pub mod SeenBefore
+pub mod Senders
