@@ -1,17 +1,27 @@
-//! The parts of the page that are the same for each log.
+//! The parts of the page that are the same for each log. Written by scripts/page.py from the files of page/.
 
-/// The page up to its style.
-pub(crate) const HEAD: &str = "<!doctype html>
-<meta charset='utf-8'>
-<title>segyolant_log report</title>
-<style>
-";
+pub(crate) mod body;
+mod cursor;
+mod data;
+pub(crate) mod head;
+mod main;
+mod marks;
+mod numbers;
+mod screen;
+pub(crate) mod style;
+mod tables;
+mod timeline;
+mod trace;
 
-/// The end of the style, and the page up to its data.
-pub(crate) const BODY: &str = "</style>
-<body>
-";
-
-/// The end of the page.
-pub(crate) const END: &str = "</body>
-";
+/// The parts of the script, in their order.
+pub(crate) const SCRIPTS: &[&str] = &[
+    data::TEXT,
+    marks::TEXT,
+    cursor::TEXT,
+    timeline::TEXT,
+    screen::TEXT,
+    trace::TEXT,
+    tables::TEXT,
+    numbers::TEXT,
+    main::TEXT,
+];

@@ -1,7 +1,7 @@
 //! The subcommand `report`.
 
 use crate::block::Block;
-use crate::page::{BODY, END, HEAD};
+use crate::page::{SCRIPTS, body, head, style};
 use log_compare::compare_replay;
 use log_pools::put_uploads;
 use log_replay::{Messages, Replay};
@@ -33,15 +33,24 @@ pub fn run_report<F: Open + Save, W: Write, E: Messages>(
         replay.log.tell_no_frame(files, errors)?;
         return Ok(Status::NotJudged);
     }
-    out.write_all(HEAD.as_bytes())?;
-    out.write_all(BODY.as_bytes())?;
     let page = Page {
         alloc,
         options,
         replay: &replay,
     };
+    write!(
+        out,
+        "{}<style>\n{}</style>\n{}",
+        head::TEXT,
+        style::TEXT,
+        body::TEXT
+    )?;
     page.put_blocks(files, out, errors)?;
-    out.write_all(END.as_bytes())?;
+    out.write_all(b"<script>\n")?;
+    for part in SCRIPTS {
+        out.write_all(part.as_bytes())?;
+    }
+    out.write_all(b"</script>\n</body>\n</html>\n")?;
     Ok(Status::Clean)
 }
 
