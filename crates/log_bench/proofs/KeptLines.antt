@@ -62,6 +62,15 @@ pub one-added : (text now after printed line lines_after : List ℕ) → AddsExp
 one-added text now after printed line lines_after adds cut is =
     record { keeps = λ kept keeps. expectation-put now line after kept (adds.keeps kept keeps) (first-line printed line (lines_of lines_after) cut) is }
 
+expectation-kept : (text line after : List ℕ) (kept : List (List ℕ)) → KeepsLines text kept → NoNewline line → is_expectation line ≡ true → after ≡ text ++ [] ++ line ++ 10 ∷ [] → KeepsLines after kept
+expectation-kept text line after kept keeps none expects is = λ more.
+    line-put text [] line after more kept keeps none is ∙ ap (λ b. kept ++ cond b (without_expectations (lines_of more)) (line ∷ without_expectations (lines_of more))) expects
+
+pub one-kept : (text now after rest line lines_after : List ℕ) → AddsExpectations text now → lines_of rest ≡ line ∷ lines_of lines_after → is_expectation line ≡ true → after ≡ now ++ [] ++ line ++ 10 ∷ []
+    → AddsExpectations text after
+one-kept text now after rest line lines_after adds cut expects is =
+    record { keeps = λ kept keeps. expectation-kept now line after kept (adds.keeps kept keeps) (first-line rest line (lines_of lines_after) cut) expects is }
+
 -- ---- a log that is being written
 
 -- The lines that are no expectations are kept so far, and the rest is to come.

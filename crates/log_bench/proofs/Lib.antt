@@ -1,5 +1,7 @@
+mod FirstExpected
 mod FirstLine
 mod KeptLines
 mod LinesToCome
 mod NoDifference
+mod Patterns
 mod TakenLine

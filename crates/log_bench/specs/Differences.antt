@@ -1,13 +1,13 @@
 -- The lines of a log that print another text than is expected.
-use Rattle.std.specs.Prelude.{◌≡◌, ℕ, ◌+◌, false, if◌then◌else◌, List, [], ◌∷◌, ◌++◌}
-use Rattle.std.specs.Str.{bytes_eq}
+use Rattle.std.specs.Prelude.{◌≡◌, ℕ, ◌+◌, false, if◌then◌else◌, List, [], ◌∷◌, ◌++◌, map}
 use Rattle.log_bench.specs.declared.difference.LineDifference.{LineDifference}
 use Rattle.log_bench.specs.Expectations.{is_expectation, expected_by}
 use Rattle.log_bench.specs.LineTexts.{Prints}
+use Rattle.log_bench.specs.Patterns.{BytePattern, Fits, fits, shown_byte}
 use Rattle.vt_logs.specs.Lines.{lines_of}
 use Rattle.vt_server.specs.Terminals.{State}
 
--- a line by its number, 0 for the first screen, with the text that is expected of it and the one that it printed
+-- a line by its number, 0 for the first screen, with what is expected of it, as people see it, and the text that it printed
 pub record DiffersAt : Type 0 where
   pub line : ℕ
   pub expected : List ℕ
@@ -17,9 +17,9 @@ abbrev pub difference_seen : LineDifference → DiffersAt
 difference_seen difference = record { line = difference.line; expected = difference.expected.items; printed = difference.printed.items }
 
 -- the difference at a line, if there is one
-abbrev pub difference_at : ℕ → (expected printed : List ℕ) → List DiffersAt
+abbrev pub difference_at : ℕ → List BytePattern → (printed : List ℕ) → List DiffersAt
 difference_at n expected printed =
-    if bytes_eq expected printed then [] else record { line = n; expected = expected; printed = printed } ∷ []
+    if fits expected printed then [] else record { line = n; expected = map shown_byte expected; printed = printed } ∷ []
 
 -- The differences of lines, after n others, with their texts. An expectation is no line that prints.
 abbrev pub differences_after : ℕ → List (List ℕ) → List (List ℕ) → List DiffersAt
@@ -46,7 +46,7 @@ abbrev pub AllAsExpected : List (List ℕ) → List (List ℕ) → Type 0
 AllAsExpected [] texts = Unit {0}
 AllAsExpected (line ∷ lines) [] = Unit {0}
 AllAsExpected (line ∷ lines) (text ∷ texts) =
-    (is_expectation line ≡ false → text ≡ expected_by lines) × AllAsExpected lines texts
+    (is_expectation line ≡ false → Fits (expected_by lines) text) × AllAsExpected lines texts
 
 -- A log prints what it expects: the first screen, and the text of each line.
 pub record IsAsExpected (start : State) (input : List ℕ) : Type 0 where
@@ -54,5 +54,5 @@ pub record IsAsExpected (start : State) (input : List ℕ) : Type 0 where
   pub texts : List (List ℕ)
   pub now : State
   pub prints : Prints start input screen texts now
-  pub first : screen ≡ expected_by (lines_of input)
+  pub first : Fits (expected_by (lines_of input)) screen
   pub each : AllAsExpected (lines_of input) texts

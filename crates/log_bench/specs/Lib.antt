@@ -4,4 +4,5 @@ pub mod Differences
 pub mod Expectations
 pub mod Laws
 pub mod LineTexts
+pub mod Patterns
 pub mod Statuses

@@ -4,7 +4,7 @@ ghost use Rattle.std.specs.Prelude.{◌≡◌, ◌++◌, ◌∷◌, [], List, �
 ghost use Rattle.log_bench.specs.Blessings.{KeepsLines, without_expectations};
 ghost use Rattle.vt_logs.specs.Lines.{lines_of};
 
-use crate::expectation::{FRONT, is_expectation, next_line};
+use crate::expectation::{fits, is_expectation, next_line};
 use std::alloc::{AllocError, Global};
 use vt_logs::{Counts, Progress, ReplayFault};
 use vt_server::Terminal;
@@ -12,7 +12,7 @@ use vt_server::Terminal;
 /// The highest number of lines before a line whose fault is reported.
 const MOST_LINES: u64 = 1 << 62;
 
-/// Returns a log with the expectations that it meets, in place of those that it had. It fails if memory is refused or a line has more
+/// Returns a log with the expectations that it meets, in place of those that it had. Those of a line that it meets already stay. It fails if memory is refused or a line has more
 /// than 4,096 bytes; then the terminal has processed the lines before it.
 pub fn bless(alloc: Global, log: &[u8], terminal: &mut Terminal) -> Result<Blessed, ReplayFault>
     // No other line is changed.
@@ -27,7 +27,7 @@ pub fn bless(alloc: Global, log: &[u8], terminal: &mut Terminal) -> Result<Bless
         faults: 0,
     };
     progress.begin(terminal, &mut printed)?;
-    blessed.put_expectations(&printed)?;
+    blessed.put_expected(log, &printed)?;
     let mut rest = log;
     while let Some((line, after)) = next_line(rest) {
         if !is_expectation(line) {
@@ -40,7 +40,7 @@ pub fn bless(alloc: Global, log: &[u8], terminal: &mut Terminal) -> Result<Bless
             progress.end_line(line, terminal, &mut printed)?;
             blessed.count(&progress.counts);
             blessed.put_line(b"", line)?;
-            blessed.put_expectations(&printed)?;
+            blessed.put_expected(after, &printed)?;
         }
         rest = after;
     }
@@ -78,6 +78,24 @@ impl Blessed {
         self.text.extend_from_slice(line)?;
         self.text.push(b'\n')?;
         self.lines = self.lines.saturating_add(1);
+        Ok(())
+    }
+
+    /// Appends the expectations at the front of a text as they are, if a printed text fits them, or else new ones for what is printed.
+    fn put_expected(&mut self, text: &[u8], printed: &[u8]) -> Result<(), AllocError>
+        ensures { OnOk result ((kept : List (List ℕ)) → KeepsLines self.old.text.items kept → KeepsLines self.new.text.items kept) }
+    {
+        if !fits(text, printed) {
+            return self.put_expectations(printed);
+        }
+        let mut rest = text;
+        while let Some((line, after)) = next_line(rest) {
+            if !is_expectation(line) {
+                break;
+            }
+            self.put_line(b"", line)?;
+            rest = after;
+        }
         Ok(())
     }
 

@@ -8,7 +8,7 @@ ghost use Rattle.vt_logs.specs.Lines.{lines_of};
 ghost use Rattle.vt_server.specs.States.{state_of};
 
 use crate::difference::LineDifference;
-use crate::expectation::{expected_by, is_expectation, next_line};
+use crate::expectation::{expected_by, fits, is_expectation, next_line, wildcards_by};
 use std::alloc::{AllocError, Global};
 use vt_logs::{Progress, ReplayFault};
 use vt_server::Terminal;
@@ -22,7 +22,7 @@ pub fn differences(
     terminal: &mut Terminal,
 ) -> Result<Vec<LineDifference>, ReplayFault>
     requires few { length log.now ≤ 2 ^ 60 }
-    // Each line prints what it prints in a replay of the log, and exactly the lines with another text than is expected are returned.
+    // Each line prints what it prints in a replay of the log, and exactly the lines whose text does not fit what is expected are returned.
     ensures differences { IfOk result (λ differences. AreDifferences (state_of terminal.old) log.now (map difference_seen differences.items) (state_of terminal.new)) }
     ensures fault { IfErr result (λ fault. (fault ≡ ReplayFault.Memory) ⊎ (fault ≡ ReplayFault.TooLong)) }
     // The fault is TooLong only if a line of the log is longer than 4,096 bytes.
@@ -51,7 +51,7 @@ pub fn differences(
     Ok(differences)
 }
 
-/// Appends the difference between the text that a line printed and the text that the expectations behind the line say, if there is one.
+/// Appends the difference between the text that a line printed and what the expectations behind the line say, if the text does not fit.
 fn compare(
     alloc: Global,
     line: u64,
@@ -61,12 +61,14 @@ fn compare(
 ) -> Result<(), AllocError>
     ensures { OnOk result (map difference_seen differences.new.items ≡ map difference_seen differences.old.items ++ difference_at line (expected_by (lines_of after.now)) printed.now) }
 {
-    let expected = expected_by(alloc, after)?;
-    if expected.as_slice() != printed {
+    if !fits(after, printed) {
+        let expected = expected_by(alloc, after)?;
+        let wildcards = wildcards_by(alloc, after)?;
         let printed = Vec::from_slice(alloc, printed)?;
         differences.push(LineDifference {
             line,
             expected,
+            wildcards,
             printed,
         })?;
     }

@@ -5,8 +5,10 @@
 pub struct LineDifference {
     /// The number of the line, from 1; 0 for the first screen.
     pub line: u64,
-    /// The text that is expected.
+    /// The text that is expected, with `?` for each wildcard.
     pub expected: Vec<u8>,
+    /// Whether each `?` is a wildcard, for each line of the expected text.
+    pub wildcards: Vec<bool>,
     /// The text that was printed.
     pub printed: Vec<u8>,
 }

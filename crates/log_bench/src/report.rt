@@ -1,6 +1,7 @@
 //! The reports of a test, as text and as lines of JSON.
 
 use crate::LineDifference;
+use crate::expectation::line_fits;
 use crate::outcome::Outcome;
 use serde_json::Value;
 use std::alloc::{AllocError, Global};
@@ -130,9 +131,9 @@ fn outcome_line(alloc: Global, path: &str, outcome: Outcome) -> Result<JsonLine,
 struct Changed<'a> {
     expected: Vec<&'a [u8]>,
     printed: Vec<&'a [u8]>,
-    /// How many lines are the same at the front of both.
+    /// How many lines at the front of both fit.
     front: usize,
-    /// How many behind them are the same at the end of both.
+    /// How many behind them fit at the end of both.
     back: usize,
 }
 
@@ -141,12 +142,16 @@ impl<'a> Changed<'a> {
     fn of(alloc: Global, difference: &'a LineDifference) -> Result<Changed<'a>, AllocError> {
         let expected = lines_in(alloc, &difference.expected)?;
         let printed = lines_in(alloc, &difference.printed)?;
-        let pairs = expected.iter().zip(printed.iter());
-        let front = pairs.take_while(|(line, other)| line == other).count();
-        let rest = expected.get(front..).unwrap_or(&[]);
-        let others = printed.get(front..).unwrap_or(&[]);
-        let pairs = rest.iter().rev().zip(others.iter().rev());
-        let back = pairs.take_while(|(line, other)| line == other).count();
+        let wildcards = difference.wildcards.as_slice();
+        let triples = expected.iter().zip(wildcards).zip(printed.iter());
+        let fitting = triples.take_while(|((line, wild), other)| line_fits(line, **wild, other));
+        let front = fitting.count();
+        let lines = expected.get(front..).unwrap_or(&[]).iter().rev();
+        let wildcards = wildcards.get(front..).unwrap_or(&[]).iter().rev();
+        let others = printed.get(front..).unwrap_or(&[]).iter().rev();
+        let triples = lines.zip(wildcards).zip(others);
+        let fitting = triples.take_while(|((line, wild), other)| line_fits(line, **wild, other));
+        let back = fitting.count();
         Ok(Changed {
             expected,
             printed,
@@ -155,12 +160,12 @@ impl<'a> Changed<'a> {
         })
     }
 
-    /// The expected lines, without those with which both texts begin and those with which both end.
+    /// The expected lines, without those at the front and at the end that the printed ones fit.
     fn expected(&self) -> &[&'a [u8]] {
         middle(&self.expected, self.front, self.back)
     }
 
-    /// The printed lines, without the same ones.
+    /// The printed lines, without those that fit these.
     fn printed(&self) -> &[&'a [u8]] {
         middle(&self.printed, self.front, self.back)
     }
