@@ -5,11 +5,14 @@ ghost use Rattle.log_bench.specs.Expectations.{is_expectation, pattern_in, expec
 ghost use Rattle.log_bench.specs.Patterns.{fits, byte_fits, pattern_of, shown_byte, wildcard_or_byte, FitsNever, LeavesRest};
 ghost use Rattle.vt_logs.specs.Lines.{lines_of};
 
+#[cfg(test)]
+mod tests;
+
 use memchr::memchr;
 use std::alloc::{AllocError, Global};
 
 /// The front of an expectation.
-pub(crate) const FRONT: &[u8] = b"#<";
+const FRONT: &[u8] = b"#<";
 
 /// The front of an expectation with wildcards.
 const WILDCARD_FRONT: &[u8] = b"#<?";
