@@ -80,7 +80,7 @@ impl Page<'_> {
             self.replay,
             Format::Json,
             files,
-            &mut Block::new(out, u64::MAX),
+            &mut Block::new(self.alloc, out, u64::MAX),
             &mut repeated,
         )?;
         end_block(out)?;
@@ -90,7 +90,7 @@ impl Page<'_> {
             &self.replay.log,
             &self.replay.names,
             files,
-            &mut Block::new(out, u64::MAX),
+            &mut Block::new(self.alloc, out, u64::MAX),
             &mut repeated,
         )?;
         end_block(out)?;
@@ -112,7 +112,7 @@ impl Page<'_> {
             objects: Vec::new(self.alloc),
         };
         begin_block("trace", out)?;
-        let mut block = Block::new(out, MOST_LINES);
+        let mut block = Block::new(self.alloc, out, MOST_LINES);
         trace_replay(
             self.alloc,
             self.replay,
@@ -141,7 +141,7 @@ impl Page<'_> {
             self.options.range,
             MOST_PICTURES,
             files,
-            &mut Block::new(out, u64::MAX),
+            &mut Block::new(self.alloc, out, u64::MAX),
             errors,
         )?;
         end_block(out)?;
@@ -170,7 +170,7 @@ impl Page<'_> {
             self.replay,
             &options,
             files,
-            &mut Block::new(out, u64::MAX),
+            &mut Block::new(self.alloc, out, u64::MAX),
             errors,
         )?;
         end_block(out)
@@ -191,7 +191,7 @@ impl Page<'_> {
         line.put_address("own", self.replay.own())?;
         line.put_number("screens_left_out", screens_left_out)?;
         line.put_text("version", VERSION)?;
-        line.write(&mut Block::new(out, u64::MAX))?;
+        line.write(&mut Block::new(self.alloc, out, u64::MAX))?;
         end_block(out)
     }
 

@@ -1,0 +1,2 @@
+-- The lemmas of log_page.
+pub mod NoMarkup
