@@ -24,10 +24,10 @@ fn put_byte(byte: u8, out: &mut Vec<u8>) -> Result<(), AllocError>
     ensures { OnOk result (out.new.items ≡ out.old.items ++ escaped byte) }
 {
     if begins_tag(byte) {
-        out.extend_from_slice(ESCAPE)
-    } else {
-        out.push(byte)
+        return out.extend_from_slice(ESCAPE);
     }
+    out.push(byte)?;
+    Ok(())
 }
 
 /// Whether a byte begins a tag.
