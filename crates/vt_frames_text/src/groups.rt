@@ -55,10 +55,10 @@ pub struct AcknowledgementSentence<'a>(pub &'a [u8]);
 
 impl fmt::Display for AcknowledgementSentence<'_> {
     fn fmt<W: fmt::Write>(&self, f: &mut fmt::Formatter<W>) -> fmt::Result {
-        let [control, _, _, _, address, group @ ..] = self.0 else {
+        let [control, _, _, _, address, low, middle, high, ..] = self.0 else {
             return write!(f, "Acknowledgement: {}", HexBytes(self.0));
         };
-        let group = ParameterGroup::in_bytes(group);
+        let group = ParameterGroup::in_bytes(&[*low, *middle, *high]);
         f.write_str("Acknowledgement: ")?;
         match control {
             0 => f.write_str("positive")?,

@@ -56,32 +56,33 @@ impl fmt::Display for ReplySentence<'_> {
                     "Get Hardware: boot time {boot}, graphic type {graphic}, hardware {hardware:02X}, {width}x{height} pixels"
                 )
             }
-            [GET_VERSIONS_RESPONSE, count, labels @ ..] => write_versions(f, *count, labels),
-            [
-                STORE_VERSION | LOAD_VERSION | DELETE_VERSION,
-                _,
-                _,
-                _,
-                _,
-                error,
-                ..
-            ] => write_stored(f, self.bytes, *error),
-            _ => self.write_outcome(f),
+            _ => self.write_rest(f),
         }
     }
 }
 
 impl ReplySentence<'_> {
+    /// Writes a reply about stored pools, the outcome of a command, or what the terminal reports unasked.
+    fn write_rest<W: fmt::Write>(&self, f: &mut fmt::Formatter<W>) -> fmt::Result {
+        let Some(function) = self.bytes.first().copied() else {
+            return write!(f, "{}", PlainMessage(self.bytes));
+        };
+        match (function, self.bytes.get(STORED_ERROR)) {
+            (GET_VERSIONS_RESPONSE, _) => write_versions(f, self.bytes),
+            (STORE_VERSION | LOAD_VERSION | DELETE_VERSION, Some(error)) => {
+                write_stored(f, function, *error)
+            }
+            _ => self.write_outcome(f, function),
+        }
+    }
+
     /// Writes the outcome of a command, or what the terminal reports unasked.
-    fn write_outcome<W: fmt::Write>(&self, f: &mut fmt::Formatter<W>) -> fmt::Result {
+    fn write_outcome<W: fmt::Write>(&self, f: &mut fmt::Formatter<W>, function: u8) -> fmt::Result {
         let ReplySentence {
             bytes,
             objects,
             terminal,
         } = *self;
-        let Some(function) = bytes.first().copied() else {
-            return write!(f, "{}", PlainMessage(bytes));
-        };
         match error_of(bytes) {
             Some(error) => {
                 let name = function_name(function).unwrap_or("command");
@@ -136,15 +137,16 @@ fn code_meaning(code: u8) -> Option<&'static str> {
     }
 }
 
+/// The index of the error byte in a reply about a stored pool.
+const STORED_ERROR: usize = 5;
+
 /// The bytes of a label.
 const LABEL: usize = 7;
 
 /// Writes the labels of the pools that a terminal has stored.
-fn write_versions<W: fmt::Write>(
-    f: &mut fmt::Formatter<W>,
-    count: u8,
-    labels: &[u8],
-) -> fmt::Result {
+fn write_versions<W: fmt::Write>(f: &mut fmt::Formatter<W>, bytes: &[u8]) -> fmt::Result {
+    let count = bytes.get(1).copied().unwrap_or(0);
+    let labels = bytes.get(2..).unwrap_or(&[]);
     write!(
         f,
         "Get Versions Response: {}",
@@ -157,8 +159,7 @@ fn write_versions<W: fmt::Write>(
 }
 
 /// Writes the reply to a request about a stored pool.
-fn write_stored<W: fmt::Write>(f: &mut fmt::Formatter<W>, bytes: &[u8], error: u8) -> fmt::Result {
-    let function = bytes.first().copied().unwrap_or(0);
+fn write_stored<W: fmt::Write>(f: &mut fmt::Formatter<W>, function: u8, error: u8) -> fmt::Result {
     let name = function_name(function).unwrap_or("stored version");
     match error {
         0 => write!(f, "{name}: done"),
