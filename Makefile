@@ -4,7 +4,7 @@ ARGS ?= examples/seeder.log
 POOL ?= examples/sprayer.iop
 
 .PHONY: run picture pictures quick help test prove examples wrong-bodies build bench bench-hostile bench-counts refuse-memory test-c shared \
-	libs-aarch64 install dist reference test-python wheel desk test-desk
+	libs-aarch64 install dist reference test-python wheel desk test-desk test-page
 
 # Replays a log by the quick build of vt_replay, which proves nothing. Some three minutes at first, a second later.
 run:
@@ -38,6 +38,7 @@ prove:
 	@python3 scripts/crates.py
 	@python3 scripts/links.py
 	@python3 scripts/records.py
+	@python3 scripts/page.py
 	@python3 scripts/version.py
 	@python3 scripts/recipes.py
 	@bash scripts/examples.sh --check
@@ -130,3 +131,7 @@ desk:
 # GATE=1 takes the proved program, and the page alone.
 test-desk:
 	@python3 scripts/python_tests.py desk $(if $(GATE),--gate)
+
+# Tests the page of segyolant_log report in a headless Chromium, by the quick build. What is missing of Debian's packages is named.
+test-page:
+	@python3 scripts/log_page.py $(if $(GATE),crates/segyolant_log/out/segyolant_log,out/quick/segyolant_log)

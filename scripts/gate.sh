@@ -13,7 +13,7 @@ look_at_clock() {
 }
 
 status=0
-for step in test prove test-c test-python test-desk; do
+for step in test prove test-c test-python test-desk test-page; do
     look_at_clock
     before=$used begun=$(date +%s)
     make "$step" GATE=1 2>&1 | tee -a "$said"

@@ -83,7 +83,7 @@ def hostile():
     log.say(change_string(3003, IMG.encode()))
     log.say(b'\x11' + pools.text(3000, IMG.encode())[:20])
     log.say(b'\x12')
-    return f'# a comment {IMG}\nrubbish {IMG}\n(0.500000) can0 20000080#0000000000000000\n{log.text()}'
+    return f'# a comment {IMG}\nrubbish {IMG}\n(0.500000) can0 20000080#0000000000000000\n{log.text()}! press 2001\n! press 2001\n'
 
 
 def long():
@@ -115,6 +115,7 @@ def other():
 # The logs by the names of their pages: the name of the file, what is in it, and the words of the program.
 LOGS = {
     'field': ('field.log', field, ['--names', f'{EXAMPLES}/sprayer.h']),
+    'part': ('part.log', field, ['--from', '405', '--to', '420']),
     'other': ('other.log', other, []),
     'sprayer': ('sprayer.log', lambda: example('sprayer.log'), ['--pool', f'{EXAMPLES}/sprayer.iop']),
     'nothing': ('nothing.log', lambda: '(1.000000) can0 18EEFF90#0500000000001E20\n', []),
@@ -124,7 +125,7 @@ LOGS = {
 
 
 # Those in which the recorded terminal tells what the operator did: they are read with the operator's actions.
-OPERATED = {'field', 'other'}
+OPERATED = {'field', 'part', 'other'}
 
 
 def write_logs(program, folder):
@@ -504,6 +505,28 @@ class Others(WithPage):
         self.click('#tab-numbers')
         self.assertIn('1 error frame passed over, the first at line 3', self.text('#clock-steps'))
 
+    def test_an_action_that_is_refused(self):
+        from selenium.webdriver.common.keys import Keys
+        self.open('hostile')
+        self.press(Keys.END, Keys.ENTER)
+        self.assertIn('operator: refused 7 Held  a key is held already, and has to', ' '.join(self.texts('.row.output.refused')))
+
+    def test_a_part_of_a_log(self):
+        from selenium.webdriver.common.keys import Keys
+        self.open('part')
+        self.picture()
+        self.press(Keys.END)
+        self.assertEqual(self.line(), 420)
+        self.press(Keys.HOME)
+        self.assertEqual(self.line(), 405)
+        self.click('.chip.bad')
+        self.assertEqual(self.line(), 405)
+        self.assertEqual(len(self.texts('.leads h3, h3.leads')), 0)
+        self.assertIn('(not among the lines of this page)', self.text('article h3.bad'))
+        self.assertEqual(self.script('return marks.filter(mark => mark.lane === "uploads").length'), 0)
+        self.assertEqual(self.script('return marks.filter(mark => mark.lane === "gaps").length'), 1)
+        self.shot('part')
+
     def test_a_page_that_was_cut_off(self):
         with open(f'{WORDS.pages}/field.html') as whole, open(f'{self.folder}/cut.html', 'w') as cut:
             cut.write(whole.read()[:60000])
@@ -551,8 +574,8 @@ def make_pages(program, folder):
     write_logs(program, folder)
     for name, (file, _, words) in LOGS.items():
         ran = subprocess.run([program, 'report', file, *words], cwd=f'{folder}/{name}', capture_output=True)
-        if ran.returncode == 2 and not ran.stdout:
-            sys.exit(f'{program} report {file}: {ran.stderr.decode()}')
+        if not ran.stdout.startswith(b'<!DOCTYPE html>'):
+            sys.exit(f'{program} report {file}: status {ran.returncode}, {ran.stderr.decode()}')
         with open(f'{folder}/{name}.html', 'wb') as out:
             out.write(ran.stdout)
 
@@ -574,6 +597,8 @@ def main():
     parser.add_argument('--shots')
     parser.add_argument('--only', nargs='*', default=[])
     parser.parse_args(namespace=WORDS)
+    if WORDS.program is None and (WORDS.pages is None or WORDS.logs):
+        parser.error('PROGRAM or --pages is needed')
     if WORDS.logs:
         return write_logs(os.path.abspath(WORDS.program), WORDS.logs)
     python, lacking = desk.best_python(MODULES)

@@ -43,10 +43,12 @@ const ofKind = (lines, ...kinds) => lines.filter(line => kinds.includes(line.kin
 // ---- the lines of the log
 
 // Places each line in time, as `at`: never before the line in front of it. Where the clock was set back by more than a second, all
-// that follows is moved by as much. `most` is the greatest time so far.
+// that follows is moved by as much. `most` is the greatest time so far. What is in front of the first frame has no time of its own.
 function placeInTime(entries) {
-  let at = entries.find(entry => entry.time !== null)?.time ?? 0, most = at, moved = 0;
-  for (const entry of entries) {
+  const first = entries.findIndex(entry => entry.kind === 'frame');
+  let at = entries[first]?.time ?? 0, most = at, moved = 0;
+  for (const [k, entry] of entries.entries()) {
+    if (k < first) entry.time = null;
     const time = entry.time === null ? at : entry.time + moved;
     if (time < at - SECOND) moved += at - time;
     at = Math.max(at, time);
@@ -59,7 +61,7 @@ function placeInTime(entries) {
 function isCommand(entry) {
   if (entry.kind !== 'frame' || entry.source === model.about.own) return false;
   const answer = PACKET.test(entry.words) ? entry.outputs.find(output => output.frame?.startsWith('E6', 2)) : undefined;
-  const frame = entry.frame.startsWith('E7', 2) ? entry.frame : answer?.frame ?? '';
+  const frame = entry.frame?.startsWith('E7', 2) ? entry.frame : answer?.frame ?? '';
   const code = frame.slice(9, 11);
   return code >= 'A0' && code <= 'BF';
 }
@@ -123,6 +125,8 @@ function readModel() {
 
 const model = readModel();
 
+// Whether a line is among those of the page, which may be a part of the log.
+const isInPage = line => model.entries.length > 0 && line >= model.entries[0].line && line <= model.entries.at(-1).line;
 // The entry of a line of the log, or the one before it.
 const indexOfLine = line => Math.max(0, lastWhere(model.entries, entry => entry.line <= line));
 const indexOfTime = at => Math.max(0, lastWhere(model.entries, entry => entry.at <= at));
@@ -152,25 +156,26 @@ function connectScreens() {
 function connectDifferences() {
   for (const difference of model.differences) {
     const lines = [difference.line, difference.recorded_line].filter(line => line !== null);
+    difference.anchor = lines[0];
+    difference.isHere = isInPage(lines[0]);
     difference.index = indexOfLine(lines[0]);
-    model.entries[difference.index]?.differences.push(difference);
-    for (const entry of lines.map(line => model.entries[indexOfLine(line)])) if (entry) entry.differs = true;
+    if (difference.isHere) model.entries[difference.index].differences.push(difference);
+    for (const line of lines.filter(isInPage)) model.entries[indexOfLine(line)].differs = true;
   }
-  model.differences.sort((one, other) => one.index - other.index);
+  model.differences.sort((one, other) => one.anchor - other.anchor);
 }
 
-// The entry of a line, or the last one where there is none.
-const indexOrEnd = line => line === null || line === undefined ? Math.max(0, model.entries.length - 1) : indexOfLine(line);
+// Connects what lasts from one line to another. Without a last line it lasts to the end of the log, and without a first one it is there.
+function connectSpan(what, first_line, last_line) {
+  const last = last_line ?? Infinity, first = first_line ?? last, entries = model.entries;
+  what.isHere = entries.length > 0 && last >= entries[0].line && (first <= entries.at(-1).line || first === Infinity);
+  what.index = indexOfLine(first);
+  what.last = indexOfLine(last);
+}
 
 function connectOthers() {
-  for (const upload of model.uploads) {
-    upload.last = indexOrEnd(upload.last_line);
-    upload.index = indexOrEnd(upload.first_line ?? upload.last_line);
-  }
-  for (const { longest } of model.gaps) {
-    longest.index = indexOfLine(longest.first_line);
-    longest.last = indexOrEnd(longest.last_line);
-  }
+  for (const upload of model.uploads) connectSpan(upload, upload.first_line, upload.last_line);
+  for (const { longest } of model.gaps) connectSpan(longest, longest.first_line, longest.last_line);
   for (const second of model.seconds) {
     const entry = model.entries[lastWhere(model.entries, each => each.most < second.start) + 1];
     second.from = second.start + (entry ? entry.at - entry.most : 0);

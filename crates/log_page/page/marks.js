@@ -38,8 +38,7 @@ const ourMessage = difference => difference.ours === null ? 'none' : difference.
 const recordedMessage = difference => difference.recorded === null ? 'none' : difference.recorded_words ?? difference.recorded;
 
 function wordsOfDifference(difference) {
-  const line = difference.line ?? difference.recorded_line;
-  return `line ${line}: ${difference.name ?? `function ${difference.function}`}: this terminal ${ourMessage(difference)}, `
+  return `line ${difference.anchor}: ${difference.name ?? `function ${difference.function}`}: this terminal ${ourMessage(difference)}, `
     + `recorded ${recordedMessage(difference)}`;
 }
 
@@ -61,12 +60,13 @@ function point(lane, look, index, text) {
 
 function marksOf() {
   const operator = model.entries.filter(entry => entry.kind === 'operator');
-  const gaps = model.gaps.map(gap => ({ lane: 'gaps', shape: 'gap', look: 'warn', from: atOfIndex(gap.longest.index),
+  const isHere = each => each.isHere, differences = model.differences.filter(isHere);
+  const gaps = model.gaps.filter(gap => gap.longest.isHere).map(gap => ({ lane: 'gaps', shape: 'gap', look: 'warn', from: atOfIndex(gap.longest.index),
     to: atOfIndex(gap.longest.last), index: gap.longest.index, text: wordsOfGap(gap) }));
   return [
-    ...model.uploads.map(uploadMark),
+    ...model.uploads.filter(isHere).map(uploadMark),
     ...operator.map(entry => point('operator', 'act', entry.index, `line ${entry.line}: ${entry.words}`)),
-    ...model.differences.map(difference => point('differences', 'bad', difference.index, wordsOfDifference(difference))),
+    ...differences.map(difference => point('differences', 'bad', difference.index, wordsOfDifference(difference))),
     ...gaps,
   ];
 }

@@ -68,14 +68,14 @@ function differenceRows(difference) {
   ];
 }
 
-const isRefusal = ({ words }) => words.includes(': refused');
+const isRefusal = ({ words, refusal = null }) => refusal !== null || words.includes(': refused');
 
 function detailsOf(entry) {
   return [
     ...entry.words.length > trace.columns + INDENT - LINE_INDENT ? [['more', entry.words]] : [],
     ...entry.frame ? [['bytes', entry.frame]] : [],
     ...entry.outputs.map(output => [isRefusal(output) ? 'output refused' : 'output',
-      [output.frame, output.words].filter(part => part).join('  ')]),
+      [output.frame ?? `operator: refused ${output.refusal ?? ''}`, output.words].join('  ')]),
     ...entry.removed.map(text => ['removed', `- ${text}`]),
     ...entry.added.map(text => ['added', `+ ${text}`]),
   ];

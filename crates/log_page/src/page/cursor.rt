@@ -28,8 +28,8 @@ function step(indices, direction, what) {
 
 const rising = list => [...new Set(list)].sort((one, other) => one - other);
 const screenIndices = rising(model.screens.map(screen => screen.index));
-const differenceIndices = rising(model.differences.map(difference => difference.index));
-const gapIndices = rising(model.gaps.map(gap => gap.longest.index));
+const differenceIndices = rising(model.differences.filter(difference => difference.isHere).map(difference => difference.index));
+const gapIndices = rising(model.gaps.filter(gap => gap.longest.isHere).map(gap => gap.longest.index));
 
 // The screens do not begin again: the first and the last one are ends.
 function stepScreen(direction) {

@@ -25,7 +25,7 @@ function chip(count, what, look, lead) {
 // Opens the part of the first of some uploads, and moves there.
 function leadToUpload(uploads) {
   openTab('pools', $('pools-panel').children[model.uploads.indexOf(uploads[0])]);
-  if (uploads.length > 0) moveTo(Math.max(0, uploads[0].last));
+  if (uploads[0]?.isHere) moveTo(uploads[0].last);
 }
 
 function leadToDifferences() {
@@ -41,7 +41,7 @@ function showChips() {
       : chip(model.differences.length, 'difference', 'bad', leadToDifferences),
     chip(refused.length, 'refused pool', 'bad', () => leadToUpload(refused)),
     chip(broken.length, 'broken transfer', 'warn', () => leadToUpload(broken)),
-    chip(count, 'gap', 'warn', () => { openTab('numbers', $('gaps')); if (count > 0) moveTo(gapIndices[0]); }),
+    chip(count, 'gap', 'warn', () => { openTab('numbers', $('gaps')); if (gapIndices.length > 0) moveTo(gapIndices[0]); }),
   );
 }
 
@@ -54,8 +54,10 @@ function wordsOfSpan() {
 }
 
 function showHeader() {
-  $('log').textContent = $('log').title = model.about.log;
-  document.title = `${model.about.log}: report`;
+  const name = model.about.log === '-' ? 'standard input' : model.about.log.split('/').pop();
+  $('log').textContent = name;
+  $('log').title = model.about.log;
+  document.title = `${name}: report`;
   $('span').textContent = wordsOfSpan();
   $('made-by').textContent = `Made by segyolant_log ${model.about.version ?? ''}`;
   showChips();

@@ -67,8 +67,7 @@ function wordsOfSet(set) {
 
 function gapItem(gap) {
   const item = make('p', { className: 'sentence', textContent: wordsOfGap(gap) });
-  leadTo(item, gap.longest.index);
-  return item;
+  return leadIfHere(item, gap.longest.isHere, gap.longest.index);
 }
 
 function functionRows(group) {

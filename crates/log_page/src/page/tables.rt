@@ -5,6 +5,7 @@ pub(crate) const TEXT: &str =
     "// The tables below the screen: the differences, and the pools with their findings.
 
 const MOST_ROWS = 2000;  // of a table; what is more is counted
+const NOT_HERE = ' (not among the lines of this page)';
 const SEVERITIES = ['error', 'warning', 'note'];
 
 const sentence = (text, className = 'sentence') => make('p', { className, textContent: text });
@@ -23,7 +24,12 @@ function tableRow({ cells, index = null }) {
   return row;
 }
 
-// A click on an element, or Enter in it, moves the cursor to a line.
+// A click on what is told of some lines, or Enter in it, moves the cursor to one of them, if they are in the page.
+function leadIfHere(element, isHere, index) {
+  if (isHere) leadTo(element, index); else element.append(NOT_HERE);
+  return element;
+}
+
 function leadTo(element, index) {
   element.classList.add('leads');
   element.dataset.index = index;
@@ -46,8 +52,8 @@ const messageCell = (words, bytes) => make('div', {}, make('span', { textContent
 function differenceRow(difference) {
   const { destination, object, name, function: code } = difference;
   const about = object === null ? '' : `, ${objectName(destination, object) ?? `object ${object}`}`;
-  return { index: difference.index, cells: [
-    String(difference.line ?? difference.recorded_line), `${seconds(timeOfIndex(difference.index))} s`,
+  return { index: difference.isHere ? difference.index : null, cells: [
+    String(difference.anchor), `${seconds(difference.time)} s`,
     wordsOfAddress(destination), `${name ?? `function ${code}`}${about}`,
     messageCell(ourMessage(difference), difference.ours), messageCell(recordedMessage(difference), difference.recorded),
     ...difference.why ? [difference.why] : [],
@@ -92,8 +98,7 @@ function findingsOf(findings) {
 
 function showUpload(upload) {
   const title = make('h3', { className: lookOfUpload(upload), textContent: wordsOfUpload(upload) });
-  leadTo(title, Math.max(0, upload.last));
-  return make('article', {}, title, ...findingsOf(upload.findings));
+  return make('article', {}, leadIfHere(title, upload.isHere, upload.last), ...findingsOf(upload.findings));
 }
 
 const pools = model.uploads.filter(upload => ['pool', 'update', 'unended'].includes(upload.kind));
