@@ -2,10 +2,10 @@
 
 use crate::entries::Entry;
 use crate::outcome::Outcome;
-use crate::report::{Form, put_differences, put_outcome};
+use crate::report::{put_differences, put_outcome};
 use crate::{Blessed, bless, differences};
 use log_replay::{LoadedSet, Log, new_terminal, tell_loss};
-use log_words::TerminalOptions;
+use log_words::{Format, TerminalOptions};
 use std::alloc::Global;
 use std::io::{self, Error, ErrorKind, Write};
 use vt_cli::{Open, Program, Save, overwrite_file};
@@ -21,7 +21,7 @@ const MOST_BYTES: usize = 1 << 40;
 pub(crate) struct Bench<'a> {
     pub alloc: Global,
     /// The form of the report.
-    pub form: Form,
+    pub format: Format,
     /// Whether each log is written anew.
     pub blesses: bool,
     /// The terminal that replays the logs.
@@ -40,7 +40,7 @@ impl Bench<'_> {
         errors: &mut E,
     ) -> io::Result<Outcome> {
         let outcome = self.judge(entry, files, out, errors)?;
-        put_outcome(self.alloc, self.form, &entry.path, outcome, out)?;
+        put_outcome(self.alloc, self.format, &entry.path, outcome, out)?;
         Ok(outcome)
     }
 
@@ -85,7 +85,7 @@ impl Bench<'_> {
             Ok(differences) => differences,
             Err(fault) => return not_replayed(path, fault, files, errors),
         };
-        put_differences(self.alloc, self.form, path, &differences, out)?;
+        put_differences(self.alloc, self.format, path, &differences, out)?;
         self.tell_loss(path, &terminal, files, errors);
         let outcome = Outcome::of(&differences);
         if outcome != Outcome::Met {

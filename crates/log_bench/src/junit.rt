@@ -48,8 +48,8 @@ impl JUnit {
         let outcome = bench.run(entry, files, &mut text, &mut told);
         let _ = errors.write_all(&told);
         let outcome = outcome?;
-        // Each log that is not judged has a reason, unless memory was refused for it.
-        if outcome == Outcome::NotJudged && told.is_empty() {
+        // Each log that is not judged has a reason, which ends with a newline unless memory was refused for it.
+        if outcome == Outcome::NotJudged && !told.ends_with(b"\n") {
             return Err(Error::from(ErrorKind::OutOfMemory));
         }
         self.put_case(entry.path.as_str(), outcome, &text, &told)?;

@@ -3,34 +3,26 @@
 use crate::LineDifference;
 use crate::expectation::line_fits;
 use crate::outcome::Outcome;
+use log_words::Format;
 use serde_json::Value;
 use std::alloc::{AllocError, Global};
 use std::fmt;
 use std::io::{self, Write};
 use vt_cli::JsonLine;
 
-/// The form of a report.
-#[derive(Clone, Copy, PartialEq, Eq)]
-pub(crate) enum Form {
-    /// Lines for people.
-    Text,
-    /// Lines of JSON.
-    Json,
-}
-
 /// Writes each line of a log that differs.
 pub(crate) fn put_differences<W: Write>(
     alloc: Global,
-    form: Form,
+    format: Format,
     path: &str,
     differences: &[LineDifference],
     out: &mut W,
 ) -> io::Result<()> {
     for difference in differences {
         let changed = Changed::of(alloc, difference)?;
-        match form {
-            Form::Text => put_difference(path, difference.line, &changed, out)?,
-            Form::Json => difference_line(alloc, path, difference.line, &changed)?.write(out)?,
+        match format {
+            Format::Text => put_difference(path, difference.line, &changed, out)?,
+            Format::Json => difference_line(alloc, path, difference.line, &changed)?.write(out)?,
         }
     }
     Ok(())
@@ -39,16 +31,16 @@ pub(crate) fn put_differences<W: Write>(
 /// Writes what became of a log. For people nothing is written of one that is not judged: the error output says why.
 pub(crate) fn put_outcome<W: Write>(
     alloc: Global,
-    form: Form,
+    format: Format,
     path: &str,
     outcome: Outcome,
     out: &mut W,
 ) -> io::Result<()> {
-    match (form, outcome) {
-        (Form::Json, _) => outcome_line(alloc, path, outcome)?.write(out),
-        (Form::Text, Outcome::NotJudged) => Ok(()),
-        (Form::Text, Outcome::Differs(count)) => writeln!(out, "{path}: {}", Differing { count }),
-        (Form::Text, _) => writeln!(out, "{path}: {}", outcome.word()),
+    match (format, outcome) {
+        (Format::Json, _) => outcome_line(alloc, path, outcome)?.write(out),
+        (Format::Text, Outcome::NotJudged) => Ok(()),
+        (Format::Text, Outcome::Differs(count)) => writeln!(out, "{path}: {}", Differing { count }),
+        (Format::Text, _) => writeln!(out, "{path}: {}", outcome.word()),
     }
 }
 
@@ -77,8 +69,8 @@ fn put_difference<W: Write>(
         0 => writeln!(out, "{path}: the first screen differs")?,
         line => writeln!(out, "{path}:{line}: prints something else than is expected")?,
     }
-    put_marked(b"  - ", changed.expected(), out)?;
-    put_marked(b"  + ", changed.printed(), out)
+    put_marked(b"  - ", &changed.expected, out)?;
+    put_marked(b"  + ", &changed.printed, out)
 }
 
 /// Writes lines, each behind a mark.
@@ -101,8 +93,8 @@ fn difference_line(
     json.put_text("kind", "difference")?;
     json.put_text("log", path)?;
     json.put_number("line", line)?;
-    json.put("expected", texts_in(alloc, changed.expected())?)?;
-    json.put("printed", texts_in(alloc, changed.printed())?)?;
+    json.put("expected", texts_in(alloc, &changed.expected)?)?;
+    json.put("printed", texts_in(alloc, &changed.printed)?)?;
     Ok(json)
 }
 
@@ -126,15 +118,11 @@ fn outcome_line(alloc: Global, path: &str, outcome: Outcome) -> Result<JsonLine,
     Ok(json)
 }
 
-/// The lines of an expected text and of a printed one.
+/// The lines of an expected text and of a printed one, each with its newline, without those at the front and at the end that fit.
 #[derive(Drop)]
 struct Changed<'a> {
     expected: Vec<&'a [u8]>,
     printed: Vec<&'a [u8]>,
-    /// How many lines at the front of both fit.
-    front: usize,
-    /// How many behind them fit at the end of both.
-    back: usize,
 }
 
 impl<'a> Changed<'a> {
@@ -153,21 +141,9 @@ impl<'a> Changed<'a> {
         let fitting = triples.take_while(|((line, wild), other)| line_fits(line, **wild, other));
         let back = fitting.count();
         Ok(Changed {
-            expected,
-            printed,
-            front,
-            back,
+            expected: middle(alloc, &expected, front, back)?,
+            printed: middle(alloc, &printed, front, back)?,
         })
-    }
-
-    /// The expected lines, without those at the front and at the end that the printed ones fit.
-    fn expected(&self) -> &[&'a [u8]] {
-        middle(&self.expected, self.front, self.back)
-    }
-
-    /// The printed lines, without those that fit these.
-    fn printed(&self) -> &[&'a [u8]] {
-        middle(&self.printed, self.front, self.back)
     }
 }
 
@@ -176,8 +152,13 @@ fn lines_in(alloc: Global, text: &[u8]) -> Result<Vec<&[u8]>, AllocError> {
     text.split_inclusive(|byte| *byte == b'\n').collect(alloc)
 }
 
-/// Lines without the first and the last ones.
-fn middle<'a, 'b>(lines: &'b [&'a [u8]], front: usize, back: usize) -> &'b [&'a [u8]] {
+/// Lines without some at the front and at the end.
+fn middle<'a>(
+    alloc: Global,
+    lines: &[&'a [u8]],
+    front: usize,
+    back: usize,
+) -> Result<Vec<&'a [u8]>, AllocError> {
     let end = lines.len().saturating_sub(back);
-    lines.get(front..end).unwrap_or(&[])
+    Vec::from_slice(alloc, lines.get(front..end).unwrap_or(&[]))
 }

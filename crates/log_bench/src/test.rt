@@ -3,9 +3,8 @@
 use crate::bench::Bench;
 use crate::entries::{Entry, entries_at};
 use crate::junit::JUnit;
-use crate::report::Form;
 use log_replay::read_sets;
-use log_words::{TestFormat, TestOptions};
+use log_words::{Format, TestFormat, TestOptions};
 use std::alloc::Global;
 use std::io::{self, Write};
 use vt_cli::{List, Open, Save, Status};
@@ -26,9 +25,9 @@ pub fn run_test<F: Open + Save + List, W: Write, E: Write>(
     };
     let bench = Bench {
         alloc,
-        form: match options.format {
-            TestFormat::Json => Form::Json,
-            TestFormat::Text | TestFormat::JUnit => Form::Text,
+        format: match options.format {
+            TestFormat::Json => Format::Json,
+            TestFormat::Text | TestFormat::JUnit => Format::Text,
         },
         blesses: options.blesses,
         terminal: options.terminal,
