@@ -1,4 +1,4 @@
-use Rattle.std.proofs.Common.{◌∙◌, sym}
+use Rattle.std.proofs.Common.{sym}
 use Rattle.log_bench.proofs.KeptLines.{none-added, one-kept}
 use Rattle.log_bench.proofs.blessing.Blessed.put_expected.Goals as goal
 
