@@ -69,31 +69,18 @@ fn read_folder<F: Open, E: Write>(
     files: &mut F,
     errors: &mut E,
 ) -> io::Result<bool> {
+    let before = sets.len();
     let mut has_file = false;
-    let mut has_pool = false;
     for owner in 0..=LAST_ADDRESS {
         if owner == own || sets.iter().any(|set| set.owner == owner) {
             continue;
         }
-        let mut last = None;
-        for number in 1..MOST_FILES {
-            let path = format!(in alloc; "{folder}/{owner:02X}-{number}.iop")?;
-            if !is_there(path.as_str(), files) {
-                break;
-            }
-            let Some(bytes) = read_pool_file(alloc, path.as_str(), files, errors)? else {
-                return Ok(false);
-            };
-            has_file = true;
-            if let Some(pool) = accepted(alloc, &bytes)? {
-                last = Some(pool);
-            }
-        }
-        if let Some(pool) = last {
-            has_pool = true;
-            sets.push(LoadedSet { pool, owner })?;
+        match read_last(alloc, folder, owner, sets, files, errors)? {
+            Some(is_there) => has_file |= is_there,
+            None => return Ok(false),
         }
     }
+    let has_pool = sets.len() > before;
     if !has_pool {
         let what = if has_file {
             "a terminal refuses all pools there; segyolant check says why"
@@ -103,6 +90,37 @@ fn read_folder<F: Open, E: Write>(
         let _ = writeln!(errors, "{}: {folder}: {what}", files.name());
     }
     Ok(has_pool)
+}
+
+/// Reads the files of an address in a folder, and appends the set with the last pool that a terminal accepts. Returns whether there is a
+/// file. `None` if one cannot be read: then `errors` receives the reason.
+fn read_last<F: Open, E: Write>(
+    alloc: Global,
+    folder: &str,
+    owner: u8,
+    sets: &mut Vec<LoadedSet>,
+    files: &mut F,
+    errors: &mut E,
+) -> io::Result<Option<bool>> {
+    let mut has_file = false;
+    let mut last = None;
+    for number in 1..MOST_FILES {
+        let path = format!(in alloc; "{folder}/{owner:02X}-{number}.iop")?;
+        if !is_there(path.as_str(), files) {
+            break;
+        }
+        has_file = true;
+        let Some(bytes) = read_pool_file(alloc, path.as_str(), files, errors)? else {
+            return Ok(None);
+        };
+        if let Some(pool) = accepted(alloc, &bytes)? {
+            last = Some(pool);
+        }
+    }
+    if let Some(pool) = last {
+        sets.push(LoadedSet { pool, owner })?;
+    }
+    Ok(Some(has_file))
 }
 
 /// Whether there is a file at a path, even if it cannot be read.
