@@ -2,7 +2,7 @@
 """Runs the tests that are data: run_tests.py [--only WORD] [--bless] [--functions] [--programs PATTERN] [FILE ...]
 
 Below tests/, a log `*.log` says behind `#<` what the terminal prints, and a session `*.run` has command lines with what they print, say
-and write (docs/TESTING.md). Without FILE all are run, and those of scripts/testing/faults.py, consoles.py, limits.py and pipes.py, by the quick builds unless PATTERN says where the programs are, as
+and write (docs/TESTING.md). Without FILE all are run, and those of scripts/testing/faults.py, consoles.py, limits.py, outputs.py and pipes.py, by the quick builds unless PATTERN says where the programs are, as
 'crates/{}/out/{}'. Each test that fails is shown with its file and line, what was expected behind `-` and what came behind `+`. --bless
 writes what came into the files, to be read before it is kept. --functions runs the tests that are functions as well, by the toolchain's
 quick build. The last line is 'N passed, N failed'.
@@ -19,7 +19,7 @@ TOP = os.path.dirname(os.path.dirname(os.path.abspath(__file__)))
 sys.path.insert(0, f'{TOP}/scripts')
 
 import quick  # noqa: E402
-from testing import consoles, faults, functions, limits, logs, pipes, sessions  # noqa: E402
+from testing import consoles, faults, functions, limits, logs, outputs, pipes, sessions  # noqa: E402
 
 
 def tests_below(folder):
@@ -132,7 +132,7 @@ def main():
         programs = programs_at(options.programs)
         passed, failed = run_data(tests, programs, options.only, options.bless)
         if not options.files and not options.bless:
-            for module in (faults, consoles, limits, pipes):
+            for module in (faults, consoles, limits, outputs, pipes):
                 more = count(module.results(TOP, programs, options.only))
                 passed, failed = passed + more[0], failed + more[1]
         if later is not None:
