@@ -542,6 +542,7 @@ class Others(WithPage):
         self.press('d')
         self.script('moveTo(model.entries.length - 1)')
         self.assertEqual(self.text('#nothing'), 'There is no picture of this screen.')
+        self.assertTrue(self.text('#since').endswith('(10 of 10, later ones are left out)'))
 
     def test_a_long_log(self):
         from selenium.webdriver.common.keys import Keys

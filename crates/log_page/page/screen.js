@@ -13,7 +13,8 @@ function wordsOfScreen(screen) {
 function sinceWhen(screen) {
   if (screen === null) return '';
   const place = screen.line === 0 ? 'from the start on' : `since line ${screen.line}, ${seconds(timeOfIndex(screen.index))} s`;
-  return `${place} (${model.screens.indexOf(screen) + 1} of ${model.screens.length})`;
+  const isLast = screen === model.screens.at(-1), more = isLast && model.about.screens_left_out > 0 ? ', later ones are left out' : '';
+  return `${place} (${model.screens.indexOf(screen) + 1} of ${model.screens.length}${more})`;
 }
 
 // A picture is an image of its own, by a data: URL: nothing in it can reach the page.

@@ -65,8 +65,8 @@ function point(lane, look, index, text) {
 function marksOf() {
   const operator = model.entries.filter(entry => entry.kind === 'operator');
   const isHere = each => each.isHere, differences = model.differences.filter(isHere);
-  const gaps = model.gaps.filter(gap => gap.longest.isHere).map(gap => ({ lane: 'gaps', shape: 'gap', look: 'warn', from: atOfIndex(gap.longest.index),
-    to: atOfIndex(gap.longest.last), index: gap.longest.index, text: wordsOfGap(gap) }));
+  const gaps = model.gaps.filter(gap => gap.longest.isHere).map(gap => ({ lane: 'gaps', shape: 'gap', look: 'warn',
+    from: atOfIndex(gap.longest.index), to: atOfIndex(gap.longest.last), index: gap.longest.index, text: wordsOfGap(gap) }));
   return [
     ...model.uploads.filter(isHere).map(uploadMark),
     ...operator.map(entry => point('operator', 'act', entry.index, `line ${entry.line}: ${entry.words}`)),
