@@ -1,6 +1,6 @@
 use Rattle.std.proofs.Common.{rules, ◌≡◌, [], length, MatchOption, subst}
 use Rattle.log_stats.specs.Seconds.{IsFirstMost}
-use Rattle.log_stats.proofs.Seconds.{most_more, told_busiest, told_all}
+use Rattle.log_stats.proofs.BusiestSecond.{most_more, told_busiest, told_all}
 use Rattle.log_stats.proofs.busy_seconds.BusySeconds.busiest.Goals as goal
 
 pub loop-second-preserved : goal.loop-second-preserved
