@@ -3,7 +3,7 @@
 use log_words::{StartOptions, TerminalOptions};
 use std::alloc::Global;
 use std::io::{self, Error, ErrorKind, Write};
-use vt_cli::{Open, read_pool_file};
+use vt_cli::{Open, StartSet, read_pool_file};
 use vt_judge::judge;
 use vt_names::{Name, TERMINAL_NAME};
 use vt_server::Terminal;
@@ -35,20 +35,9 @@ pub fn read_sets<F: Open, E: Write>(
 ) -> io::Result<Option<Vec<LoadedSet>>> {
     let mut sets = Vec::new(alloc);
     for set in options.sets.iter() {
-        let Some(bytes) = read_pool_file(alloc, set.pool, files, errors)? else {
+        if !read_given(alloc, *set, &mut sets, files, errors)? {
             return Ok(None);
-        };
-        let Some(pool) = accepted(alloc, &bytes)? else {
-            let _ = writeln!(
-                errors,
-                "{}: {}: a terminal refuses this pool; segyolant check says why",
-                files.name(),
-                set.pool
-            );
-            return Ok(None);
-        };
-        let owner = set.owner;
-        sets.push(LoadedSet { pool, owner })?;
+        }
     }
     if let Some(folder) = options.folder {
         let folder = folder.trim_end_matches('/');
@@ -57,6 +46,30 @@ pub fn read_sets<F: Open, E: Write>(
         }
     }
     Ok(Some(sets))
+}
+
+/// Reads the pool of a set and appends it. Returns whether it could be read and is accepted; if not, `errors` receives the reason.
+fn read_given<F: Open, E: Write>(
+    alloc: Global,
+    set: StartSet<'_>,
+    sets: &mut Vec<LoadedSet>,
+    files: &mut F,
+    errors: &mut E,
+) -> io::Result<bool> {
+    let StartSet { pool: path, owner } = set;
+    let Some(bytes) = read_pool_file(alloc, path, files, errors)? else {
+        return Ok(false);
+    };
+    let Some(pool) = accepted(alloc, &bytes)? else {
+        let _ = writeln!(
+            errors,
+            "{}: {path}: a terminal refuses this pool; segyolant check says why",
+            files.name()
+        );
+        return Ok(false);
+    };
+    sets.push(LoadedSet { pool, owner })?;
+    Ok(true)
 }
 
 /// Reads the pools in a folder: of each address `AA`, except `own` and those that have a set, the last file `AA-1.iop`, `AA-2.iop` and so
@@ -102,25 +115,58 @@ fn read_last<F: Open, E: Write>(
     files: &mut F,
     errors: &mut E,
 ) -> io::Result<Option<bool>> {
-    let mut has_file = false;
-    let mut last = None;
+    let mut read = 0;
     for number in 1..MOST_FILES {
-        let path = format!(in alloc; "{folder}/{owner:02X}-{number}.iop")?;
-        if !is_there(path.as_str(), files) {
-            break;
+        match file_of(alloc, folder, owner, number, files, errors)? {
+            NumberedFile::Missing => break,
+            NumberedFile::Unreadable => return Ok(None),
+            NumberedFile::Bytes(bytes) => put_last(alloc, &bytes, owner, sets)?,
         }
-        has_file = true;
-        let Some(bytes) = read_pool_file(alloc, path.as_str(), files, errors)? else {
-            return Ok(None);
-        };
-        if let Some(pool) = accepted(alloc, &bytes)? {
-            last = Some(pool);
-        }
+        read = number;
     }
-    if let Some(pool) = last {
-        sets.push(LoadedSet { pool, owner })?;
+    Ok(Some(read > 0))
+}
+
+/// A file in a folder of pools.
+#[derive(Drop)]
+enum NumberedFile {
+    /// There is none.
+    Missing,
+    /// It cannot be read.
+    Unreadable,
+    /// Its bytes.
+    Bytes(Vec<u8>),
+}
+
+/// Reads the file of an address with a number. If it cannot be read, `errors` receives the reason.
+fn file_of<F: Open, E: Write>(
+    alloc: Global,
+    folder: &str,
+    owner: u8,
+    number: u32,
+    files: &mut F,
+    errors: &mut E,
+) -> io::Result<NumberedFile> {
+    let path = format!(in alloc; "{folder}/{owner:02X}-{number}.iop")?;
+    if !is_there(path.as_str(), files) {
+        return Ok(NumberedFile::Missing);
     }
-    Ok(Some(has_file))
+    Ok(match read_pool_file(alloc, path.as_str(), files, errors)? {
+        Some(bytes) => NumberedFile::Bytes(bytes),
+        None => NumberedFile::Unreadable,
+    })
+}
+
+/// Appends the set of a pool, if a terminal accepts it, in place of the one at its address.
+fn put_last(alloc: Global, bytes: &[u8], owner: u8, sets: &mut Vec<LoadedSet>) -> io::Result<()> {
+    let Some(pool) = accepted(alloc, bytes)? else {
+        return Ok(());
+    };
+    if sets.last().is_some_and(|set| set.owner == owner) {
+        let _ = sets.pop();
+    }
+    sets.push(LoadedSet { pool, owner })?;
+    Ok(())
 }
 
 /// Whether there is a file at a path, even if it cannot be read.
@@ -153,14 +199,20 @@ pub fn new_terminal(
     }
     let name = options.name.or(name).unwrap_or(TERMINAL_NAME);
     let mut terminal = Terminal::new(alloc, own, Name::from_raw(name));
-    for LoadedSet { pool, owner } in sets {
-        let owner = *owner;
-        if owner > LAST_ADDRESS || owner == own {
-            return Err(Error::from(ErrorKind::InvalidInput));
-        }
-        if terminal.preload(owner, pool).is_err() {
-            return Err(Error::from(ErrorKind::OutOfMemory));
-        }
+    for set in sets {
+        preload(&mut terminal, set)?;
     }
     Ok(terminal)
+}
+
+/// Gives a set to a terminal. An error is returned if the terminal has one at its address, or is there itself, or memory is refused.
+fn preload(terminal: &mut Terminal, set: &LoadedSet) -> io::Result<()> {
+    let owner = set.owner;
+    if owner > LAST_ADDRESS || owner == terminal.own() || terminal.registered(owner) {
+        return Err(Error::from(ErrorKind::InvalidInput));
+    }
+    match terminal.preload(owner, &set.pool) {
+        Ok(()) => Ok(()),
+        Err(_) => Err(Error::from(ErrorKind::OutOfMemory)),
+    }
 }
