@@ -9,6 +9,12 @@ use std::alloc::Global;
 use std::io::{self, Error, ErrorKind, Write};
 use vt_cli::{Open, Save, Status};
 
+/// The front of a document.
+const FRONT: &[u8] = b"<?xml version=\"1.0\" encoding=\"UTF-8\"?>\n<testsuites>\n";
+
+/// The end of a document.
+const END: &[u8] = b"  </testsuite>\n</testsuites>\n";
+
 /// A report in the XML of JUnit. It is written when all logs are judged, because it begins with their number.
 #[derive(Drop)]
 pub(crate) struct JUnit {
@@ -104,16 +110,14 @@ impl JUnit {
 
     /// Writes the document.
     pub(crate) fn write<W: Write>(&self, out: &mut W) -> io::Result<()> {
-        writeln!(out, "<?xml version=\"1.0\" encoding=\"UTF-8\"?>")?;
-        writeln!(out, "<testsuites>")?;
+        out.write_all(FRONT)?;
         writeln!(
             out,
             "  <testsuite name=\"segyolant_log test\" tests=\"{}\" failures=\"{}\" errors=\"{}\">",
             self.count, self.failures, self.errors
         )?;
         out.write_all(&self.cases)?;
-        writeln!(out, "  </testsuite>")?;
-        writeln!(out, "</testsuites>")
+        out.write_all(END)
     }
 }
 

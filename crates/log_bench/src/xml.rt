@@ -3,7 +3,7 @@
 use std::fmt::{self, Write};
 
 /// What stands for a character that XML 1.0 forbids.
-const FORBIDDEN: char = '\u{FFFD}';
+const FORBIDDEN: &str = "\u{FFFD}";
 
 /// A text as the value of an attribute, without its quotes.
 pub(crate) fn attribute_of(text: &str) -> Escaped<'_> {
@@ -29,20 +29,30 @@ pub(crate) struct Escaped<'a> {
     is_attribute: bool,
 }
 
+impl Escaped<'_> {
+    /// What is written for a character. `None` for the character itself.
+    fn escape_of(&self, letter: char) -> Option<&'static str> {
+        match letter {
+            '&' => Some("&amp;"),
+            '<' => Some("&lt;"),
+            '>' => Some("&gt;"),
+            '"' => Some("&quot;"),
+            '\r' => Some("&#13;"),
+            '\n' if self.is_attribute => Some("&#10;"),
+            '\t' if self.is_attribute => Some("&#9;"),
+            '\n' | '\t' => None,
+            '\0'..='\u{1F}' | '\u{FFFE}' | '\u{FFFF}' => Some(FORBIDDEN),
+            _ => None,
+        }
+    }
+}
+
 impl fmt::Display for Escaped<'_> {
     fn fmt<W: fmt::Write>(&self, f: &mut fmt::Formatter<W>) -> fmt::Result {
         for letter in self.text.chars() {
-            match letter {
-                '&' => f.write_str("&amp;")?,
-                '<' => f.write_str("&lt;")?,
-                '>' => f.write_str("&gt;")?,
-                '"' => f.write_str("&quot;")?,
-                '\r' => f.write_str("&#13;")?,
-                '\n' if self.is_attribute => f.write_str("&#10;")?,
-                '\t' if self.is_attribute => f.write_str("&#9;")?,
-                '\n' | '\t' => f.write_char(letter)?,
-                '\0'..='\u{1F}' | '\u{FFFE}' | '\u{FFFF}' => f.write_char(FORBIDDEN)?,
-                _ => f.write_char(letter)?,
+            match self.escape_of(letter) {
+                Some(escape) => f.write_str(escape)?,
+                None => f.write_char(letter)?,
             }
         }
         Ok(())
