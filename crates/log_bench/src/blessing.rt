@@ -12,8 +12,8 @@ use vt_server::Terminal;
 /// The highest number of lines before a line whose fault is reported.
 const MOST_LINES: u64 = 1 << 62;
 
-/// Returns a log with the expectations that it meets, in place of those that it had. Those of a line that it meets already stay. It fails if memory is refused or a line has more
-/// than 4,096 bytes; then the terminal has processed the lines before it.
+/// Returns a log with the expectations that it meets, in place of those that it had. Those of a line that are met already stay. It fails
+/// if memory is refused or a line has more than 4,096 bytes; then the terminal has processed the lines before it.
 pub fn bless(alloc: Global, log: &[u8], terminal: &mut Terminal) -> Result<Blessed, ReplayFault>
     // No other line is changed.
     ensures { IfOk result (λ blessed. without_expectations (lines_of blessed.text.items) ≡ without_expectations (lines_of log.now)) }
