@@ -22,7 +22,7 @@ impl Telling<'_> {
         if self.format == Format::Text {
             return writeln!(
                 out,
-                "line {line}: {source:02X} {request}; if the recorded terminal had it, it is not in this log: give it by --pool FILE --owner {source:02X}"
+                "line {line}: {source:02X} {request}; if the recorded terminal had it, it is not in this log: give it by --pool FILE@{source:02X}"
             );
         }
         let mut object = JsonLine::new(self.alloc);

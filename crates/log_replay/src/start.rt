@@ -1,7 +1,7 @@
 //! The terminal that replays a log, before its first line.
 
 use log_words::{StartOptions, TerminalOptions};
-use std::alloc::Global;
+use std::alloc::{AllocError, Global};
 use std::io::{self, Error, ErrorKind, Write};
 use vt_cli::{Open, StartSet, read_pool_file};
 use vt_judge::judge;
@@ -73,7 +73,8 @@ fn read_given<F: Open, E: Write>(
 }
 
 /// Reads the pools in a folder: of each address `AA`, except `own` and those that have a set, the last file `AA-1.iop`, `AA-2.iop` and so
-/// on that a terminal accepts. Returns whether there is one, and whether all files could be read; if not, `errors` receives the reason.
+/// on that a terminal accepts. Returns whether there is one, or one of an address that has a set, and all files could be read; if not,
+/// `errors` receives the reason.
 fn read_folder<F: Open, E: Write>(
     alloc: Global,
     folder: &str,
@@ -84,8 +85,13 @@ fn read_folder<F: Open, E: Write>(
 ) -> io::Result<bool> {
     let before = sets.len();
     let mut has_file = false;
+    let mut has_given = false;
     for owner in 0..=LAST_ADDRESS {
-        if owner == own || sets.iter().any(|set| set.owner == owner) {
+        if owner == own {
+            continue;
+        }
+        if sets.iter().any(|set| set.owner == owner) {
+            has_given |= has_first(alloc, folder, owner, files)?;
             continue;
         }
         match read_last(alloc, folder, owner, sets, files, errors)? {
@@ -93,7 +99,7 @@ fn read_folder<F: Open, E: Write>(
             None => return Ok(false),
         }
     }
-    let has_pool = sets.len() > before;
+    let has_pool = has_given || sets.len() > before;
     if !has_pool {
         let what = if has_file {
             "a terminal refuses all pools there; segyolant check says why"
@@ -120,7 +126,15 @@ fn read_last<F: Open, E: Write>(
         match file_of(alloc, folder, owner, number, files, errors)? {
             NumberedFile::Missing => break,
             NumberedFile::Unreadable => return Ok(None),
-            NumberedFile::Bytes(bytes) => put_last(alloc, &bytes, owner, sets)?,
+            NumberedFile::Bytes(bytes) => {
+                if !put_last(alloc, &bytes, owner, sets)? {
+                    let _ = writeln!(
+                        errors,
+                        "{}: {folder}/{owner:02X}-{number}.iop: left out, as a terminal refuses it without the objects of another file",
+                        files.name()
+                    );
+                }
+            }
         }
         read = number;
     }
@@ -157,16 +171,27 @@ fn file_of<F: Open, E: Write>(
     })
 }
 
-/// Appends the set of a pool, if a terminal accepts it, in place of the one at its address.
-fn put_last(alloc: Global, bytes: &[u8], owner: u8, sets: &mut Vec<LoadedSet>) -> io::Result<()> {
+/// Appends the set of a pool in place of the one at its address, if a terminal accepts the pool. Returns whether it does.
+fn put_last(alloc: Global, bytes: &[u8], owner: u8, sets: &mut Vec<LoadedSet>) -> io::Result<bool> {
     let Some(pool) = accepted(alloc, bytes)? else {
-        return Ok(());
+        return Ok(false);
     };
     if sets.last().is_some_and(|set| set.owner == owner) {
         let _ = sets.pop();
     }
     sets.push(LoadedSet { pool, owner })?;
-    Ok(())
+    Ok(true)
+}
+
+/// Whether there is a file of an address in a folder.
+fn has_first<F: Open>(
+    alloc: Global,
+    folder: &str,
+    owner: u8,
+    files: &mut F,
+) -> Result<bool, AllocError> {
+    let path = format!(in alloc; "{folder}/{owner:02X}-1.iop")?;
+    Ok(is_there(path.as_str(), files))
 }
 
 /// Whether there is a file at a path, even if it cannot be read.

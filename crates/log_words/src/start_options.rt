@@ -3,7 +3,7 @@
 use crate::wrong_option::WrongOption;
 use clap::ArgMatches;
 use std::alloc::{AllocError, Global};
-use vt_cli::{StartSet, UsageError, address, all_of};
+use vt_cli::{StartSet, UsageError, all_of};
 
 /// The working sets that are there from the start of a log.
 #[derive(Drop)]
@@ -22,8 +22,17 @@ pub(crate) fn start_options<'a>(
 ) -> Result<StartOptions<'a>, UsageError<WrongOption<'a>>> {
     let owner = matches.get_str("owner");
     let mut sets = Vec::new(alloc);
+    let mut needs_owner = false;
     for value in all_of(alloc, matches, "pool")? {
-        let set = set_of(value, owner, own)?;
+        let set = match cut(value) {
+            Some((pool, behind)) => {
+                StartSet::new(pool, Some(behind), own).map_err(|_| WrongOption::PoolOwner(value))?
+            }
+            None => {
+                needs_owner = true;
+                StartSet::new(value, owner, own).map_err(WrongOption::Owner)?
+            }
+        };
         if sets
             .iter()
             .any(|other: &StartSet<'_>| other.owner == set.owner)
@@ -32,7 +41,7 @@ pub(crate) fn start_options<'a>(
         }
         sets.push(set).map_err(AllocError::from)?;
     }
-    if sets.is_empty() && owner.is_some() {
+    if owner.is_some() && !needs_owner {
         return Err(UsageError::Wrong(WrongOption::OwnerAlone));
     }
     Ok(StartOptions {
@@ -41,16 +50,12 @@ pub(crate) fn start_options<'a>(
     })
 }
 
-/// The working set that a value of `--pool` gives: `FILE@AA`, or `FILE` for the address of `--owner`.
-fn set_of<'a>(
-    value: &'a str,
-    owner: Option<&'a str>,
-    own: u8,
-) -> Result<StartSet<'a>, WrongOption<'a>> {
-    match value.rsplit_once('@') {
-        Some((pool, behind)) if address(behind).is_some() => {
-            StartSet::new(pool, Some(behind), own).map_err(|_| WrongOption::PoolOwner(value))
-        }
-        _ => StartSet::new(value, owner, own).map_err(WrongOption::Owner),
+/// The file and the address in a value `FILE@AA` of `--pool`. `None` if it has no address, or the standard input as its file.
+fn cut(value: &str) -> Option<(&str, &str)> {
+    let (pool, behind) = value.rsplit_once('@')?;
+    if behind.len() == 2 && pool != "-" {
+        Some((pool, behind))
+    } else {
+        None
     }
 }

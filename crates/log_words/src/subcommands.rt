@@ -48,7 +48,7 @@ lines that the log already has are left out. A log does not show which working s
 /// The text of help after the options of `test`.
 const AFTER_TEST: &str = "\
 A line #< TEXT is an expectation: the line before it must print TEXT when vt_replay replays the log. Other readers of logs see a comment.
-Expectations at the front are those of the first screen. In a line #<? TEXT each ? stands for one character.
+Expectations at the front are those of the first screen. In a line #<? TEXT each ? stands for one byte.
 
   (2.400000) can0 14E72680#A0640000FFFFFFFF
   #< 14E68026#A064000000FFFFFF

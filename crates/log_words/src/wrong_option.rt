@@ -26,11 +26,11 @@ pub enum WrongOption<'a> {
     Object(&'a str),
     /// The value of `--only` or `--ignore`, the first text, is no part of a topic.
     Topic(&'static str, &'a str),
-    /// Behind `@`, the value of `--pool` has the terminal's own address.
+    /// Behind `@`, the value of `--pool` has no address that a working set may have, or the terminal's own.
     PoolOwner(&'a str),
     /// The value of `--pool` gives the working set at an address that an earlier one gives.
     PoolTwice(&'a str),
-    /// `--owner` is given without a pool.
+    /// `--owner` is given without a pool that needs it.
     OwnerAlone,
     /// With `--bless`, a log is the standard input, which cannot be written anew.
     BlessedInput,
@@ -81,7 +81,7 @@ impl fmt::Display for WrongOption<'_> {
             ),
             WrongOption::PoolOwner(value) => write!(
                 f,
-                "--pool {value}: expected another address behind @, as this one is the terminal's own"
+                "--pool {value}: expected two hex digits up to FD behind @, such as my.iop@81, but not the terminal's own address"
             ),
             WrongOption::PoolTwice(value) => write!(
                 f,
@@ -89,7 +89,7 @@ impl fmt::Display for WrongOption<'_> {
             ),
             WrongOption::OwnerAlone => write!(
                 f,
-                "--owner is the address of the pool's working set, so both are needed, such as --pool my.iop --owner 81"
+                "--owner is the address of the working set of a pool without @, so both are needed, such as --pool my.iop --owner 81"
             ),
             WrongOption::BlessedInput => write!(
                 f,

@@ -109,10 +109,21 @@ impl fmt::Display for NameFields {
                 name.device_class()
             )?,
         }
+        write_instance(f, "function instance", name.function_instance())?;
+        write_instance(f, "ECU instance", name.ecu_instance())?;
+        write_instance(f, "class instance", name.device_class_instance())?;
         let manufacturer = name.manufacturer();
         let identity = name.identity();
         write!(f, "manufacturer {manufacturer}, identity {identity}")
     }
+}
+
+/// Writes an instance behind its name, unless it is the first one, which has the number 0.
+fn write_instance<W: fmt::Write>(f: &mut fmt::Formatter<W>, what: &str, number: u8) -> fmt::Result {
+    if number > 0 {
+        write!(f, "{what} {number}, ")?;
+    }
+    Ok(())
 }
 
 /// The industry of an industry group (ISO 11783-5). `None` if it is not assigned.

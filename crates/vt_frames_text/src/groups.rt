@@ -3,6 +3,10 @@
 use crate::addresses::ParameterGroup;
 use crate::shown::{HexByte, HexBytes, QuotedText};
 use std::fmt;
+use vt_can::assigned::GLOBAL_ADDRESS;
+
+/// The function of an acknowledgement that names none.
+const NO_FUNCTION: u8 = 0xFF;
 
 /// The parameter group of the language and the units of a terminal (ISO 11783-7).
 pub const LANGUAGE: u32 = 0xFE0F;
@@ -16,7 +20,7 @@ pub struct LanguageSentence<'a>(pub &'a [u8]);
 
 impl fmt::Display for LanguageSentence<'_> {
     fn fmt<W: fmt::Write>(&self, f: &mut fmt::Formatter<W>) -> fmt::Result {
-        let [first, second, numbers, date, units @ ..] = self.0 else {
+        let [first, second, numbers, date, units, more, rest @ ..] = self.0 else {
             return write!(f, "Language: {}", HexBytes(self.0));
         };
         let language = [*first, *second];
@@ -24,11 +28,21 @@ impl fmt::Display for LanguageSentence<'_> {
         let hours = hours(*numbers);
         write!(
             f,
-            "Language: {}, {point}, {hours}, date format {date}, units {}",
+            "Language: {}, {point}, {hours}, date format {date}, units {} {}",
             QuotedText(&language),
-            HexBytes(units)
-        )
+            HexByte(*units),
+            HexByte(*more)
+        )?;
+        write_country(f, rest)
     }
+}
+
+/// Writes the code of the country, if its two letters are given.
+fn write_country<W: fmt::Write>(f: &mut fmt::Formatter<W>, code: &[u8]) -> fmt::Result {
+    if code.len() == 2 && code.iter().all(u8::is_ascii_alphabetic) {
+        write!(f, ", country {}", QuotedText(code))?;
+    }
+    Ok(())
 }
 
 /// The decimal point, by the two highest bits of a byte.
@@ -55,7 +69,7 @@ pub struct AcknowledgementSentence<'a>(pub &'a [u8]);
 
 impl fmt::Display for AcknowledgementSentence<'_> {
     fn fmt<W: fmt::Write>(&self, f: &mut fmt::Formatter<W>) -> fmt::Result {
-        let [control, _, _, _, address, low, middle, high, ..] = self.0 else {
+        let [control, function, _, _, address, low, middle, high, ..] = self.0 else {
             return write!(f, "Acknowledgement: {}", HexBytes(self.0));
         };
         let group = ParameterGroup::in_bytes(&[*low, *middle, *high]);
@@ -67,10 +81,16 @@ impl fmt::Display for AcknowledgementSentence<'_> {
             3 => f.write_str("cannot respond")?,
             control => write!(f, "code {control}")?,
         }
-        write!(f, ", to {}, ", HexByte(*address))?;
-        match group.name() {
-            Some(name) => f.write_str(name),
-            None => write!(f, "{group}"),
+        if *address != GLOBAL_ADDRESS {
+            write!(f, ", to {}", HexByte(*address))?;
         }
+        match group.name() {
+            Some(name) => write!(f, ", {name}")?,
+            None => write!(f, ", {group}")?,
+        }
+        if *function != NO_FUNCTION {
+            write!(f, ", function {}", HexByte(*function))?;
+        }
+        Ok(())
     }
 }

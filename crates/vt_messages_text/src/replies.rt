@@ -155,6 +155,9 @@ fn write_versions<W: fmt::Write>(f: &mut fmt::Formatter<W>, bytes: &[u8]) -> fmt
     for label in labels.chunks_exact(LABEL).take(usize::from(count)) {
         write!(f, " {}", QuotedText(label))?;
     }
+    if labels.len() / LABEL < usize::from(count) {
+        f.write_str(", cut short")?;
+    }
     Ok(())
 }
 

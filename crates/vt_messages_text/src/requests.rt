@@ -5,12 +5,16 @@ use crate::objects::Objects;
 use byteorder::{ByteOrder, LittleEndian};
 use std::fmt;
 use vt_can::assigned::{END_OF_POOL, GET_FONTS, GET_HARDWARE, GET_MEMORY, GET_SOFT_KEYS, TRANSFER};
-use vt_commands::function::{BUTTON_ACTIVATION, NUMERIC_VALUE, SOFT_KEY_ACTIVATION, STRING_VALUE};
+use vt_commands::function::SOFT_KEY_ACTIVATION;
 use vt_commands::{Command, CommandRow};
 use vt_frames_text::{
     Count, DELETE_VERSION, GET_VERSIONS, HexBytes, LOAD_VERSION, MAINTENANCE, PlainMessage,
     QuotedText, STORE_VERSION,
 };
+
+/// The last function with which a terminal reports unasked what was done; the first is that of a soft key (ISO 11783-6). An implement
+/// answers such a message with its bytes.
+const LAST_ACTIVATION: u8 = 0x0A;
 
 /// A message of an implement to a terminal.
 #[derive(Clone, Copy, Drop)]
