@@ -57,10 +57,9 @@ impl RequestSentence<'_> {
             [STORE_VERSION, label @ ..] => write!(f, "Store Version: {}", QuotedText(label)),
             [LOAD_VERSION, label @ ..] => write!(f, "Load Version: {}", QuotedText(label)),
             [DELETE_VERSION, label @ ..] => write!(f, "Delete Version: {}", QuotedText(label)),
-            [
-                SOFT_KEY_ACTIVATION | BUTTON_ACTIVATION | NUMERIC_VALUE | STRING_VALUE,
-                ..
-            ] => write!(f, "answer to {}", PlainMessage(self.bytes)),
+            [SOFT_KEY_ACTIVATION..=LAST_ACTIVATION, ..] => {
+                write!(f, "answer to {}", PlainMessage(self.bytes))
+            }
             bytes => self.write_unread(f, bytes),
         }
     }
