@@ -7,9 +7,9 @@ import tempfile
 FIRST = b'(1.000000) can0 18EA2680#00EE00\n'
 SECOND = b'(2.000000) can0 18EA2680#00EE00\n'
 TRACED = ('1 1.000000 80 to 26: Request: Address Claimed\n'
-          '    18EEFF26#01000000001D0020  26 to all: Address Claimed: NAME 20001D0000000001\n')
+          '    18EEFF26#01000000001D0020  26 to all: Address Claimed: NAME 20001D0000000001 (agriculture, virtual terminal, manufacturer 0, identity 1)\n')
 RUNS = [(['trace', '-'], TRACED, '2 2.000000 80 to 26: Request: Address Claimed\n'
-         '    18EEFF26#01000000001D0020  26 to all: Address Claimed: NAME 20001D0000000001\n'),
+         '    18EEFF26#01000000001D0020  26 to all: Address Claimed: NAME 20001D0000000001 (agriculture, virtual terminal, manufacturer 0, identity 1)\n'),
         (['draw', '-', '--out', 'pictures'], 'line 0: screen none\n', '')]
 
 
