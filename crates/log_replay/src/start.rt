@@ -130,7 +130,7 @@ fn read_last<F: Open, E: Write>(
                 if !put_last(alloc, &bytes, owner, sets)? {
                     let _ = writeln!(
                         errors,
-                        "{}: {folder}/{owner:02X}-{number}.iop: left out, as a terminal refuses it without the objects of another file",
+                        "{}: {folder}/{owner:02X}-{number}.iop: left out, as a terminal refuses it by itself: it is an update, or segyolant check says why",
                         files.name()
                     );
                 }
