@@ -26,7 +26,7 @@ EXAMPLES = {
     'An attribute': {'NeedleColour': ''},
     'A field of a kind': {'needle_colour|VT_METER_NEEDLE_COLOUR': ''},
     'An object kind': {'Meter|meter|VT_METER': '', 'InputNumber|InputList': 'crates/'},
-    'An operator line': {'Select(?! Input)|VT_SELECT|! select|"select ?"|HeldKey': '', r"def select|'select'|release\|select": 'bindings/'},
+    'An operator line': {'Select(?! Input| Active| Colour)|VT_SELECT|! select|"select ?"|HeldKey': '', r"def select|'select'|release\|select": 'bindings/'},
     'An event': {'InputSelected|InputDeselected': '', r'event, 0 to 26|(at most|above|event) 26|(event|n) < 27|≤ 27': 'crates/'},
     'A refusal to the operator': {'NotPressed|VT_NOT_PRESSED': ''},
     'A refusal of a pool': {r'MacroValue|(rule|refusal)\W+1 to 12': ''},
