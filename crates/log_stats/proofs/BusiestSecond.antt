@@ -8,7 +8,7 @@ use Rattle.std.proofs.Math.Seq.{take-length}
 use Rattle.log_stats.specs.declared.busy_seconds.BusySecond.{BusySecond}
 use Rattle.log_traffic.specs.declared.counts.Counts.{Counts}
 use Rattle.log_stats.specs.Seconds.{Sent, sent_in, counts_at, AreRising, HasCounted, IsBusiest, IsFirstMost, busier}
-use Rattle.log_stats.proofs.Seconds.{differ, counts_at-found, all_back, rising_before, rising_behind}
+use Rattle.log_stats.proofs.Seconds.{differ, counts_at-found, all_back, rising_before, rising_behind, is_busy}
 
 all_fewer : (seconds : List BusySecond) (first : BusySecond) (n : ℕ) → IsFirstMost seconds first → first.counts.bits < n
     → All (λ second. second.counts.bits < n) seconds

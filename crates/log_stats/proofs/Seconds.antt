@@ -112,7 +112,7 @@ begin_of-some : (seconds : List BusySecond) (new : BusySecond) (time other : ℕ
 begin_of-some [] new time other some = absurd (some refl)
 begin_of-some (second ∷ seconds) new time other some = refl
 
-abbrev is_busy : BusySecond → Type 0
+abbrev pub is_busy : BusySecond → Type 0
 is_busy second = 0 < second.counts.bits
 
 busy_push : (seconds : List BusySecond) (new : BusySecond) (counts : Counts) (bytes : ℕ) → All is_busy seconds → new.counts ≡ with_frame counts bytes
