@@ -4,33 +4,45 @@ use crate::escape::put_escaped;
 use std::alloc::Global;
 use std::io::{self, Write};
 
-/// Writes the data of a block: lines of JSON, escaped so that no text of a log ends the block. Only the first lines are written, and the
-/// others are counted.
-#[derive(Drop)]
-pub(crate) struct Block<'a, W> {
-    out: &'a mut W,
-    /// The buffer for the escaped text.
-    escaped: Vec<u8>,
+/// How many lines a block may have.
+#[derive(Clone, Copy, PartialEq, Eq)]
+pub(crate) struct Room {
     /// How many lines may still be written.
-    room: u64,
+    pub(crate) lines: u64,
     /// How many lines are left out.
     pub(crate) left_out: u64,
 }
 
+impl Room {
+    /// Room for so many lines.
+    pub(crate) fn of(lines: u64) -> Room {
+        Room { lines, left_out: 0 }
+    }
+}
+
+/// Writes the data of a block: lines of JSON, escaped so that no text of a log ends the block. Lines for which there is no room are
+/// counted.
+#[derive(Drop)]
+pub(crate) struct Block<'a, W> {
+    out: &'a mut W,
+    room: &'a mut Room,
+    /// The buffer for the escaped text.
+    escaped: Vec<u8>,
+}
+
 impl<'a, W: Write> Block<'a, W> {
-    /// A block of at most so many lines. Does not allocate.
-    pub(crate) fn new(alloc: Global, out: &'a mut W, room: u64) -> Block<'a, W> {
+    /// A block before its first line. Does not allocate.
+    pub(crate) fn new(alloc: Global, out: &'a mut W, room: &'a mut Room) -> Block<'a, W> {
         Block {
             out,
-            escaped: Vec::new(alloc),
             room,
-            left_out: 0,
+            escaped: Vec::new(alloc),
         }
     }
 
     /// Writes a part of a line, without its newline, unless there is no room for the line.
     fn put_part(&mut self, part: &[u8]) -> io::Result<()> {
-        if self.room == 0 {
+        if self.room.lines == 0 {
             return Ok(());
         }
         self.escaped.clear();
@@ -40,11 +52,11 @@ impl<'a, W: Write> Block<'a, W> {
 
     /// Ends a line.
     fn end_line(&mut self) -> io::Result<()> {
-        if self.room == 0 {
-            self.left_out = self.left_out.saturating_add(1);
+        if self.room.lines == 0 {
+            self.room.left_out = self.room.left_out.saturating_add(1);
             return Ok(());
         }
-        self.room -= 1;
+        self.room.lines -= 1;
         self.out.write_all(b"\n")
     }
 }

@@ -1,6 +1,6 @@
 //! The subcommand `report`.
 
-use crate::block::Block;
+use crate::block::{Block, Room};
 use crate::page::{SCRIPTS, body, head, style};
 use log_compare::compare_replay;
 use log_pools::put_uploads;
@@ -80,7 +80,7 @@ impl Page<'_> {
             self.replay,
             Format::Json,
             files,
-            &mut Block::new(self.alloc, out, u64::MAX),
+            &mut Block::new(self.alloc, out, &mut Room::of(u64::MAX)),
             &mut repeated,
         )?;
         end_block(out)?;
@@ -90,7 +90,7 @@ impl Page<'_> {
             &self.replay.log,
             &self.replay.names,
             files,
-            &mut Block::new(self.alloc, out, u64::MAX),
+            &mut Block::new(self.alloc, out, &mut Room::of(u64::MAX)),
             &mut repeated,
         )?;
         end_block(out)?;
@@ -112,19 +112,18 @@ impl Page<'_> {
             objects: Vec::new(self.alloc),
         };
         begin_block("trace", out)?;
-        let mut block = Block::new(self.alloc, out, MOST_LINES);
+        let mut room = Room::of(MOST_LINES);
         trace_replay(
             self.alloc,
             self.replay,
             &filter,
             Format::Json,
             files,
-            &mut block,
+            &mut Block::new(self.alloc, out, &mut room),
             errors,
         )?;
-        let left_out = block.left_out;
         end_block(out)?;
-        Ok(left_out)
+        Ok(room.left_out)
     }
 
     /// Writes the screens with their pictures. Returns how many are left out.
@@ -141,7 +140,7 @@ impl Page<'_> {
             self.options.range,
             MOST_PICTURES,
             files,
-            &mut Block::new(self.alloc, out, u64::MAX),
+            &mut Block::new(self.alloc, out, &mut Room::of(u64::MAX)),
             errors,
         )?;
         end_block(out)?;
@@ -170,7 +169,7 @@ impl Page<'_> {
             self.replay,
             &options,
             files,
-            &mut Block::new(self.alloc, out, u64::MAX),
+            &mut Block::new(self.alloc, out, &mut Room::of(u64::MAX)),
             errors,
         )?;
         end_block(out)
@@ -191,7 +190,7 @@ impl Page<'_> {
         line.put_address("own", self.replay.own())?;
         line.put_number("screens_left_out", screens_left_out)?;
         line.put_text("version", VERSION)?;
-        line.write(&mut Block::new(self.alloc, out, u64::MAX))?;
+        line.write(&mut Block::new(self.alloc, out, &mut Room::of(u64::MAX)))?;
         end_block(out)
     }
 
