@@ -123,7 +123,7 @@ int main(int argc, char **argv)
 
     const std::uint64_t look = terminal.look();
     const segyolant::Frame claim{0x18EEFF90, {0x1D, 0, 0, 0, 0, 0, 0, 0x20}, 8};
-    if (terminal.words(claim) != "90 to all: Address Claimed: NAME 200000000000001D") {
+    if (terminal.words(claim) != "90 to all: Address Claimed: NAME 200000000000001D (agriculture, device class 0, function 0, manufacturer 0, identity 29)") {
         return failed("a frame has other words");
     }
     if (terminal.hear(1, claim).result != segyolant::Result::done || terminal.look() != look) {
