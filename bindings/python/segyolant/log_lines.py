@@ -119,12 +119,21 @@ def _plain_form(text: bytes) -> bytes:
     """What `candump -L` would write for a line that was recorded in another way (docs/PROFILE.md, "Lines of other recorders")."""
     time, rest = _word(text)
     interface, rest = _word(rest)
+    rest = _without_direction(rest)
     identifier, data = _word(rest)
     count, data = _word(data)
     if not count.startswith(b'['):
         return b'%b %b %b' % (time, interface, rest.lstrip(b' '))
     # (a CAN FD frame has two digits in its brackets)
     return b'%b %b %b#%b' % (time, interface, identifier, b'#' if len(count) == 4 else _joined(data))
+
+
+def _without_direction(text: bytes) -> bytes:
+    """A text without the direction and the two words of flags at its front, which `candump -x` writes."""
+    direction, rest = _word(text)
+    if direction not in (b'RX', b'TX'):
+        return text
+    return _word(_word(rest)[1])[1]
 
 
 def _joined(text: bytes) -> bytes:
