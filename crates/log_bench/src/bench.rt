@@ -4,11 +4,11 @@ use crate::entries::Entry;
 use crate::outcome::Outcome;
 use crate::report::{put_differences, put_outcome};
 use crate::{Blessed, bless, differences};
-use log_replay::{LoadedSet, Log, new_terminal, tell_loss};
+use log_replay::{LoadedSet, new_terminal, tell_loss, tell_no_frame};
 use log_words::{Format, TerminalOptions};
 use std::alloc::Global;
 use std::io::{self, Error, ErrorKind, Write};
-use vt_cli::{Open, Program, Save, overwrite_file};
+use vt_cli::{Open, Program, Save, overwrite_file, read_file};
 use vt_logs::ReplayFault;
 use vt_recorded::{LineHint, Survey};
 use vt_server::Terminal;
@@ -57,27 +57,28 @@ impl Bench<'_> {
             let _ = writeln!(errors, "{}: {path}: {fault}", files.name());
             return Ok(Outcome::NotJudged);
         }
-        match Log::read(self.alloc, path, None, files, errors)? {
+        match read_file(self.alloc, path, files, errors)? {
             None => Ok(Outcome::NotJudged),
-            Some(log) if self.blesses => self.bless(&log, files, errors),
-            Some(log) => self.test(&log, files, out, errors),
+            Some(bytes) if self.blesses => self.bless(path, &bytes, files, errors),
+            Some(bytes) => self.test(path, &bytes, files, out, errors),
         }
     }
 
-    /// Reports the differences of a log.
+    /// Reports the differences of the log in a file.
     fn test<F: Program, W: Write, E: Write>(
         &self,
-        log: &Log<'_>,
+        path: &str,
+        bytes: &[u8],
         files: &F,
         out: &mut W,
         errors: &mut E,
     ) -> io::Result<Outcome> {
-        let (path, bytes) = (log.path(), log.bytes());
         if bytes.len() > MOST_BYTES {
             return not_replayed(path, ReplayFault::TooLong, files, errors);
         }
-        if Survey::up_to_input(self.alloc, bytes)?.is_unreadable() {
-            log.tell_no_frame(files, errors)?;
+        let survey = Survey::up_to_input(self.alloc, bytes)?;
+        if survey.is_unreadable() {
+            tell_no_frame(path, survey.hint, files, errors);
             return Ok(Outcome::NotJudged);
         }
         let mut terminal = self.new_terminal()?;
@@ -96,28 +97,28 @@ impl Bench<'_> {
         Ok(outcome)
     }
 
-    /// Writes a log anew, with the expectations that it meets. It stays if it has them already, if it is a file of another form, if it
-    /// has neither a frame nor an action of the operator and no working set is there from the start, or if the terminal loses its address
-    /// and `--name` does not say that its NAME is the one that is meant.
+    /// Writes the log in a file anew, with the expectations that it meets. It stays if it has them already, if it is a file of another
+    /// form, if it has neither a frame nor an action of the operator and no working set is there from the start, or if the terminal loses
+    /// its address and `--name` does not say that its NAME is the one that is meant.
     fn bless<F: Save, E: Write>(
         &self,
-        log: &Log<'_>,
+        path: &str,
+        bytes: &[u8],
         files: &mut F,
         errors: &mut E,
     ) -> io::Result<Outcome> {
-        let (path, bytes) = (log.path(), log.bytes());
         if bytes.len() > MOST_BYTES {
             return not_replayed(path, ReplayFault::TooLong, files, errors);
         }
         let survey = Survey::of(self.alloc, bytes)?;
         if survey.is_unreadable() || survey.hint.and_then(LineHint::form).is_some() {
-            log.tell_no_frame(files, errors)?;
+            tell_no_frame(path, survey.hint, files, errors);
             return Ok(Outcome::NotJudged);
         }
         let mut terminal = self.new_terminal()?;
         match bless(self.alloc, bytes, &mut terminal) {
             Ok(blessed) if blessed.inputs == 0 && self.sets.is_empty() => {
-                log.tell_no_frame(files, errors)?;
+                tell_no_frame(path, survey.hint, files, errors);
                 Ok(Outcome::NotJudged)
             }
             Ok(blessed) => {

@@ -1,12 +1,13 @@
 //! The subcommand `compare`.
 
+use crate::recorded_times::RecordedTimes;
 use crate::report::Report;
 use crate::selection::Selection;
 use crate::steps::Steps;
 use crate::told::Telling;
 use log_answers::{Comparison, Difference};
 use log_replay::{Messages, Replay, ReplayPass, Turn};
-use log_words::{CompareOptions, DifferenceOptions};
+use log_words::{CompareOptions, DifferenceOptions, Format};
 use std::alloc::Global;
 use std::io::{self, Write};
 use vt_can::{Line, LineFault};
@@ -67,8 +68,13 @@ pub fn compare_replay<F: Open, W: Write, E: Messages>(
     }
     let report = Report::new(alloc, telling, selection);
     let mut run = Run::new(alloc, options.wait, replay.terminal()?, report);
-    replay.pass(&mut run, files, out, errors)?;
-    run.end(out)?;
+    if options.has_times {
+        run.times = Some(RecordedTimes::new(alloc, replay.own()));
+    }
+    if !replay.pass(&mut run, files, out, errors)? {
+        return Ok(Status::NotJudged);
+    }
+    run.end(options.format, out)?;
     if let Some(count) = run.report.all_ignored() {
         tell_ignored(count, replay, files, errors);
     }
@@ -106,6 +112,8 @@ struct Run<'a> {
     differences: Vec<Difference>,
     steps: Steps,
     report: Report<'a>,
+    /// The times of the recorded terminal, if they are reported.
+    times: Option<RecordedTimes>,
 }
 
 impl<'a> Run<'a> {
@@ -118,13 +126,17 @@ impl<'a> Run<'a> {
             differences: Vec::new(alloc),
             steps: Steps::new(alloc),
             report,
+            times: None,
         }
     }
 
-    /// Reports the differences that the end of the log brings about, and the counts of all.
-    fn end<W: Write>(&mut self, out: &mut W) -> io::Result<()> {
+    /// Reports the differences that the end of the log brings about, the times of the recorded terminal, and the counts of all.
+    fn end<W: Write>(&mut self, format: Format, out: &mut W) -> io::Result<()> {
         self.comparison.end(&mut self.differences)?;
         self.put_differences(out)?;
+        if let Some(times) = &self.times {
+            times.put(format, out)?;
+        }
         self.report.end(self.comparison.tally, out)
     }
 
@@ -150,6 +162,12 @@ impl<F, W: Write, E> ReplayPass<F, W, E> for Run<'_> {
         out: &mut W,
         _errors: &mut E,
     ) -> io::Result<()> {
+        if let (Some(times), Ok(Line::Frame { time, frame })) = (&mut self.times, &reading) {
+            // A frame that comes late was taken at its line.
+            if turn != Turn::Late {
+                times.take(number, *time, frame)?;
+            }
+        }
         if matches!(turn, Turn::Never | Turn::Later) {
             return Ok(());
         }

@@ -45,13 +45,13 @@ pub fn run_report<F: Open + Save, W: Write, E: Messages>(
         style::TEXT,
         body::TEXT
     )?;
-    page.put_blocks(files, out, errors)?;
+    let status = page.put_blocks(files, out, errors)?;
     out.write_all(b"<script>\n")?;
     for part in SCRIPTS {
         out.write_all(part.as_bytes())?;
     }
     out.write_all(b"</script>\n</body>\n</html>\n")?;
-    Ok(Status::Clean)
+    Ok(status)
 }
 
 /// The page of a log.
@@ -64,16 +64,39 @@ struct Page<'a> {
 
 impl Page<'_> {
     /// Writes the blocks of data. The messages of the first pass over the log are written to `errors`; those of the others are the same.
+    /// If the log cannot be read once more, the status is `NotJudged`, and `errors` receives that.
     fn put_blocks<F: Open + Save, W: Write, E: Messages>(
         &self,
         files: &mut F,
         out: &mut W,
         errors: &mut E,
-    ) -> io::Result<()> {
+    ) -> io::Result<Status> {
         let mut repeated = Vec::new(self.alloc);
         let lines_left_out = self.put_trace(files, out, errors)?;
         let screens_left_out = self.put_screens(files, out, &mut repeated)?;
         self.put_differences(files, out, &mut repeated)?;
+        self.put_stats(files, out, &mut repeated)?;
+        let uploads = self.put_pools(files, out, &mut repeated)?;
+        self.tell_left_out(lines_left_out, screens_left_out, files.name(), errors);
+        self.put_about(lines_left_out, screens_left_out, out)?;
+        if uploads != Status::NotJudged {
+            return Ok(Status::Clean);
+        }
+        let (name, path) = (files.name(), self.replay.log.path());
+        let _ = writeln!(
+            errors,
+            "{name}: {path}: the log could not be read once more, so the page is not whole"
+        );
+        Ok(Status::NotJudged)
+    }
+
+    /// Writes the numbers of the log.
+    fn put_stats<F: Open, W: Write, E: Messages>(
+        &self,
+        files: &mut F,
+        out: &mut W,
+        errors: &mut E,
+    ) -> io::Result<()> {
         begin_block("stats", out)?;
         put_numbers(
             self.alloc,
@@ -81,21 +104,29 @@ impl Page<'_> {
             Format::Json,
             files,
             &mut Block::new(self.alloc, out, &mut Room::of(u64::MAX)),
-            &mut repeated,
+            errors,
         )?;
-        end_block(out)?;
+        end_block(out)
+    }
+
+    /// Writes the pools of the log. The status is `NotJudged` if it cannot be read.
+    fn put_pools<F: Open + Save, W: Write, E: Messages>(
+        &self,
+        files: &mut F,
+        out: &mut W,
+        errors: &mut E,
+    ) -> io::Result<Status> {
         begin_block("pools", out)?;
-        put_uploads(
+        let status = put_uploads(
             self.alloc,
             &self.replay.log,
             &self.replay.names,
             files,
             &mut Block::new(self.alloc, out, &mut Room::of(u64::MAX)),
-            &mut repeated,
+            errors,
         )?;
         end_block(out)?;
-        self.tell_left_out(lines_left_out, screens_left_out, files.name(), errors);
-        self.put_about(lines_left_out, screens_left_out, out)
+        Ok(status)
     }
 
     /// Writes the lines of the log in words. Returns how many are left out.
@@ -161,6 +192,7 @@ impl Page<'_> {
                 ignored: Vec::new(self.alloc),
             },
             wait: self.options.wait,
+            has_times: false,
             format: Format::Json,
         };
         begin_block("compare", out)?;

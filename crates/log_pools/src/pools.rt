@@ -27,7 +27,7 @@ pub fn run_pools<F: Open + Save, W: Write, E: Messages>(
     let Some(names) = read_names(alloc, options.names.as_slice(), files, errors)? else {
         return Ok(Status::NotJudged);
     };
-    let Some(log) = Log::read(alloc, options.log, options.interface, files, errors)? else {
+    let Some(log) = Log::open(alloc, options.log, options.interface, files, errors)? else {
         return Ok(Status::NotJudged);
     };
     let folder = options.folder.map(|folder| folder.trim_end_matches('/'));
@@ -46,7 +46,7 @@ pub fn run_pools<F: Open + Save, W: Write, E: Messages>(
 }
 
 /// Writes the report on every upload of a log as lines of JSON. Writes no file.
-pub fn put_uploads<F: Save, W: Write, E: Messages>(
+pub fn put_uploads<F: Open + Save, W: Write, E: Messages>(
     alloc: Global,
     log: &Log<'_>,
     names: &Names,
@@ -64,7 +64,7 @@ pub fn put_uploads<F: Save, W: Write, E: Messages>(
 }
 
 /// Writes a report on every upload of a log.
-fn put_pools<F: Save, W: Write, E: Messages>(
+fn put_pools<F: Open + Save, W: Write, E: Messages>(
     log: &Log<'_>,
     report: Report<'_>,
     files: &mut F,

@@ -1,11 +1,16 @@
 //! What a log says about the recorded terminal, before the log is replayed.
 
-use crate::lines::{LineCursor, line_ends};
+use crate::endings::Endings;
+use crate::feed::TakeLine;
+use crate::log::Log;
+use crate::messages::Messages;
 use byteorder::{ByteOrder, LittleEndian};
 use memchr::memchr;
 use std::alloc::{AllocError, Global};
+use std::io;
 use vt_can::assigned::{ADDRESS_CLAIMED, ECU_TO_VT, GLOBAL_ADDRESS, VT_TO_ECU};
 use vt_can::{Frame, Line};
+use vt_cli::Open;
 use vt_frames_text::PoolRequest;
 use vt_names::Name;
 use vt_recorded::{Reader, is_of_interface};
@@ -36,6 +41,8 @@ pub struct Recorded {
     pub has_frames: bool,
     /// Whether a message of the terminal is in the log, to an implement or to all.
     pub has_messages: bool,
+    /// How the messages in packets to it ended.
+    pub(crate) endings: Endings,
 }
 
 impl Recorded {
@@ -46,54 +53,32 @@ impl Recorded {
             loads: Vec::new(alloc),
             has_frames: true,
             has_messages: false,
+            endings: Endings::unknown(alloc),
         }
     }
 
-    /// What the lines of a log say about the terminal at an address. Reads only the lines that can matter. `OutOfMemory` if an allocation
-    /// is refused.
-    pub fn in_log(
+    /// What the lines of a log say about the terminal at an address. Reads only the lines that can matter. `None` if the log cannot be
+    /// read: then `errors` receives the reason.
+    pub(crate) fn in_log<F: Open, E: Messages>(
         alloc: Global,
-        log: &[u8],
-        interface: Option<&str>,
+        log: &Log<'_>,
         own: u8,
-    ) -> Result<Recorded, AllocError> {
-        let mut recorded = Recorded {
-            name: None,
-            loads: Vec::new(alloc),
-            has_frames: false,
-            has_messages: false,
+        files: &mut F,
+        errors: &mut E,
+    ) -> io::Result<Option<Recorded>> {
+        let mut search = Search {
+            recorded: Recorded {
+                has_frames: false,
+                ..Recorded::unknown(alloc)
+            },
+            reader: Reader::new(alloc),
+            front: Front::new(alloc),
+            interface: log.interface(),
+            own,
         };
-        let mut reader = Reader::new(alloc);
-        let mut front = Front::default();
-        let mut cursor = LineCursor::new(log);
-        for end in line_ends(log) {
-            let line = cursor.next_line(end);
-            if !recorded.is_told_by(line, &mut front) || !is_of_interface(line, interface) {
-                continue;
-            }
-            if let Ok(Line::Frame { frame, .. }) = reader.read(line)? {
-                recorded.has_frames = true;
-                recorded.note(cursor.number(), &frame, own)?;
-            }
-        }
-        Ok(recorded)
-    }
-
-    /// Whether a line has to be read: claims, requests to load a stored pool, messages of a terminal while none of the recorded terminal
-    /// is noted, and each line of another form than `candump -L` writes.
-    fn is_told_by<'a>(&self, line: &'a [u8], front: &mut Front<'a>) -> bool {
-        if !self.has_frames {
-            return true;
-        }
-        let Some((id, data)) = front.frame_in(line) else {
-            return true;
-        };
-        match id {
-            [_, _, b'E' | b'e', b'E' | b'e', ..] => true,
-            [_, _, b'E' | b'e', b'6', ..] => !self.has_messages,
-            [_, _, b'E' | b'e', b'7', ..] => matches!(data, [b'D' | b'd', b'1', ..]),
-            _ => false,
-        }
+        let mut nothing = Vec::new(alloc);
+        let is_whole = log.each_line(&mut search, files, &mut nothing, errors)?;
+        Ok(is_whole.then_some(search.recorded))
     }
 
     /// Notes what the frame of a line says about the recorded terminal.
@@ -155,48 +140,129 @@ fn is_terminal(name: u64) -> bool {
     Name::from_raw(name).function() == VIRTUAL_TERMINAL
 }
 
+/// A search for the lines of a log that say something about the recorded terminal.
+#[derive(Drop)]
+struct Search<'a> {
+    recorded: Recorded,
+    reader: Reader,
+    front: Front,
+    /// The only interface whose frames are read, or `None` for all.
+    interface: Option<&'a str>,
+    /// The address of the terminal.
+    own: u8,
+}
+
+impl<F, W, E> TakeLine<F, W, E> for Search<'_> {
+    fn take_line(
+        &mut self,
+        number: u64,
+        line: &[u8],
+        _files: &mut F,
+        _out: &mut W,
+        _errors: &mut E,
+    ) -> io::Result<()> {
+        if !self.is_told_by(line)? || !is_of_interface(line, self.interface) {
+            return Ok(());
+        }
+        if let Ok(Line::Frame { frame, .. }) = self.reader.read(line)? {
+            self.recorded.has_frames = true;
+            self.recorded.note(number, &frame, self.own)?;
+            self.recorded.endings.note(number, &frame, self.own)?;
+        }
+        Ok(())
+    }
+}
+
+impl Search<'_> {
+    /// Whether a line has to be read: claims, requests to load a stored pool, messages of a terminal while none of the recorded terminal
+    /// is noted, what begins and ends a message in packets, and each line of another form than `candump -L` writes.
+    fn is_told_by(&mut self, line: &[u8]) -> Result<bool, AllocError> {
+        if !self.recorded.has_frames {
+            return Ok(true);
+        }
+        let Some((id, data)) = self.front.frame_in(line)? else {
+            return Ok(true);
+        };
+        Ok(match id {
+            [_, _, b'E' | b'e', b'E' | b'e', ..] => true,
+            [_, _, b'E' | b'e', b'6', ..] => !self.recorded.has_messages,
+            [_, _, b'E' | b'e', b'7', ..] => matches!(data, [b'D' | b'd', b'1', ..]),
+            [_, _, b'E' | b'e', b'C' | b'c', ..] => is_begin_or_end(data, b'0', b'3'),
+            [_, _, b'C' | b'c', b'8', ..] => is_begin_or_end(data, b'4', b'7'),
+            _ => false,
+        })
+    }
+}
+
+/// Whether the hex digits of a frame are those of a request, of an end message or of an abort of a transport protocol. The control bytes
+/// of the first two are 16 and the digit.
+fn is_begin_or_end(data: &[u8], request: u8, end: u8) -> bool {
+    match data {
+        [b'1', digit, ..] => *digit == request || *digit == end,
+        [b'F' | b'f', b'F' | b'f', ..] => true,
+        _ => false,
+    }
+}
+
 /// The place of the interface in a line as `candump -L` writes it, `(TIME) INTERFACE ID#DATA` with single spaces. The next line mostly has its
 /// interface at the same place.
-#[derive(Clone, Copy, Default)]
-struct Front<'a> {
+#[derive(Drop)]
+struct Front {
     /// The index of the interface's text in the line.
     index: usize,
     /// The interface between two spaces; empty before the first line.
-    interface: &'a [u8],
+    interface: Vec<u8>,
 }
 
-impl<'a> Front<'a> {
+impl Front {
+    /// Before the first line. Does not allocate.
+    fn new(alloc: Global) -> Front {
+        Front {
+            index: 0,
+            interface: Vec::new(alloc),
+        }
+    }
+
     /// The eight digits of the ID in a line, and the text behind `#`. `None` for a line of another form.
-    fn frame_in(&mut self, line: &'a [u8]) -> Option<(&'a [u8], &'a [u8])> {
+    fn frame_in<'a>(&mut self, line: &'a [u8]) -> Result<Option<(&'a [u8], &'a [u8])>, AllocError> {
         let [b'(', ..] = line else {
-            return None;
+            return Ok(None);
         };
         if !self.is_in(line) {
-            *self = Front::of_line(line)?;
+            let Some((index, interface)) = interface_in(line) else {
+                return Ok(None);
+            };
+            self.index = index;
+            self.interface.clear();
+            self.interface.extend_from_slice(interface)?;
         }
-        let end = self.index.checked_add(self.interface.len())?;
-        match line.get(end..)?.split_at_checked(8)? {
-            (id, [b'#', data @ ..]) => Some((id, data)),
-            _ => None,
-        }
+        let end = self.index.saturating_add(self.interface.len());
+        Ok(frame_behind(line, end))
     }
 
     /// Whether a line has this interface at this index.
     fn is_in(&self, line: &[u8]) -> bool {
-        let has_it = |rest: &[u8]| rest.starts_with(self.interface);
+        let has_it = |rest: &[u8]| rest.starts_with(&self.interface);
         !self.interface.is_empty() && line.get(self.index..).is_some_and(has_it)
     }
+}
 
-    /// The interface of a line from its first space to its second.
-    fn of_line(line: &'a [u8]) -> Option<Front<'a>> {
-        let index = memchr(b' ', line)?;
-        let (_, rest) = line.split_at_checked(index)?;
-        let length = memchr(b' ', rest.get(1..)?)?.checked_add(2)?;
-        // An interface has a name: two spaces alone pad one.
-        if length == 2 {
-            return None;
-        }
-        let interface = rest.get(..length)?;
-        Some(Front { index, interface })
+/// The interface of a line from its first space to its second, and the index of the first.
+fn interface_in(line: &[u8]) -> Option<(usize, &[u8])> {
+    let index = memchr(b' ', line)?;
+    let (_, rest) = line.split_at_checked(index)?;
+    let length = memchr(b' ', rest.get(1..)?)?.checked_add(2)?;
+    // An interface has a name: two spaces alone pad one.
+    if length == 2 {
+        return None;
+    }
+    Some((index, rest.get(..length)?))
+}
+
+/// The eight digits of the ID at an index of a line, and the text behind `#`.
+fn frame_behind(line: &[u8], index: usize) -> Option<(&[u8], &[u8])> {
+    match line.get(index..)?.split_at_checked(8)? {
+        (id, [b'#', data @ ..]) => Some((id, data)),
+        _ => None,
     }
 }

@@ -1,17 +1,23 @@
-//! The messages in packets that a recorded terminal received, as its end messages tell.
+//! How the messages in packets to a recorded terminal ended.
 
-use crate::lines::{LineCursor, line_ends};
-use crate::marks::Mark;
+use crate::marks::{Mark, Sender};
 use std::alloc::{AllocError, Global};
 use std::collections::{BTreeMap, BTreeSet};
-use vt_can::Line;
-use vt_recorded::{Reader, is_of_interface};
+use vt_can::Frame;
 
-/// The requests whose messages the recorded terminal received, aborted, or did neither with.
+/// How the messages in packets to a terminal ended, each by the line of its request.
+///
+/// Only those that the terminal did not receive are kept, so a long log with many messages needs little memory.
 #[derive(Drop)]
 pub(crate) struct Endings {
-    received: BTreeSet<u64>,
+    /// Whether the frames of a log are noted.
+    is_known: bool,
+    /// The message of each sender that has not ended.
+    open: BTreeMap<Sender, u64>,
+    /// The messages that the terminal or the sender has aborted.
     aborted: BTreeSet<u64>,
+    /// The messages behind which their sender has requested another one, before they ended.
+    left: BTreeSet<u64>,
 }
 
 /// What the log shows of the end of a message in packets to the terminal.
@@ -26,59 +32,56 @@ pub(crate) enum Ending {
 }
 
 impl Endings {
-    /// Those of the terminal at an address, in the lines of a log. `OutOfMemory` if an allocation is refused.
-    pub(crate) fn in_log(
-        alloc: Global,
-        log: &[u8],
-        interface: Option<&str>,
-        own: u8,
-    ) -> Result<Endings, AllocError> {
-        let mut endings = Endings {
-            received: BTreeSet::new(alloc),
+    /// Those of a log that is read only once, of which nothing is known beforehand. Does not allocate.
+    pub(crate) fn unknown(alloc: Global) -> Endings {
+        Endings {
+            is_known: false,
+            open: BTreeMap::new(alloc),
             aborted: BTreeSet::new(alloc),
-        };
-        let mut open = BTreeMap::new(alloc);
-        let mut reader = Reader::new(alloc);
-        let mut cursor = LineCursor::new(log);
-        for end in line_ends(log) {
-            let line = cursor.next_line(end);
-            if !is_of_interface(line, interface) {
-                continue;
-            }
-            let Ok(Line::Frame { frame, .. }) = reader.read(line)? else {
-                continue;
-            };
-            match Mark::in_frame(&frame, own) {
-                Some(Mark::Request(sender, _)) => {
-                    open.insert(sender, cursor.number())?;
-                }
-                Some(Mark::End(sender)) => {
-                    if let Some(request) = open.remove(&sender) {
-                        endings.received.insert(request)?;
-                    }
-                }
-                Some(Mark::Abort(sender)) => {
-                    if let Some(request) = open.remove(&sender) {
-                        endings.aborted.insert(request)?;
-                    }
-                }
-                Some(Mark::Refused(sender)) => {
-                    open.remove(&sender);
-                }
-                Some(Mark::Offset(..) | Mark::Packet(..)) | None => {}
-            }
+            left: BTreeSet::new(alloc),
         }
-        Ok(endings)
+    }
+
+    /// Notes what the frame of a line says about a message in packets to the terminal at an address.
+    pub(crate) fn note(&mut self, line: u64, frame: &Frame, own: u8) -> Result<(), AllocError> {
+        self.is_known = true;
+        match Mark::in_frame(frame, own) {
+            Some(Mark::Request(sender, _)) => {
+                self.leave(sender)?;
+                self.open.insert(sender, line)?;
+            }
+            Some(Mark::Refused(sender)) => self.leave(sender)?,
+            Some(Mark::Abort(sender)) => {
+                if let Some(request) = self.open.remove(&sender) {
+                    self.aborted.insert(request)?;
+                }
+            }
+            Some(Mark::End(sender)) => {
+                self.open.remove(&sender);
+            }
+            Some(Mark::Offset(..) | Mark::Packet(..)) | None => {}
+        }
+        Ok(())
+    }
+
+    /// Ends the message of a sender, which has requested to send another one.
+    fn leave(&mut self, sender: Sender) -> Result<(), AllocError> {
+        if let Some(request) = self.open.remove(&sender) {
+            self.left.insert(request)?;
+        }
+        Ok(())
     }
 
     /// What the log shows of the message that a line requests to send.
     pub(crate) fn of(&self, request: u64) -> Ending {
-        if self.received.contains(&request) {
-            Ending::Received
-        } else if self.aborted.contains(&request) {
-            Ending::Aborted
-        } else {
+        if self.aborted.contains(&request) {
+            return Ending::Aborted;
+        }
+        let is_open = self.open.values().any(|open| *open == request);
+        if !self.is_known || is_open || self.left.contains(&request) {
             Ending::Unknown
+        } else {
+            Ending::Received
         }
     }
 }

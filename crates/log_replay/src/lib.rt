@@ -1,6 +1,7 @@
 //! A log with all that its replay needs, for the subcommands of `segyolant_log`.
 //!
-//! - A `Log` is a log in memory: `Log::pass` reads each of its lines and gives it to a `Pass`, which is what a subcommand does with it.
+//! - A `Log` is the file of a log, which is read anew in each pass: `Log::pass` reads each of its lines and gives it to a `Pass`, which is
+//!   what a subcommand does with it. `Log::each_line` gives the bytes of each line to a `TakeLine`.
 //! - A `Replay` is a log with all that its replay needs: `Replay::terminal` is the terminal before the first line. `Replay::pass` gives
 //!   each line to a `ReplayPass`, with its `Turn`: when the terminal receives its frame. `take` gives it to the terminal then.
 //!   `Recorded` is what the log says about the recorded terminal.
@@ -14,9 +15,8 @@
 
 mod claims;
 mod endings;
-mod follow;
+mod feed;
 mod in_order;
-mod lines;
 mod log;
 mod marks;
 mod messages;
@@ -28,8 +28,9 @@ mod transfer;
 mod turn;
 
 pub use claims::{Load, Recorded};
+pub use feed::TakeLine;
 pub use in_order::ReplayPass;
-pub use log::{Log, Pass};
+pub use log::{Log, Pass, tell_no_frame};
 pub use messages::Messages;
 pub use reader::LogReader;
 pub use replay::{Replay, tell_loss};

@@ -1,13 +1,19 @@
-//! A log in memory, and passes over its lines.
+//! A log, and passes over its lines.
 
-use crate::lines::{LineCursor, line_ends, text_of};
+use crate::feed::{Feed, TakeLine};
 use crate::messages::Messages;
 use crate::reader::LogReader;
 use std::alloc::Global;
-use std::io::{self, Write};
+use std::io::{self, ErrorKind, Read, Write};
 use vt_can::{Line, LineFault};
 use vt_cli::{Open, Program, read_file};
-use vt_recorded::{LineHint, Survey};
+use vt_recorded::LineHint;
+
+/// The bytes that are read at once, at most.
+const CHUNK: usize = 65_536;
+
+/// The reads of a file, at most: more than any file has.
+const READS: u64 = 1 << 62;
 
 /// What a subcommand does with each line of a log.
 pub trait Pass<F, W, E> {
@@ -36,33 +42,46 @@ impl<F, W, E> Pass<F, W, E> for () {
     }
 }
 
-/// A log in memory, of which the frames of all interfaces are read, or those of one.
+/// A log, of which the frames of all interfaces are read, or those of one. A file is read anew in each pass, so a long one needs no more
+/// memory than a short one.
 #[derive(Drop)]
 pub struct Log<'a> {
     alloc: Global,
     path: &'a str,
-    bytes: Vec<u8>,
     interface: Option<&'a str>,
-    /// Whether it is the standard input, of which no line is read yet.
-    is_live: bool,
+    bytes: Bytes,
+}
+
+/// Where the bytes of a log come from in a pass.
+#[derive(Drop)]
+enum Bytes {
+    /// From its file, which had so many of them when it was opened first.
+    File(u64),
+    /// From memory, because its file can be read only once.
+    Held(Vec<u8>),
+    /// From the standard input as they come, in the only pass.
+    Input,
 }
 
 impl<'a> Log<'a> {
-    /// Reads the file of a log. `None` if it cannot be read: then `errors` receives the reason.
-    pub fn read<F: Open, E: Write>(
+    /// Opens the file of a log. One that can be read only once, such as a pipe, is read into memory. `None` if it cannot be opened or
+    /// read: then `errors` receives the reason.
+    pub fn open<F: Open, E: Write>(
         alloc: Global,
         path: &'a str,
         interface: Option<&'a str>,
         files: &mut F,
         errors: &mut E,
     ) -> io::Result<Option<Log<'a>>> {
-        let bytes = read_file(alloc, path, files, errors)?;
+        let bytes = match files.size(path) {
+            Some(size) => open_file(path, files, errors)?.map(|_file| Bytes::File(size)),
+            None => read_file(alloc, path, files, errors)?.map(Bytes::Held),
+        };
         Ok(bytes.map(|bytes| Log {
             alloc,
             path,
-            bytes,
             interface,
-            is_live: false,
+            bytes,
         }))
     }
 
@@ -71,9 +90,8 @@ impl<'a> Log<'a> {
         Log {
             alloc,
             path: "-",
-            bytes: Vec::new(alloc),
             interface,
-            is_live: true,
+            bytes: Bytes::Input,
         }
     }
 
@@ -82,43 +100,31 @@ impl<'a> Log<'a> {
         self.path
     }
 
-    /// Whether the log is the standard input, which is read in the pass over it.
-    pub(crate) fn is_live(&self) -> bool {
-        self.is_live
-    }
-
     /// The only interface whose frames are read, or `None` for all.
     pub fn interface(&self) -> Option<&'a str> {
         self.interface
     }
 
-    /// The bytes of the file.
-    pub fn bytes(&self) -> &[u8] {
-        &self.bytes
-    }
-
-    /// The text of the log, without the newline at its end.
-    pub fn text(&self) -> &[u8] {
-        text_of(&self.bytes)
+    /// Whether the log can be read more than once.
+    pub(crate) fn can_be_read_again(&self) -> bool {
+        !matches!(self.bytes, Bytes::Input)
     }
 
     /// Gives each line to `pass`. Then writes to `errors` how many lines were faulty, and that there are several interfaces, or no frame.
-    /// Returns whether a frame was read.
-    pub fn pass<P: Pass<F, W, E>, F: Program, W: Write, E: Messages>(
+    /// Returns whether a frame was read, and the log to its end; if it was not, `errors` receives the reason.
+    pub fn pass<P: Pass<F, W, E>, F: Open, W: Write, E: Messages>(
         &self,
         pass: &mut P,
         files: &mut F,
         out: &mut W,
         errors: &mut E,
     ) -> io::Result<bool> {
-        let mut reader = LogReader::new(self.alloc, self.interface);
-        let text = self.text();
-        let mut cursor = LineCursor::new(text);
-        for end in line_ends(text) {
-            let line = cursor.next_line(end);
-            cursor.tell_progress(errors);
-            pass.line(cursor.number(), reader.read(line)?, files, out, errors)?;
+        let reader = LogReader::new(self.alloc, self.interface);
+        let mut reading = Reading { reader, pass };
+        if !self.each_line(&mut reading, files, out, errors)? {
+            return Ok(false);
         }
+        let reader = &reading.reader;
         reader.tell_lines(self.path, files, errors);
         if !reader.has_frames() {
             self.tell_no_frame(files, errors)?;
@@ -126,45 +132,169 @@ impl<'a> Log<'a> {
         Ok(reader.has_frames())
     }
 
+    /// Gives the bytes of each line to `taker`. Returns whether the log was read to its end; if not, `errors` receives the reason.
+    pub fn each_line<T: TakeLine<F, W, E>, F: Open, W: Write, E: Messages>(
+        &self,
+        taker: &mut T,
+        files: &mut F,
+        out: &mut W,
+        errors: &mut E,
+    ) -> io::Result<bool> {
+        match &self.bytes {
+            Bytes::Held(bytes) => {
+                let size = bytes.len() as u64;
+                let mut memory = bytes.as_slice();
+                self.read(&mut memory, Some(size), taker, files, out, errors)
+            }
+            Bytes::File(size) => match open_file(self.path, files, errors)? {
+                Some(mut file) => self.read(&mut file, Some(*size), taker, files, out, errors),
+                None => Ok(false),
+            },
+            Bytes::Input => match open_file(self.path, files, errors)? {
+                Some(mut input) => self.read(&mut input, None, taker, files, out, errors),
+                None => Ok(false),
+            },
+        }
+    }
+
+    /// Gives the lines of an input to `taker`. Of one with a size no more bytes are read, and `errors` receives how many have come; of
+    /// any other, what is printed is written out before more is read. Returns whether the input was read to its end; if not, `errors`
+    /// receives the reason.
+    fn read<R: Read, T: TakeLine<F, W, E>, F: Program, W: Write, E: Messages>(
+        &self,
+        input: &mut R,
+        size: Option<u64>,
+        taker: &mut T,
+        files: &mut F,
+        out: &mut W,
+        errors: &mut E,
+    ) -> io::Result<bool> {
+        let mut feed = Feed::new(self.alloc);
+        let mut chunk = vec![in self.alloc; 0; CHUNK]?;
+        let mut taken = 0_u64;
+        for _ in 0..READS {
+            if size.is_some_and(|size| taken >= size) {
+                break;
+            }
+            if size.is_none() {
+                out.flush()?;
+            }
+            match input.read(&mut chunk) {
+                Ok(0) => break,
+                Ok(count) => {
+                    let left = size.unwrap_or(u64::MAX).saturating_sub(taken);
+                    let count = left.min(count as u64);
+                    let bytes = chunk.get(..count as usize).unwrap_or(&[]);
+                    feed.take(bytes, taker, files, out, errors)?;
+                    taken = taken.saturating_add(count);
+                    if let Some(size) = size {
+                        errors.show_progress(taken, size);
+                    }
+                }
+                Err(error) if error.kind() == ErrorKind::Interrupted => {}
+                Err(error) => {
+                    let _ = writeln!(errors, "{}: {}: {error}", files.name(), self.path);
+                    return Ok(false);
+                }
+            }
+        }
+        feed.end(taker, files, out, errors)?;
+        Ok(true)
+    }
+
     /// Writes to `errors` that the log has no frame, or none of its interface, and the likely cause.
-    pub fn tell_no_frame<F: Program, E: Write>(&self, files: &F, errors: &mut E) -> io::Result<()> {
+    pub fn tell_no_frame<F: Open, E: Messages>(
+        &self,
+        files: &mut F,
+        errors: &mut E,
+    ) -> io::Result<()> {
+        let mut nobody = ();
+        let mut all = Reading {
+            reader: LogReader::new(self.alloc, None),
+            pass: &mut nobody,
+        };
+        let mut nothing = Vec::new(self.alloc);
+        if self.can_be_read_again() && !self.each_line(&mut all, files, &mut nothing, errors)? {
+            return Ok(());
+        }
+        let hint = all.reader.hint();
+        let Some(interface) = self.interface else {
+            tell_no_frame(self.path, hint, files, errors);
+            return Ok(());
+        };
         let (name, path) = (files.name(), self.path);
-        let hint = Survey::of(self.alloc, self.text())?.hint;
         if let Some(what) = hint.and_then(LineHint::form) {
             let _ = writeln!(errors, "{name}: {path}: {what}");
             return Ok(());
         }
-        let _ = match (hint, self.interface) {
-            (Some(hint), None) => writeln!(
+        let _ = match all.reader.interfaces() {
+            Some(there) => writeln!(
                 errors,
-                "{name}: {path}: no frame could be read; {hint}"
+                "{name}: {path}: no frame of {interface} could be read; the log has frames of {there}"
             ),
-            (None, None) => writeln!(
+            None => writeln!(
                 errors,
-                "{name}: {path}: no frame could be read; expected a log such as candump -L writes"
+                "{name}: {path}: no frame of {interface} could be read; expected --interface with an interface of the log"
             ),
-            (_, Some(interface)) => match self.read_all()?.interfaces() {
-                Some(there) => writeln!(
-                    errors,
-                    "{name}: {path}: no frame of {interface} could be read; the log has frames of {there}"
-                ),
-                None => writeln!(
-                    errors,
-                    "{name}: {path}: no frame of {interface} could be read; expected --interface with an interface of the log"
-                ),
-            },
         };
         Ok(())
     }
+}
 
-    /// The reader of a whole log, after the lines of all interfaces.
-    fn read_all(&self) -> io::Result<LogReader<'a>> {
-        let mut reader = LogReader::new(self.alloc, None);
-        let text = self.text();
-        let mut cursor = LineCursor::new(text);
-        for end in line_ends(text) {
-            let _ = reader.read(cursor.next_line(end))?;
+/// Writes to `errors` that a log has no frame, and the likely cause: the hint that its first faulty line gives.
+pub fn tell_no_frame<F: Program, E: Write>(
+    path: &str,
+    hint: Option<LineHint>,
+    files: &F,
+    errors: &mut E,
+) {
+    let name = files.name();
+    let _ = match (hint.and_then(LineHint::form), hint) {
+        (Some(what), _) => writeln!(errors, "{name}: {path}: {what}"),
+        (None, Some(hint)) => {
+            writeln!(errors, "{name}: {path}: no frame could be read; {hint}")
         }
-        Ok(reader)
+        (None, None) => writeln!(
+            errors,
+            "{name}: {path}: no frame could be read; expected a log such as candump -L writes"
+        ),
+    };
+}
+
+/// Opens a file. `None` if it cannot be opened: then `errors` receives the reason.
+fn open_file<F: Open, E: Write>(
+    path: &str,
+    files: &mut F,
+    errors: &mut E,
+) -> io::Result<Option<F::Reader>> {
+    match files.open(path) {
+        Ok(file) => Ok(Some(file)),
+        Err(error) if error.kind() == ErrorKind::OutOfMemory => Err(error),
+        Err(error) => {
+            let _ = writeln!(errors, "{}: {path}: {error}", files.name());
+            Ok(None)
+        }
+    }
+}
+
+/// Reads each line, and gives it to a pass.
+#[derive(Drop)]
+struct Reading<'a, P> {
+    reader: LogReader<'a>,
+    pass: &'a mut P,
+}
+
+impl<F, W, E, P: Pass<F, W, E>> TakeLine<F, W, E> for Reading<'_, P> {
+    #[inline]
+    fn take_line(
+        &mut self,
+        number: u64,
+        line: &[u8],
+        files: &mut F,
+        out: &mut W,
+        errors: &mut E,
+    ) -> io::Result<()> {
+        let reading = self.reader.read(line)?;
+        self.pass.line(number, reading, files, out, errors)
     }
 }

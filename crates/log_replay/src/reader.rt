@@ -61,6 +61,11 @@ impl<'a> LogReader<'a> {
         !self.remarks.first.is_empty()
     }
 
+    /// The likely cause of the first faulty line. `None` if there is none, or if it does not show the cause.
+    pub(crate) fn hint(&self) -> Option<LineHint> {
+        self.remarks.hint
+    }
+
     /// The interfaces whose frames were read. `None` if there are none, or if their names are no printable text.
     pub(crate) fn interfaces(&self) -> Option<Interfaces<'_>> {
         let Remarks {

@@ -1,7 +1,6 @@
 //! A log with all that its replay needs.
 
 use crate::claims::Recorded;
-use crate::follow::Following;
 use crate::in_order::{InOrder, ReplayPass};
 use crate::log::Log;
 use crate::messages::Messages;
@@ -32,23 +31,25 @@ pub struct Replay<'a> {
 
 impl<'a> Replay<'a> {
     /// Reads the files of a replay. `None` if one cannot be read or is refused: then `errors` receives the reason.
-    pub fn read<F: Open, E: Write>(
+    pub fn read<F: Open, E: Messages>(
         alloc: Global,
         options: &ReplayOptions<'a>,
         files: &mut F,
         errors: &mut E,
     ) -> io::Result<Option<Replay<'a>>> {
-        let Some(log) = Log::read(alloc, options.log, options.interface, files, errors)? else {
+        let Some(log) = Log::open(alloc, options.log, options.interface, files, errors)? else {
             return Ok(None);
         };
         let own = options.terminal.own;
-        let recorded = Recorded::in_log(alloc, log.text(), options.interface, own)?;
-        Replay::of_log(alloc, options, log, recorded, files, errors)
+        match Recorded::in_log(alloc, &log, own, files, errors)? {
+            Some(recorded) => Replay::of_log(alloc, options, log, recorded, files, errors),
+            None => Ok(None),
+        }
     }
 
     /// As `read`, but if the log is the standard input, it is not read before the pass over it, which takes its lines as they come. Then
     /// nothing is known of the recorded terminal.
-    pub fn follow<F: Open, E: Write>(
+    pub fn follow<F: Open, E: Messages>(
         alloc: Global,
         options: &ReplayOptions<'a>,
         files: &mut F,
@@ -112,7 +113,7 @@ impl<'a> Replay<'a> {
 
     /// Gives each line to `pass`, with the packets of messages to the recorded terminal in order. Then writes to `errors` what a pass over
     /// the log does, how many packets were not in order, and which messages this terminal does not receive. Returns whether a frame was
-    /// read.
+    /// read, and the log to its end; if it was not, `errors` receives the reason.
     pub fn pass<P: ReplayPass<F, W, E>, F: Open, W: Write, E: Messages>(
         &self,
         pass: &mut P,
@@ -120,23 +121,11 @@ impl<'a> Replay<'a> {
         out: &mut W,
         errors: &mut E,
     ) -> io::Result<bool> {
-        let (path, own) = (self.log.path(), self.options.own);
-        let sorter = Sorter::new(
-            self.alloc,
-            own,
-            self.name(),
-            self.log.text(),
-            self.log.interface(),
-        );
+        let recorded = &self.recorded;
+        let sorter = Sorter::new(self.alloc, self.own(), self.name(), &recorded.endings);
         let mut in_order = InOrder::new(pass, sorter);
-        let has_frames = if self.log.is_live() {
-            let mut input = files.open(path)?;
-            let mut following = Following::new(self.alloc, self.log.interface());
-            following.follow(&mut input, &mut in_order, files, out, errors)?
-        } else {
-            self.log.pass(&mut in_order, files, out, errors)?
-        };
-        in_order.tell(path, self.recorded.has_messages, files, errors)?;
+        let has_frames = self.log.pass(&mut in_order, files, out, errors)?;
+        in_order.tell(self.log.path(), recorded.has_messages, files, errors)?;
         Ok(has_frames)
     }
 

@@ -27,19 +27,17 @@ pub(crate) struct Spoiled {
 
 /// The messages in packets that are on their way to the terminal.
 ///
-/// While the packets of a message are in order, each frame has its turn at once. At the first that is not, the message is looked up in the
-/// log: if the recorded terminal has received it, its packets are put in order from there on; otherwise nothing is changed.
+/// While the packets of a message are in order, each frame has its turn at once. At the first that is not, it counts how the message ended
+/// with the recorded terminal: if that has received it, its packets are put in order from there on; otherwise nothing is changed.
 #[derive(Drop)]
 pub(crate) struct Sorter<'a> {
     alloc: Global,
-    /// The text of the log, and the only interface whose frames are read.
-    log: &'a [u8],
-    interface: Option<&'a str>,
     own: u8,
     /// The NAME of the terminal.
     name: u64,
     transfers: BTreeMap<Sender, Transfer>,
-    endings: Option<Endings>,
+    /// How the messages ended with the recorded terminal.
+    endings: &'a Endings,
     /// The packets whose turn has come with the last frame.
     pub(crate) late: VecDeque<LateFrame>,
     /// Frames that the terminal did not receive at their lines, of the messages that it received.
@@ -50,21 +48,13 @@ pub(crate) struct Sorter<'a> {
 
 impl<'a> Sorter<'a> {
     /// A sorter for the terminal at an address, with its NAME, before the first line. Does not allocate.
-    pub(crate) fn new(
-        alloc: Global,
-        own: u8,
-        name: u64,
-        log: &'a [u8],
-        interface: Option<&'a str>,
-    ) -> Sorter<'a> {
+    pub(crate) fn new(alloc: Global, own: u8, name: u64, endings: &'a Endings) -> Sorter<'a> {
         Sorter {
             alloc,
-            log,
-            interface,
             own,
             name,
             transfers: BTreeMap::new(alloc),
-            endings: None,
+            endings,
             late: VecDeque::new(alloc),
             moved: Moved::default(),
             spoiled: Vec::new(alloc),
@@ -221,7 +211,7 @@ impl<'a> Sorter<'a> {
         if transfer.is_sorted {
             return Ok(true);
         }
-        match self.ending_of(transfer.request)? {
+        match self.endings.of(transfer.request) {
             Ending::Received => transfer.is_sorted = true,
             Ending::Aborted => {}
             Ending::Unknown => self.spoiled.push(Spoiled {
@@ -233,17 +223,6 @@ impl<'a> Sorter<'a> {
             })?,
         }
         Ok(transfer.is_sorted)
-    }
-
-    /// What the log shows of the end of the message that a line requests to send.
-    fn ending_of(&mut self, request: u64) -> Result<Ending, AllocError> {
-        if let Some(endings) = &self.endings {
-            return Ok(endings.of(request));
-        }
-        let endings = Endings::in_log(self.alloc, self.log, self.interface, self.own)?;
-        let ending = endings.of(request);
-        self.endings = Some(endings);
-        Ok(ending)
     }
 }
 

@@ -6,6 +6,8 @@ ghost use Rattle.log_stats.specs.Seconds.{Sent, start_of, begin_of, busier, HasC
 use log_traffic::{Counts, Percent, Seconds, load_of};
 use std::alloc::{AllocError, Global};
 use std::fmt;
+use std::io::{self, Write};
+use vt_cli::JsonLine;
 use vt_frames_text::Count;
 
 /// The microseconds of a second.
@@ -24,6 +26,17 @@ impl BusySecond {
     /// The load of a bus of 250 kbit/s in the whole second, without stuff bits, in tenths of a percent.
     pub fn load(&self) -> u64 {
         load_of(self.counts.bits, SECOND).unwrap_or_default()
+    }
+
+    /// Writes it as a line of JSON of this `"kind"`.
+    fn put_json<W: Write>(&self, alloc: Global, kind: &str, out: &mut W) -> io::Result<()> {
+        let mut line = JsonLine::new(alloc);
+        line.put_number("bits", self.counts.bits)?;
+        line.put_number("frames", self.counts.frames)?;
+        line.put_text("kind", kind)?;
+        line.put_number("load", self.load())?;
+        line.put_number("start", self.start)?;
+        line.write(out)
     }
 }
 
@@ -71,6 +84,17 @@ impl BusySeconds {
         let mut counts = Counts::default();
         counts.add_frame(length);
         self.seconds.push(BusySecond { start, counts })?;
+        Ok(())
+    }
+
+    /// Writes a line of JSON for the busiest second, and one for each second.
+    pub(crate) fn put_json<W: Write>(&self, alloc: Global, out: &mut W) -> io::Result<()> {
+        if let Some(busiest) = self.busiest() {
+            busiest.put_json(alloc, "busiest_second", out)?;
+        }
+        for second in self.seconds.iter() {
+            second.put_json(alloc, "second", out)?;
+        }
         Ok(())
     }
 

@@ -1,8 +1,11 @@
 //! Steps of a log's clock.
 
-use crate::occurrences::{FirstPlace, Occurrences};
+use log_times::{FirstPlace, Occurrences};
 use log_traffic::Seconds;
+use std::alloc::Global;
 use std::fmt;
+use std::io::{self, Write};
+use vt_cli::JsonLine;
 use vt_frames_text::Count;
 
 /// The most microseconds from a frame to the next one that are no step ahead.
@@ -22,6 +25,20 @@ impl Steps {
     fn note(&mut self, line: u64, step: u64) {
         self.found.note(line);
         self.greatest = self.greatest.max(step);
+    }
+
+    /// Writes them as a line of JSON, if there are any.
+    fn put_json<W: Write>(&self, alloc: Global, direction: &str, out: &mut W) -> io::Result<()> {
+        if self.found.count == 0 {
+            return Ok(());
+        }
+        let mut line = JsonLine::new(alloc);
+        line.put_number("count", self.found.count)?;
+        line.put_text("direction", direction)?;
+        line.put_number("first_line", self.found.first_line)?;
+        line.put_number("greatest", self.greatest)?;
+        line.put_text("kind", "clock")?;
+        line.write(out)
     }
 }
 
@@ -49,6 +66,12 @@ impl Clock {
         if step > MOST_AHEAD {
             self.ahead.note(line, step);
         }
+    }
+
+    /// Writes a line of JSON for each direction in which there are steps.
+    pub(crate) fn put_json<W: Write>(&self, alloc: Global, out: &mut W) -> io::Result<()> {
+        self.back.put_json(alloc, "back", out)?;
+        self.ahead.put_json(alloc, "ahead", out)
     }
 }
 

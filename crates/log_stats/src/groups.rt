@@ -1,10 +1,12 @@
 //! Frames by parameter group, and messages by function.
 
-use crate::message::{Direction, Message};
+use log_times::{Direction, FunctionLabel, Message, put_group};
 use std::alloc::{AllocError, Global};
 use std::collections::BTreeMap;
 use std::fmt;
-use vt_frames_text::{Count, HexByte, ParameterGroup, function_name};
+use std::io::{self, Write};
+use vt_cli::JsonLine;
+use vt_frames_text::{Count, ParameterGroup, function_name};
 
 /// How many frames each parameter group has, and how many messages each function. Its `Display` writes a line for each of them. The memory
 /// grows with the number of parameter groups.
@@ -47,8 +49,28 @@ impl Groups {
         Ok(())
     }
 
+    /// Writes a line of JSON for each parameter group and each function.
+    pub(crate) fn put_json<W: Write>(&self, alloc: Global, out: &mut W) -> io::Result<()> {
+        for (pgn, frames) in self.frames.iter() {
+            let mut line = JsonLine::new(alloc);
+            line.put_number("frames", *frames)?;
+            put_group(&mut line, *pgn)?;
+            line.put_text("kind", "group")?;
+            line.put_text_if("name", ParameterGroup(*pgn).name())?;
+            line.write(out)?;
+        }
+        for direction in [Direction::ToTerminal, Direction::OfTerminal] {
+            for (function, count) in (0..=u8::MAX).zip(self.messages(direction).iter()) {
+                if *count > 0 {
+                    put_function(alloc, direction, function, *count, out)?;
+                }
+            }
+        }
+        Ok(())
+    }
+
     /// The number of messages in a direction with each function.
-    pub(crate) fn messages(&self, direction: Direction) -> &[u64; 256] {
+    fn messages(&self, direction: Direction) -> &[u64; 256] {
         match direction {
             Direction::ToTerminal => &self.to_terminals,
             Direction::OfTerminal => &self.of_terminals,
@@ -107,16 +129,19 @@ impl fmt::Display for GroupLabel {
     }
 }
 
-/// A function by its number in hex, and its name if it is known, such as `A0 Hide/Show Object`.
-#[derive(Clone, Copy)]
-pub(crate) struct FunctionLabel(pub(crate) u8);
-
-impl fmt::Display for FunctionLabel {
-    fn fmt<W: fmt::Write>(&self, f: &mut fmt::Formatter<W>) -> fmt::Result {
-        let number = HexByte(self.0);
-        match function_name(self.0) {
-            Some(name) => write!(f, "{number} {name}"),
-            None => write!(f, "{number}"),
-        }
-    }
+/// Writes the messages in a direction with a function as a line of JSON.
+fn put_function<W: Write>(
+    alloc: Global,
+    direction: Direction,
+    function: u8,
+    count: u64,
+    out: &mut W,
+) -> io::Result<()> {
+    let mut line = JsonLine::new(alloc);
+    line.put_address("function", function)?;
+    put_group(&mut line, direction.group())?;
+    line.put_text("kind", "function")?;
+    line.put_number("messages", count)?;
+    line.put_text_if("name", function_name(function))?;
+    line.write(out)
 }

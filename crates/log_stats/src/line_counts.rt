@@ -1,7 +1,9 @@
 //! Lines that are passed over.
 
-use crate::occurrences::{FirstPlace, Occurrences};
+use log_times::{FirstPlace, Occurrences};
+use std::alloc::Global;
 use std::fmt;
+use std::io::{self, Write};
 use vt_can::{Line, LineFault, Skipped};
 use vt_frames_text::Count;
 
@@ -34,8 +36,16 @@ impl LineCounts {
         }
     }
 
+    /// Writes a line of JSON for each sort that occurs.
+    pub(crate) fn put_json<W: Write>(&self, alloc: Global, out: &mut W) -> io::Result<()> {
+        for (name, found) in self.sorts() {
+            found.put_json(alloc, "passed_over", "what", name, out)?;
+        }
+        Ok(())
+    }
+
     /// The sorts that occur, each by its name. The others have a count of 0.
-    pub(crate) fn sorts(&self) -> [(&'static str, Occurrences); 5] {
+    fn sorts(&self) -> [(&'static str, Occurrences); 5] {
         [
             ("error frame", self.error),
             ("remote frame", self.remote),

@@ -2,7 +2,6 @@
 
 use crate::Timing;
 use crate::fields::Fields;
-use crate::timing_fields::TimingFields;
 use check_text::Names;
 use log_reach::{Reach, ReachText};
 use log_replay::{Messages, Replay, ReplayPass, Turn, take};
@@ -29,11 +28,10 @@ pub fn run_stats<F: Open, W: Write, E: Messages>(
         replay.log.tell_no_frame(files, errors)?;
         return Ok(Status::NotJudged);
     }
-    put_numbers(alloc, &replay, options.format, files, out, errors)?;
-    Ok(Status::Clean)
+    put_numbers(alloc, &replay, options.format, files, out, errors)
 }
 
-/// Writes the numbers of the log of a replay.
+/// Writes the numbers of the log of a replay. If the log cannot be read to its end, nothing is written, and `errors` receives the reason.
 pub fn put_numbers<F: Open, W: Write, E: Messages>(
     alloc: Global,
     replay: &Replay<'_>,
@@ -41,7 +39,7 @@ pub fn put_numbers<F: Open, W: Write, E: Messages>(
     files: &mut F,
     out: &mut W,
     errors: &mut E,
-) -> io::Result<()> {
+) -> io::Result<Status> {
     let terminal = replay.terminal()?;
     let reach = Reach::new(alloc, &terminal)?;
     let mut run = Run {
@@ -51,10 +49,12 @@ pub fn put_numbers<F: Open, W: Write, E: Messages>(
         reach,
         outputs: Vec::new(alloc),
     };
-    replay.pass(&mut run, files, out, errors)?;
+    if !replay.pass(&mut run, files, out, errors)? {
+        return Ok(Status::NotJudged);
+    }
     run.put(&replay.names, format, alloc, out)?;
     replay.tell_loss(&run.terminal, files, errors);
-    Ok(())
+    Ok(Status::Clean)
 }
 
 /// The numbers of a log so far, what it reached, and what it tells of time.
@@ -122,7 +122,7 @@ impl Run {
                 for set in sets.iter() {
                     fields.put_set(set, out)?;
                 }
-                TimingFields { alloc }.put_report(&timing, out)?;
+                timing.put_json(alloc, out)?;
             }
         }
         Ok(())

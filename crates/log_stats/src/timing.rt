@@ -1,21 +1,19 @@
 //! What a log tells of time.
 
-use crate::answer_times::{AnswerTimes, FunctionTimes};
 use crate::busy_seconds::BusySeconds;
 use crate::clock::Clock;
-use crate::gaps::{Gaps, SignalGaps};
 use crate::groups::Groups;
-use crate::handshakes::{Handshakes, MissingAnswers};
 use crate::line_counts::LineCounts;
-use crate::message::Message;
 use log_listen::SentMessage;
+use log_times::{Message, Times, TimesReport};
 use log_traffic::Moment;
 use std::alloc::{AllocError, Global};
 use std::fmt;
+use std::io::{self, Write};
 use vt_can::{Frame, Line, LineFault};
 
-/// What a log tells of time: lines that are passed over, the busiest second, frames by parameter group and messages by function, gaps,
-/// answer times, transfers whose receiver did not answer, and steps of the clock.
+/// What a log tells of time: lines that are passed over, the busiest second, frames by parameter group and messages by function, the times
+/// of messages, and steps of the clock.
 ///
 /// The memory grows with the number of seconds, of parameter groups, of answers (four bytes each) and of open requests and transfers.
 #[derive(Drop)]
@@ -25,9 +23,7 @@ pub struct Timing {
     lines: LineCounts,
     seconds: BusySeconds,
     groups: Groups,
-    gaps: Gaps,
-    answers: AnswerTimes,
-    handshakes: Handshakes,
+    times: Times,
     clock: Clock,
 }
 
@@ -39,9 +35,7 @@ impl Timing {
             lines: LineCounts::default(),
             seconds: BusySeconds::new(alloc),
             groups: Groups::new(alloc),
-            gaps: Gaps::new(alloc),
-            answers: AnswerTimes::new(alloc),
-            handshakes: Handshakes::new(alloc),
+            times: Times::new(alloc),
             clock: Clock::default(),
         }
     }
@@ -65,14 +59,9 @@ impl Timing {
         let at = Moment { line, time: latest };
         self.last = Some(at);
         self.seconds.take(latest, frame.bytes.len())?;
-        self.handshakes.take(at, frame, sent)?;
         let message = Message::whole_with(frame, sent);
         self.groups.take(frame.id.pgn(), message)?;
-        if let Some(message) = message {
-            self.gaps.take(at, message)?;
-            self.answers.take(latest, message)?;
-        }
-        Ok(())
+        self.times.take(at, frame, sent)
     }
 
     /// The report on the lines so far. `OutOfMemory` if an allocation is refused.
@@ -82,9 +71,7 @@ impl Timing {
             lines: self.lines,
             seconds: &self.seconds,
             groups: &self.groups,
-            gaps: self.gaps.report(end)?,
-            answers: self.answers.report(end.time)?,
-            missing: self.handshakes.report(),
+            times: self.times.report(end)?,
             clock: self.clock,
         })
     }
@@ -99,12 +86,8 @@ pub struct TimingReport<'a> {
     pub seconds: &'a BusySeconds,
     /// Frames by parameter group, and messages by function.
     pub groups: &'a Groups,
-    /// The gaps of each signal that has one.
-    pub gaps: Vec<SignalGaps>,
-    /// The answer times of each function.
-    pub answers: Vec<FunctionTimes>,
-    /// The transfers whose receiver did not answer.
-    pub missing: MissingAnswers,
+    /// The times of messages.
+    pub times: TimesReport,
     /// The steps of the clock.
     pub clock: Clock,
 }
@@ -115,19 +98,17 @@ impl fmt::Display for TimingReport<'_> {
         if let Some(busiest) = self.seconds.busiest() {
             write!(f, "{busiest}")?;
         }
-        write!(f, "{}", self.groups)?;
-        if !self.gaps.is_empty() {
-            f.write_str("gaps over 3 s:\n")?;
-        }
-        for gaps in self.gaps.iter() {
-            write!(f, "{gaps}")?;
-        }
-        if !self.answers.is_empty() {
-            f.write_str("answer times:\n")?;
-        }
-        for times in self.answers.iter() {
-            write!(f, "{times}")?;
-        }
-        write!(f, "{}{}", self.missing, self.clock)
+        write!(f, "{}{}{}", self.groups, self.times, self.clock)
+    }
+}
+
+impl TimingReport<'_> {
+    /// Writes a line of JSON for each thing that there is to tell.
+    pub(crate) fn put_json<W: Write>(&self, alloc: Global, out: &mut W) -> io::Result<()> {
+        self.lines.put_json(alloc, out)?;
+        self.seconds.put_json(alloc, out)?;
+        self.groups.put_json(alloc, out)?;
+        self.times.put_json(alloc, "answers", out)?;
+        self.clock.put_json(alloc, out)
     }
 }

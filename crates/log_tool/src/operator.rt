@@ -2,7 +2,7 @@
 
 use crate::actions::{action_in, put_action, put_fields};
 use log_listen::{Broken, Listener};
-use log_replay::{Log, Messages, Pass};
+use log_replay::{Log, Messages, Pass, TakeLine};
 use log_words::{Format, OperatorOptions};
 use std::alloc::{AllocError, Global};
 use std::io::{self, Write};
@@ -19,7 +19,7 @@ pub(crate) fn run_operator<F: Open, W: Write, E: Messages>(
     out: &mut W,
     errors: &mut E,
 ) -> io::Result<Status> {
-    let Some(log) = Log::read(alloc, options.log, options.interface, files, errors)? else {
+    let Some(log) = Log::open(alloc, options.log, options.interface, files, errors)? else {
         return Ok(Status::NotJudged);
     };
     let mut recording = Recording::new(alloc, options.own, options.format);
@@ -33,13 +33,17 @@ pub(crate) fn run_operator<F: Open, W: Write, E: Messages>(
         }
         return Ok(Status::Clean);
     }
-    let left_out = put_lines(alloc, &log, recording.told.as_slice(), out)?;
-    if left_out > 0 {
+    let mut copy = LogCopy::new(alloc, log.interface(), recording.told.as_slice());
+    if !log.each_line(&mut copy, files, out, errors)? {
+        return Ok(Status::NotJudged);
+    }
+    if copy.left_out > 0 {
         let _ = writeln!(
             errors,
-            "{}: {}: its operator lines are left out: {left_out}",
+            "{}: {}: its operator lines are left out: {}",
             files.name(),
-            options.log
+            options.log,
+            copy.left_out
         );
     }
     Ok(Status::Clean)
@@ -146,31 +150,56 @@ impl Recording {
     }
 }
 
-/// Writes the lines of a log without its operator lines and the frames of other interfaces, and before each the operator's lines that it
-/// reports. Returns how many operator lines were left out.
-fn put_lines<W: Write>(
-    alloc: Global,
-    log: &Log<'_>,
-    told: &[Told],
-    out: &mut W,
-) -> io::Result<u64> {
-    let mut reader = Reader::new(alloc);
-    let mut left_out = 0_u64;
-    let mut number = 0_u64;
-    let mut rest = told;
-    for line in log.text().split(|byte| *byte == b'\n') {
-        number = number.saturating_add(1);
-        let count = rest.partition_point(|told| told.before <= number);
-        let (ready, later) = rest.split_at(count);
+/// A copy of a log in progress: its lines without those of the operator and the frames of other interfaces, and before each the operator's
+/// lines that it reports.
+#[derive(Drop)]
+struct LogCopy<'a> {
+    reader: Reader,
+    /// The only interface whose frames are written, or `None` for all.
+    interface: Option<&'a str>,
+    /// The operator's lines that are still to be written.
+    told: &'a [Told],
+    /// How many operator lines of the log were left out.
+    left_out: u64,
+}
+
+impl<'a> LogCopy<'a> {
+    /// A copy before its first line. Does not allocate.
+    fn new(alloc: Global, interface: Option<&'a str>, told: &'a [Told]) -> LogCopy<'a> {
+        LogCopy {
+            reader: Reader::new(alloc),
+            interface,
+            told,
+            left_out: 0,
+        }
+    }
+}
+
+impl<F, W: Write, E> TakeLine<F, W, E> for LogCopy<'_> {
+    fn take_line(
+        &mut self,
+        number: u64,
+        line: &[u8],
+        _files: &mut F,
+        out: &mut W,
+        _errors: &mut E,
+    ) -> io::Result<()> {
+        let count = self.told.partition_point(|told| told.before <= number);
+        let (ready, later) = self.told.split_at(count);
         for told in ready {
             out.write_all(&told.line)?;
         }
-        rest = later;
-        if is_of_interface(line, log.interface()) && !put_line(&mut reader, line, out)? {
-            left_out = left_out.saturating_add(1);
+        self.told = later;
+        if is_of_interface(line, self.interface) && !put_line(&mut self.reader, line, out)? {
+            self.left_out = self.left_out.saturating_add(1);
         }
+        Ok(())
     }
-    Ok(left_out)
+
+    /// Each line is copied whole.
+    fn longest(&self) -> usize {
+        usize::MAX
+    }
 }
 
 /// Writes a line, unless it is one of the operator, and returns whether it did. A frame of another recorder is written in its plain form.

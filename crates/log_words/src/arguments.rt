@@ -65,6 +65,13 @@ pub(crate) const WAIT: Argument<'static> = Argument {
     form: Form::Setting("MS", Allowed::Any),
 };
 
+/// What the log tells of the recorded terminal's times.
+pub(crate) const TIMES: Argument<'static> = Argument {
+    name: "times",
+    help: "Also print the recorded terminal's answer times, gaps over 3 s, and what is missing of its transfers",
+    form: Form::Flag,
+};
+
 /// The first line of the printed ones.
 pub(crate) const FROM: Argument<'static> = Argument {
     name: "from",

@@ -124,6 +124,8 @@ pub struct DifferenceOptions<'a> {
     pub filter: TopicFilter<'a>,
     /// How long an answer may take, in milliseconds.
     pub wait: u32,
+    /// Whether the times of the recorded terminal are reported too.
+    pub has_times: bool,
     /// The form of the output.
     pub format: Format,
 }
@@ -290,6 +292,7 @@ fn compare_options<'a>(
         report: DifferenceOptions {
             filter: topic_filter(alloc, matches)?,
             wait: wait_of(matches)?,
+            has_times: matches.get_flag("times"),
             format: format_of(matches),
         },
     })

@@ -2,7 +2,7 @@
 
 use crate::arguments::{
     ADDRESS, FORMAT, FROM, FUNCTION, IGNORE, INTERFACE, LOG, NAMES, OBJECT, ONLY, OWN, OWNER,
-    PICTURES_FOLDER, POOL, RECORDED_NAME, START_POOLS, TO, WAIT,
+    PICTURES_FOLDER, POOL, RECORDED_NAME, START_POOLS, TIMES, TO, WAIT,
 };
 use vt_cli::Subcommand;
 
@@ -84,6 +84,7 @@ pub(crate) const COMPARE: Subcommand<'static> = Subcommand {
     arguments: &[
         NAMES,
         WAIT,
+        TIMES,
         ONLY,
         IGNORE,
         FROM,

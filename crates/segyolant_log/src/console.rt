@@ -55,7 +55,7 @@ impl Write for Console<'_> {
 
 impl Messages for Console<'_> {
     // The text is shorter than any line of a report, and the next text begins where it did.
-    fn show_progress(&mut self, taken: usize, bytes: usize) {
+    fn show_progress(&mut self, taken: u64, bytes: u64) {
         let Some(last) = self.last else {
             return;
         };

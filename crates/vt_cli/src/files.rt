@@ -22,6 +22,10 @@ pub trait Open: Program {
     type Reader: Read + Drop;
 
     fn open(&mut self, path: &str) -> io::Result<Self::Reader>;
+
+    /// The number of bytes of a file that gives the same ones each time it is opened. `None` for any other, such as the standard input, a
+    /// pipe or a device, and for one that is not there.
+    fn size(&mut self, path: &str) -> Option<u64>;
 }
 
 /// Writes files by their paths.
@@ -129,6 +133,11 @@ impl Open for Files<'_> {
             return Err(Error::from(ErrorKind::IsADirectory));
         }
         Ok(Opened::File(file))
+    }
+
+    fn size(&mut self, path: &str) -> Option<u64> {
+        let found = fs::metadata(self.rt, path).ok()?;
+        (path != "-" && found.is_file()).then_some(found.len())
     }
 }
 

@@ -1,7 +1,7 @@
 -- The least, the middle and the greatest of some times (docs/PROFILE.md, "A log in numbers").
 use Rattle.std.specs.Prelude.{◌≡◌, ◌+◌, ◌-◌, ◌/◌, ℕ, List, length, slice_index}
 use Rattle.std.specs.List.Sorted.{IsPermutation, IsNonDecreasing}
-use Rattle.log_stats.specs.declared.summary.Summary.{Summary}
+use Rattle.log_times.specs.declared.summary.Summary.{Summary}
 
 -- the one in the middle of times in rising order: half of the sum of the two that are nearest to it, which are the same if there is one
 abbrev pub middle_of : List ℕ → ℕ

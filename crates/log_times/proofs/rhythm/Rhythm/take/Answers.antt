@@ -1,6 +1,6 @@
 use Rattle.std.proofs.Common.{rules}
-use Rattle.log_stats.proofs.Rhythms.{taken_more}
-use Rattle.log_stats.proofs.rhythm.Rhythm.take.Goals as goal
+use Rattle.log_times.proofs.Rhythms.{taken_more}
+use Rattle.log_times.proofs.rhythm.Rhythm.take.Goals as goal
 
 pub returns-then-length-gt-MOST_SILENT : goal.returns-then-length-gt-MOST_SILENT
 returns-then-length-gt-MOST_SILENT c messages taken =

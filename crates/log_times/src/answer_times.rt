@@ -1,6 +1,6 @@
 //! How long the answers of terminals take.
 
-use crate::groups::FunctionLabel;
+use crate::labels::FunctionLabel;
 use crate::message::{Direction, Message};
 use crate::open_requests::OpenRequests;
 use crate::subject::{Subject, answered_by, asked_by};
@@ -9,7 +9,9 @@ use log_traffic::Milliseconds;
 use std::alloc::{AllocError, Global};
 use std::collections::BTreeMap;
 use std::fmt;
-use vt_frames_text::Count;
+use std::io::{self, Write};
+use vt_cli::JsonLine;
+use vt_frames_text::{Count, function_name};
 
 /// What is known of the requests with a function.
 #[derive(Drop)]
@@ -150,5 +152,27 @@ impl fmt::Display for FunctionTimes {
             write!(f, "{} without an answer", Count(self.unanswered, "request"))?;
         }
         writeln!(f)
+    }
+}
+
+impl FunctionTimes {
+    /// Writes them as a line of JSON of this `"kind"`.
+    pub(crate) fn put_json<W: Write>(
+        &self,
+        alloc: Global,
+        kind: &str,
+        out: &mut W,
+    ) -> io::Result<()> {
+        let mut line = JsonLine::new(alloc);
+        let found = self.times;
+        line.put_number("answers", found.map_or(0, |found| found.count))?;
+        line.put_address("function", self.function)?;
+        line.put_number_if("greatest", found.map(|found| u64::from(found.greatest)))?;
+        line.put_text("kind", kind)?;
+        line.put_number_if("least", found.map(|found| u64::from(found.least)))?;
+        line.put_number_if("median", found.map(|found| u64::from(found.median)))?;
+        line.put_text_if("name", function_name(self.function))?;
+        line.put_number("unanswered", self.unanswered)?;
+        line.write(out)
     }
 }

@@ -2,8 +2,8 @@
 use Rattle.std.proofs.Common.{◌≡◌, ℕ, List, [], ◌∷◌, length, ap, refl, arith}
 use Rattle.std.specs.Prelude.{Option, Some, None, MatchOption}
 use Rattle.std.specs.List.Sorted.{IsPermutation, IsNonDecreasing}
-use Rattle.log_stats.specs.declared.summary.Summary.{Summary}
-use Rattle.log_stats.specs.Summaries.{IsSummaryOf, IsSummaryOfRising}
+use Rattle.log_times.specs.declared.summary.Summary.{Summary}
+use Rattle.log_times.specs.Summaries.{IsSummaryOf, IsSummaryOfRising}
 
 empty_of : (times rising : List ℕ) → length rising ≡ length times → rising ≡ [] → times ≡ []
 empty_of [] rising long none = refl

@@ -1,7 +1,7 @@
 //! The least, the middle and the greatest of some times.
 
 ghost use Rattle.std.specs.Prelude.{◌≡◌, [], IfOk, MatchOption};
-ghost use Rattle.log_stats.specs.Summaries.{IsSummaryOf, IsSummaryOfRising};
+ghost use Rattle.log_times.specs.Summaries.{IsSummaryOf, IsSummaryOfRising};
 
 use std::alloc::{AllocError, Global};
 

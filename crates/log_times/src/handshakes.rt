@@ -6,6 +6,7 @@ use log_traffic::{Channel, Control, Moment, control_in};
 use std::alloc::{AllocError, Global};
 use std::collections::BTreeMap;
 use std::fmt;
+use std::io::{self, Write};
 use vt_can::Frame;
 use vt_can::assigned::{ETP_DT, GLOBAL_ADDRESS};
 use vt_frames_text::Count;
@@ -46,6 +47,13 @@ impl MissingAnswers {
         if let Some(line) = handshake.whole_line {
             self.end.note(line);
         }
+    }
+
+    /// Writes a line of JSON for each of both sorts that occurs.
+    pub(crate) fn put_json<W: Write>(&self, alloc: Global, out: &mut W) -> io::Result<()> {
+        let (kind, member) = ("handshake", "missing");
+        self.clear.put_json(alloc, kind, member, "CTS", out)?;
+        self.end.put_json(alloc, kind, member, "end", out)
     }
 }
 

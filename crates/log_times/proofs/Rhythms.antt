@@ -4,9 +4,9 @@ use Rattle.std.specs.Prelude.{All, Option, Some, None, MatchOption, nat_le, min,
 use Rattle.std.proofs.lemmas.Bool.{cond_both, cond-true, leb-true, leb-false, lt-ltb}
 use Rattle.std.proofs.lemmas.List.Elements.{All-append, All-cons, All-nil}
 use Rattle.log_traffic.specs.declared.moment.Moment.{Moment}
-use Rattle.log_stats.specs.declared.rhythm.Gap.{Gap}
-use Rattle.log_stats.specs.declared.rhythm.Rhythm.{Rhythm}
-use Rattle.log_stats.specs.Rhythms.{length_of, longer, is_gap, gaps_of, times_between, IsLongest, HasTaken}
+use Rattle.log_times.specs.declared.rhythm.Gap.{Gap}
+use Rattle.log_times.specs.declared.rhythm.Rhythm.{Rhythm}
+use Rattle.log_times.specs.Rhythms.{length_of, longer, is_gap, gaps_of, times_between, IsLongest, HasTaken}
 
 -- a gap that is shorter than another one, or as long, and follows all of these
 shorter_all : (gaps : List Gap) (longest gap : Gap) → IsLongest gaps longest → length_of longest < length_of gap → All (λ other. length_of other < length_of gap) gaps

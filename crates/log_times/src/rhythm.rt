@@ -2,7 +2,7 @@
 
 ghost use Rattle.std.specs.Prelude.{◌≡◌, ◌<◌, ◌≤◌, ℕ, List, [], ◌∷◌, MatchOption};
 ghost use Rattle.log_traffic.specs.declared.moment.Moment.{Moment as Message};
-ghost use Rattle.log_stats.specs.Rhythms.{longer};
+ghost use Rattle.log_times.specs.Rhythms.{longer};
 
 use log_traffic::Moment;
 
@@ -19,7 +19,7 @@ pub struct Gap {
 }
 
 impl Gap {
-    ghost use Rattle.log_stats.specs.Rhythms.{length_of};
+    ghost use Rattle.log_times.specs.Rhythms.{length_of};
 
     /// The microseconds from the message before to the one after.
     pub fn length(self) -> u64
@@ -41,7 +41,7 @@ pub(crate) struct Rhythm {
 }
 
 impl Rhythm {
-    ghost use Rattle.log_stats.specs.Rhythms.{HasTaken};
+    ghost use Rattle.log_times.specs.Rhythms.{HasTaken};
 
     /// A first message.
     pub(crate) fn new(first: Moment) -> Rhythm

@@ -1,6 +1,9 @@
 //! How often something occurs in a log, and where first.
 
+use std::alloc::Global;
 use std::fmt;
+use std::io::{self, Write};
+use vt_cli::JsonLine;
 
 /// How often something occurs in a log, and where first.
 #[derive(Clone, Copy, Default, PartialEq, Eq)]
@@ -13,18 +16,38 @@ pub struct Occurrences {
 
 impl Occurrences {
     /// Counts an occurrence at a line.
-    pub(crate) fn note(&mut self, line: u64) {
+    pub fn note(&mut self, line: u64) {
         self.first_line = match self.count {
             0 => line,
             _ => self.first_line.min(line),
         };
         self.count = self.count.saturating_add(1);
     }
+
+    /// Writes a line of JSON of this `"kind"`, with a member that names what occurs, unless it does not occur.
+    pub fn put_json<W: Write>(
+        &self,
+        alloc: Global,
+        kind: &str,
+        member: &str,
+        name: &str,
+        out: &mut W,
+    ) -> io::Result<()> {
+        if self.count == 0 {
+            return Ok(());
+        }
+        let mut line = JsonLine::new(alloc);
+        line.put_number("count", self.count)?;
+        line.put_number("first_line", self.first_line)?;
+        line.put_text("kind", kind)?;
+        line.put_text(member, name)?;
+        line.write(out)
+    }
 }
 
 /// The place of the first occurrence in words: `at line 5` if it is the only one, and otherwise `the first at line 5`.
-#[derive(Clone, Copy)]
-pub(crate) struct FirstPlace(pub(crate) Occurrences);
+#[derive(Clone, Copy, Drop)]
+pub struct FirstPlace(pub Occurrences);
 
 impl fmt::Display for FirstPlace {
     fn fmt<W: fmt::Write>(&self, f: &mut fmt::Formatter<W>) -> fmt::Result {

@@ -1,9 +1,9 @@
 use Rattle.std.proofs.Common.{◌≡◌, MatchOption, [], rules, subst}
 use Rattle.std.proofs.lemmas.List.Sorted.{IsNonDecreasingBy-from_sort}
 use Rattle.std.specs.List.Sorted.{IsPermutation}
-use Rattle.log_stats.specs.Summaries.{IsSummaryOfRising}
-use Rattle.log_stats.proofs.Summaries.{summary_of_any}
-use Rattle.log_stats.proofs.summary.summary_of.Goals as goal
+use Rattle.log_times.specs.Summaries.{IsSummaryOfRising}
+use Rattle.log_times.proofs.Summaries.{summary_of_any}
+use Rattle.log_times.proofs.summary.summary_of.Goals as goal
 
 pub returns : goal.returns
 returns c =

@@ -1,8 +1,8 @@
 -- Gaps between messages that are sent each second (docs/PROFILE.md, "A log in numbers").
 use Rattle.std.specs.Prelude.{◌≡◌, ◌<◌, ◌≤◌, ◌-◌, ◌^◌, ℕ, Bool, nat_lt, nat_le, min, Option, None, Some, if◌then◌else◌, List, [], ◌∷◌, ◌++◌, length, filter, All, MatchOption}
 use Rattle.log_traffic.specs.declared.moment.Moment.{Moment}
-use Rattle.log_stats.specs.declared.rhythm.Gap.{Gap}
-use Rattle.log_stats.specs.declared.rhythm.Rhythm.{Rhythm}
+use Rattle.log_times.specs.declared.rhythm.Gap.{Gap}
+use Rattle.log_times.specs.declared.rhythm.Rhythm.{Rhythm}
 
 -- the microseconds from the message before to the one after
 abbrev pub length_of : Gap → ℕ

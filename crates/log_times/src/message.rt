@@ -24,7 +24,7 @@ impl Direction {
     }
 
     /// The parameter group of its messages.
-    pub(crate) fn group(self) -> u32 {
+    pub fn group(self) -> u32 {
         match self {
             Direction::ToTerminal => ECU_TO_VT,
             Direction::OfTerminal => VT_TO_ECU,
@@ -34,22 +34,23 @@ impl Direction {
 
 /// A message between an implement and a terminal.
 #[derive(Clone, Copy, Drop)]
-pub(crate) struct Message<'a> {
-    pub(crate) direction: Direction,
+pub struct Message<'a> {
+    /// Who sends it.
+    pub direction: Direction,
     /// The address of the sender.
-    pub(crate) source: u8,
+    pub source: u8,
     /// The address to which it goes, 255 for all.
-    pub(crate) destination: u8,
+    pub destination: u8,
     /// The function, which is the first of its bytes.
-    pub(crate) function: u8,
+    pub function: u8,
     /// All of its bytes.
-    pub(crate) bytes: &'a [u8],
+    pub bytes: &'a [u8],
 }
 
 impl<'a> Message<'a> {
     /// The message that is whole with a frame: the one in the frame, or the one in packets of which it is the last. `None` if there is
     /// none, or if it has no bytes.
-    pub(crate) fn whole_with(
+    pub fn whole_with(
         frame: &'a Frame,
         sent: Option<&'a SentMessage>,
     ) -> Option<Message<'a>> {

@@ -1,12 +1,16 @@
 //! Gaps between messages that are sent each second.
 
+use crate::labels::put_group;
 use crate::message::{Direction, Message};
 use crate::rhythm::{Gap, Rhythm};
 use log_traffic::{Moment, Seconds};
+use serde_json::Value;
 use std::alloc::{AllocError, Global};
 use std::collections::BTreeMap;
 use std::fmt;
-use vt_can::assigned::{GLOBAL_ADDRESS, VT_STATUS};
+use std::io::{self, Write};
+use vt_can::assigned::{ECU_TO_VT, GLOBAL_ADDRESS, VT_STATUS, VT_TO_ECU};
+use vt_cli::JsonLine;
 use vt_frames_text::MAINTENANCE;
 
 /// Messages that are sent each second.
@@ -136,5 +140,48 @@ impl fmt::Display for SignalGaps {
         } else {
             writeln!(f, "line {}", to.line)
         }
+    }
+}
+
+impl SignalGaps {
+    /// Writes them as a line of JSON.
+    pub(crate) fn put_json<W: Write>(&self, alloc: Global, out: &mut W) -> io::Result<()> {
+        let mut line = JsonLine::new(alloc);
+        line.put_number("count", self.count)?;
+        match self.signal {
+            Signal::Status { source } => {
+                line.put("destination", Value::Null)?;
+                line.put_address("function", VT_STATUS)?;
+                put_group(&mut line, VT_TO_ECU)?;
+                line.put_address("source", source)?;
+            }
+            Signal::Maintenance {
+                source,
+                destination,
+            } => {
+                line.put_address("destination", destination)?;
+                line.put_address("function", MAINTENANCE)?;
+                put_group(&mut line, ECU_TO_VT)?;
+                line.put_address("source", source)?;
+            }
+        }
+        line.put_text("kind", "gaps")?;
+        line.put("longest", self.longest_value(alloc)?)?;
+        line.write(out)
+    }
+
+    /// The longest gap by its length and the lines around it. The line after it is null if it lasts to the end of the log.
+    fn longest_value(&self, alloc: Global) -> Result<Value, AllocError> {
+        let Gap { from, to } = self.longest;
+        let last_line = if self.reaches_end {
+            None
+        } else {
+            Some(to.line)
+        };
+        let mut object = JsonLine::new(alloc);
+        object.put_number("first_line", from.line)?;
+        object.put_number_if("last_line", last_line)?;
+        object.put_number("time", self.longest.length())?;
+        Ok(object.into_value())
     }
 }

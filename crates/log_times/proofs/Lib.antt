@@ -1,0 +1,3 @@
+-- The lemmas of log_times.
+pub mod Rhythms
+pub mod Summaries
