@@ -98,14 +98,16 @@ class Pipes:
 
     def a_long_log(self):
         """The size of a log in a file needs no memory."""
-        short = self.memory_for(FIRST)
-        long = self.memory_for(FIRST + (b'# ' + b'x' * 1021 + b'\n') * 20480)
-        if long > short + (4 << 10):
-            yield f'pools: {short} kB for a line, {long} kB for 20 MB'
+        short, long = self.memory_for(0), self.memory_for(40)
+        if long > short + (8 << 10):
+            yield f'pools: {short} kB for a line, {long} kB for 40 MB'
 
-    def memory_for(self, log):
-        """The most memory, in kB, that pools takes for a log."""
-        write(f'{self.folder}/my.log', log)
+    def memory_for(self, megabytes):
+        """The most memory, in kB, that pools takes for a log of comments and a frame. (The process has the memory of this one at first.)"""
+        with open(f'{self.folder}/my.log', 'wb') as file:
+            file.write(FIRST)
+            for _ in range(megabytes * 256):
+                file.write(b'# ' + b'x' * 4093 + b'\n')
         ran = subprocess.Popen([self.program, 'pools', 'my.log'], cwd=self.folder, stdin=subprocess.DEVNULL)
         return os.wait4(ran.pid, 0)[2].ru_maxrss
 
