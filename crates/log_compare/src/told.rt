@@ -4,7 +4,8 @@ use crate::causes::Cause;
 use crate::words::words_of;
 use check_text::Names;
 use log_answers::{Difference, Said, Topic};
-use log_words::{Format, Seconds};
+use log_traffic::Seconds;
+use log_words::Format;
 use std::alloc::{AllocError, Global};
 use std::fmt;
 use std::io::{self, Write};
@@ -161,8 +162,8 @@ struct Side<'a> {
 
 impl<'a> Side<'a> {
     /// The bytes of the message in hex.
-    fn bytes(&self) -> Bytes<'a> {
-        Bytes { said: self.said }
+    fn bytes(&self) -> HexText<'a> {
+        HexText { said: self.said }
     }
 
     /// The error byte of the message, if it has one.
@@ -236,11 +237,11 @@ impl fmt::Display for Message<'_> {
 
 /// The bytes of a message in hex.
 #[derive(Clone, Copy, Drop)]
-struct Bytes<'a> {
+struct HexText<'a> {
     said: &'a Said,
 }
 
-impl fmt::Display for Bytes<'_> {
+impl fmt::Display for HexText<'_> {
     fn fmt<W: fmt::Write>(&self, f: &mut fmt::Formatter<W>) -> fmt::Result {
         for byte in self.said.bytes.iter() {
             write!(f, "{byte:02X}")?;

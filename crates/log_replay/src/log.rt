@@ -49,12 +49,12 @@ pub struct Log<'a> {
     alloc: Global,
     path: &'a str,
     interface: Option<&'a str>,
-    bytes: Bytes,
+    origin: Origin,
 }
 
 /// Where the bytes of a log come from in a pass.
 #[derive(Drop)]
-enum Bytes {
+enum Origin {
     /// From its file, which had so many of them when it was opened first.
     File(u64),
     /// From memory, because its file can be read only once.
@@ -73,15 +73,15 @@ impl<'a> Log<'a> {
         files: &mut F,
         errors: &mut E,
     ) -> io::Result<Option<Log<'a>>> {
-        let bytes = match files.size(path) {
-            Some(size) => open_file(path, files, errors)?.map(|_file| Bytes::File(size)),
-            None => read_file(alloc, path, files, errors)?.map(Bytes::Held),
+        let origin = match files.size(path) {
+            Some(size) => open_file(path, files, errors)?.map(|_file| Origin::File(size)),
+            None => read_file(alloc, path, files, errors)?.map(Origin::Held),
         };
-        Ok(bytes.map(|bytes| Log {
+        Ok(origin.map(|origin| Log {
             alloc,
             path,
             interface,
-            bytes,
+            origin,
         }))
     }
 
@@ -91,7 +91,7 @@ impl<'a> Log<'a> {
             alloc,
             path: "-",
             interface,
-            bytes: Bytes::Input,
+            origin: Origin::Input,
         }
     }
 
@@ -107,7 +107,7 @@ impl<'a> Log<'a> {
 
     /// Whether the log can be read more than once.
     pub(crate) fn can_be_read_again(&self) -> bool {
-        !matches!(self.bytes, Bytes::Input)
+        !matches!(self.origin, Origin::Input)
     }
 
     /// Gives each line to `pass`. Then writes to `errors` how many lines were faulty, and that there are several interfaces, or no frame.
@@ -140,17 +140,17 @@ impl<'a> Log<'a> {
         out: &mut W,
         errors: &mut E,
     ) -> io::Result<bool> {
-        match &self.bytes {
-            Bytes::Held(bytes) => {
+        match &self.origin {
+            Origin::Held(bytes) => {
                 let size = bytes.len() as u64;
                 let mut memory = bytes.as_slice();
                 self.read(&mut memory, Some(size), taker, files, out, errors)
             }
-            Bytes::File(size) => match open_file(self.path, files, errors)? {
+            Origin::File(size) => match open_file(self.path, files, errors)? {
                 Some(mut file) => self.read(&mut file, Some(*size), taker, files, out, errors),
                 None => Ok(false),
             },
-            Bytes::Input => match open_file(self.path, files, errors)? {
+            Origin::Input => match open_file(self.path, files, errors)? {
                 Some(mut input) => self.read(&mut input, None, taker, files, out, errors),
                 None => Ok(false),
             },
@@ -251,9 +251,7 @@ pub fn tell_no_frame<F: Program, E: Write>(
     let name = files.name();
     let _ = match (hint.and_then(LineHint::form), hint) {
         (Some(what), _) => writeln!(errors, "{name}: {path}: {what}"),
-        (None, Some(hint)) => {
-            writeln!(errors, "{name}: {path}: no frame could be read; {hint}")
-        }
+        (None, Some(hint)) => { writeln!(errors, "{name}: {path}: no frame could be read; {hint}") }
         (None, None) => writeln!(
             errors,
             "{name}: {path}: no frame could be read; expected a log such as candump -L writes"

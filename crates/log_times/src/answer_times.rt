@@ -4,7 +4,7 @@ use crate::labels::FunctionLabel;
 use crate::message::{Direction, Message};
 use crate::open_requests::OpenRequests;
 use crate::subject::{Subject, answered_by, asked_by};
-use crate::summary::{Summary, summary_of};
+use crate::summary::{TimeSummary, summary_of};
 use log_traffic::Milliseconds;
 use std::alloc::{AllocError, Global};
 use std::collections::BTreeMap;
@@ -127,7 +127,7 @@ pub struct FunctionTimes {
     /// The function.
     pub function: u8,
     /// The answer times, in microseconds. `None` if there is no answer.
-    pub times: Option<Summary>,
+    pub times: Option<TimeSummary>,
     /// How many requests were not answered in time.
     pub unanswered: u64,
 }

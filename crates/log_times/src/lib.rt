@@ -29,5 +29,5 @@ pub use labels::{FunctionLabel, put_group};
 pub use message::{Direction, Message};
 pub use occurrences::{FirstPlace, Occurrences};
 pub use rhythm::Gap;
-pub use summary::Summary;
+pub use summary::TimeSummary;
 pub use times::{Times, TimesReport};

@@ -50,10 +50,7 @@ pub struct Message<'a> {
 impl<'a> Message<'a> {
     /// The message that is whole with a frame: the one in the frame, or the one in packets of which it is the last. `None` if there is
     /// none, or if it has no bytes.
-    pub fn whole_with(
-        frame: &'a Frame,
-        sent: Option<&'a SentMessage>,
-    ) -> Option<Message<'a>> {
+    pub fn whole_with(frame: &'a Frame, sent: Option<&'a SentMessage>) -> Option<Message<'a>> {
         let (pgn, source, destination, bytes) = match sent {
             Some(sent) => (
                 sent.pgn,

@@ -7,7 +7,7 @@ use std::alloc::{AllocError, Global};
 
 /// The least, the middle and the greatest of some times, in microseconds.
 #[derive(Clone, Copy, PartialEq, Eq)]
-pub struct Summary {
+pub struct TimeSummary {
     /// How many times there are.
     pub count: u64,
     /// The least.
@@ -19,7 +19,7 @@ pub struct Summary {
 }
 
 /// The summary of some times. `None` if there are none.
-pub(crate) fn summary_of(alloc: Global, times: &[u32]) -> Result<Option<Summary>, AllocError>
+pub(crate) fn summary_of(alloc: Global, times: &[u32]) -> Result<Option<TimeSummary>, AllocError>
     ensures { IfOk result (λ summary. MatchOption summary (times.now ≡ []) (IsSummaryOf times.now)) }
 {
     let mut sorted = Vec::from_slice(alloc, times)?;
@@ -28,12 +28,12 @@ pub(crate) fn summary_of(alloc: Global, times: &[u32]) -> Result<Option<Summary>
 }
 
 /// The summary of times in rising order. `None` if there are none.
-fn summary_of_sorted(times: &[u32]) -> Option<Summary>
+fn summary_of_sorted(times: &[u32]) -> Option<TimeSummary>
     ensures { MatchOption result (times.now ≡ []) (IsSummaryOfRising times.now) }
 {
     let low = *times.get(times.len().checked_sub(1)? / 2)?;
     let high = *times.get(times.len() / 2)?;
-    Some(Summary {
+    Some(TimeSummary {
         count: times.len() as u64,
         least: *times.first()?,
         median: ((u64::from(low) + u64::from(high)) / 2) as u32,

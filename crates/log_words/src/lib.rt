@@ -26,6 +26,6 @@ pub use options::{
     ReplayOptions, ReportOptions, StatsOptions, TerminalOptions, TestFormat, TestOptions,
     TraceOptions,
 };
-pub use places::{LineRange, LogPlace, Seconds};
+pub use places::{LineRange, LogPlace};
 pub use start_options::StartOptions;
 pub use wrong_option::WrongOption;

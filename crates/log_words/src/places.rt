@@ -1,7 +1,5 @@
 //! Places in a log, and the lines from one to another.
 
-use std::fmt;
-
 /// The microseconds of a second.
 const SECOND: u64 = 1_000_000;
 
@@ -70,18 +68,6 @@ impl LineRange {
             (Some(LogPlace::Time(from)), Some(LogPlace::Time(to))) => to < from,
             _ => false,
         }
-    }
-}
-
-/// A time in microseconds, which its `Display` writes in seconds, such as `12.000345`.
-#[derive(Clone, Copy, PartialEq, Eq)]
-pub struct Seconds(pub u64);
-
-impl fmt::Display for Seconds {
-    fn fmt<W: fmt::Write>(&self, f: &mut fmt::Formatter<W>) -> fmt::Result {
-        let whole = self.0 / SECOND;
-        let micros = self.0 % SECOND;
-        write!(f, "{whole}.{micros:06}")
     }
 }
 
