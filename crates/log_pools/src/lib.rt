@@ -1,7 +1,7 @@
 //! The subcommand `pools` of `segyolant_log`: the object pools and updates that were uploaded in a log (ISO 11783-6).
 //!
 //! - `run_pools` runs it with its options, and returns the `Status` with which the program ends. docs/LOGS.md has the subcommand.
-//!   `put_uploads` does the same for a log in memory.
+//!   `put_uploads` does the same for a log that is open.
 //! - `Uploads` puts uploads together from the messages of implements to terminals: `Uploads::take` receives a `Message`, and returns
 //!   the `Upload` that it ends. docs/PROFILE.md, "Uploads in a log", has the rules.
 //!

@@ -1,3 +1,2 @@
 -- The definitions used in the contracts of log_replay.
 pub mod Interfaces
-pub mod Turns

@@ -1,10 +1,10 @@
 //! What a log says about the recorded terminal, before the log is replayed.
 
-use crate::endings::Endings;
 use crate::feed::TakeLine;
 use crate::log::Log;
 use crate::messages::Messages;
 use byteorder::{ByteOrder, LittleEndian};
+use log_order::Endings;
 use memchr::memchr;
 use std::alloc::{AllocError, Global};
 use std::io;

@@ -1,9 +1,7 @@
 //! Passes over the lines of a log, for a terminal that replays it.
 
 use crate::log::Pass;
-use crate::sorter::{Sorter, Spoiled};
-use crate::transfer::Moved;
-use crate::turn::Turn;
+use log_order::{Moved, Sorter, Spoiled, Turn};
 use std::alloc::AllocError;
 use std::io::{self, Write};
 use vt_can::{Line, LineFault};

@@ -4,16 +4,15 @@ use crate::claims::Recorded;
 use crate::in_order::{InOrder, ReplayPass};
 use crate::log::Log;
 use crate::messages::Messages;
-use crate::sorter::Sorter;
 use crate::start::{LoadedSet, new_terminal, read_sets};
 use check_text::Names;
+use log_order::Sorter;
 use log_words::{ReplayOptions, TerminalOptions};
 use std::alloc::Global;
 use std::io::{self, Write};
-use vt_can::{Line, LineFault};
 use vt_cli::{Open, Program, read_names};
 use vt_names::TERMINAL_NAME;
-use vt_server::{Input, Terminal};
+use vt_server::Terminal;
 
 /// A log with all that its replay needs.
 #[derive(Drop)]
@@ -152,13 +151,4 @@ pub fn tell_loss<F: Program, E: Write>(
         );
     }
     is_lost
-}
-
-/// The input of a line: its frame, or the action of its operator. `None` for any other line.
-pub(crate) fn input_of<'a>(reading: Result<Line<'a>, LineFault>) -> Option<Input<'a>> {
-    match reading {
-        Ok(Line::Frame { time, frame }) => Some(Input::Frame { time, frame }),
-        Ok(Line::Operator(action)) => Some(Input::Operator(action)),
-        Ok(Line::Skipped(_) | Line::Comment) | Err(_) => None,
-    }
 }

@@ -1,10 +1,10 @@
 //! When the terminal that replays a log receives the frame of a line.
 
 ghost use Rattle.std.specs.Prelude.{◌↔◌, IsTrue};
-ghost use Rattle.log_replay.specs.Turns.{IsOverdueAt};
+ghost use Rattle.log_order.specs.Turns.{IsOverdueAt};
 ghost use Rattle.vt_server.specs.States.{state_of};
 
-use crate::replay::input_of;
+use crate::input::input_of;
 use std::alloc::AllocError;
 use vt_can::{Line, LineFault};
 use vt_server::{Output, Terminal};

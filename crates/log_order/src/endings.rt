@@ -9,7 +9,7 @@ use vt_can::Frame;
 ///
 /// Only those that the terminal did not receive are kept, so a long log with many messages needs little memory.
 #[derive(Drop)]
-pub(crate) struct Endings {
+pub struct Endings {
     /// Whether the frames of a log are noted.
     is_known: bool,
     /// The message of each sender that has not ended.
@@ -33,7 +33,7 @@ pub(crate) enum Ending {
 
 impl Endings {
     /// Those of a log that is read only once, of which nothing is known beforehand. Does not allocate.
-    pub(crate) fn unknown(alloc: Global) -> Endings {
+    pub fn unknown(alloc: Global) -> Endings {
         Endings {
             is_known: false,
             open: BTreeMap::new(alloc),
@@ -43,7 +43,7 @@ impl Endings {
     }
 
     /// Notes what the frame of a line says about a message in packets to the terminal at an address.
-    pub(crate) fn note(&mut self, line: u64, frame: &Frame, own: u8) -> Result<(), AllocError> {
+    pub fn note(&mut self, line: u64, frame: &Frame, own: u8) -> Result<(), AllocError> {
         self.is_known = true;
         match Mark::in_frame(frame, own) {
             Some(Mark::Request(sender, _)) => {

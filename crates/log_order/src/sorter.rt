@@ -11,18 +11,18 @@ use vt_can::assigned::ADDRESS_CLAIMED;
 
 /// A message in packets that this terminal does not receive.
 #[derive(Clone, Copy)]
-pub(crate) struct Spoiled {
+pub struct Spoiled {
     /// Whether the recorded terminal has received it: then packets of it are not in the log. Otherwise the log does not show what the
     /// recorded terminal did.
-    pub(crate) is_lost: bool,
+    pub is_lost: bool,
     /// The line at which this is known.
-    pub(crate) line: u64,
+    pub line: u64,
     /// The line of the request.
-    pub(crate) request: u64,
+    pub request: u64,
     /// The address of the sender.
-    pub(crate) source: u8,
+    pub source: u8,
     /// The number of the first packet that this terminal has not received, from 1.
-    pub(crate) missing: u32,
+    pub missing: u32,
 }
 
 /// The messages in packets that are on their way to the terminal.
@@ -30,7 +30,7 @@ pub(crate) struct Spoiled {
 /// While the packets of a message are in order, each frame has its turn at once. At the first that is not, it counts how the message ended
 /// with the recorded terminal: if that has received it, its packets are put in order from there on; otherwise nothing is changed.
 #[derive(Drop)]
-pub(crate) struct Sorter<'a> {
+pub struct Sorter<'a> {
     alloc: Global,
     own: u8,
     /// The NAME of the terminal.
@@ -39,16 +39,16 @@ pub(crate) struct Sorter<'a> {
     /// How the messages ended with the recorded terminal.
     endings: &'a Endings,
     /// The packets whose turn has come with the last frame.
-    pub(crate) late: VecDeque<LateFrame>,
+    pub late: VecDeque<LateFrame>,
     /// Frames that the terminal did not receive at their lines, of the messages that it received.
-    pub(crate) moved: Moved,
+    pub moved: Moved,
     /// The messages that this terminal is known not to receive.
-    pub(crate) spoiled: Vec<Spoiled>,
+    pub spoiled: Vec<Spoiled>,
 }
 
 impl<'a> Sorter<'a> {
     /// A sorter for the terminal at an address, with its NAME, before the first line. Does not allocate.
-    pub(crate) fn new(alloc: Global, own: u8, name: u64, endings: &'a Endings) -> Sorter<'a> {
+    pub fn new(alloc: Global, own: u8, name: u64, endings: &'a Endings) -> Sorter<'a> {
         Sorter {
             alloc,
             own,
@@ -64,7 +64,7 @@ impl<'a> Sorter<'a> {
     /// The turn of the frame of a line. The frames whose turn comes after it are in `late`. After `OutOfMemory` the sorter is of no more
     /// use.
     #[inline]
-    pub(crate) fn turn(&mut self, line: u64, frame: &Frame) -> Result<Turn, AllocError> {
+    pub fn turn(&mut self, line: u64, frame: &Frame) -> Result<Turn, AllocError> {
         let Some(mark) = Mark::in_frame(frame, self.own) else {
             return Ok(self.turn_of_other(frame));
         };
@@ -190,7 +190,7 @@ impl<'a> Sorter<'a> {
     }
 
     /// Ends the messages of all senders, at the end of the log.
-    pub(crate) fn close_all(&mut self) -> Result<(), AllocError> {
+    pub fn close_all(&mut self) -> Result<(), AllocError> {
         for (sender, transfer) in self.transfers.iter() {
             if let Some(spoiled) = lost(*sender, transfer) {
                 self.spoiled.push(spoiled)?;

@@ -8,10 +8,11 @@ use vt_can::{Frame, frame_of, three_bytes};
 
 /// A frame that the terminal receives after its line.
 #[derive(Drop)]
-pub(crate) struct LateFrame {
+pub struct LateFrame {
     /// The number of its line.
-    pub(crate) line: u64,
-    pub(crate) frame: Frame,
+    pub line: u64,
+    /// The frame.
+    pub frame: Frame,
 }
 
 /// The two ends of a message, and its protocol.
@@ -57,11 +58,11 @@ pub(crate) struct Transfer {
 
 /// Frames that the terminal does not receive at their lines.
 #[derive(Clone, Copy, Default)]
-pub(crate) struct Moved {
+pub struct Moved {
     /// How many they are.
-    pub(crate) count: u64,
+    pub count: u64,
     /// The line of the first. 0 if there is none.
-    pub(crate) first: u64,
+    pub first: u64,
 }
 
 impl Moved {

@@ -6,7 +6,7 @@ use Rattle.vt_can.specs.transport.FirstTimes.{IsFirstTime}
 use Rattle.vt_server.specs.frame.Deadlines.{IsDue}
 use Rattle.vt_server.specs.States.{state_of}
 use Rattle.vt_server.specs.Terminals.{State}
-use Rattle.log_replay.proofs.turn.is_overdue_at.Goals as goal
+use Rattle.log_order.proofs.turn.is_overdue_at.Goals as goal
 
 -- a first time is not after any other one
 by_then : (s : State) (first other time : ℕ) → IsFirstTime (IsDue s) (Some first) → IsFirstTime (IsDue s) (Some other) → other ≤ time
