@@ -2,6 +2,7 @@
 
 ghost use Rattle.std.specs.Prelude.{◌↔◌, IsTrue};
 ghost use Rattle.log_order.specs.Turns.{IsOverdueAt};
+ghost use Rattle.vt_can.specs.lines.Readings.{reading_of};
 ghost use Rattle.vt_server.specs.States.{state_of};
 
 use crate::input::input_of;
@@ -25,8 +26,12 @@ pub enum Turn {
 }
 
 impl Turn {
-    /// Whether a terminal receives the frame of a line now. It receives each line without a frame.
-    pub fn is_for(self, reading: &Result<Line<'_>, LineFault>, terminal: &Terminal) -> bool {
+    ghost use Rattle.log_order.specs.Turns.{IsReceived};
+
+    /// Whether a terminal receives a line now.
+    pub fn is_for(self, reading: &Result<Line<'_>, LineFault>, terminal: &Terminal) -> bool
+        ensures { IsTrue result ↔ IsReceived self (state_of terminal.now) (reading_of reading.now) }
+    {
         match (self, reading) {
             (Turn::Now | Turn::Late, _) => true,
             (Turn::Own, Ok(Line::Frame { time, .. })) => is_overdue_at(terminal, *time),
