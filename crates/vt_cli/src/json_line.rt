@@ -3,9 +3,11 @@
 ghost use Rattle.std.specs.Prelude.{◌≡◌, [], MatchOption, OnErr, OnOk};
 ghost use Rattle.serde_json.specs.Data.{null, number, unsigned, put as with_member};
 ghost use Rattle.serde_json.specs.View.{members_view, view};
+ghost use Rattle.vt_cli.specs.Cells.{with_cells};
 ghost use Rattle.vt_cli.specs.Numbers.{number_or_null};
 ghost use Rattle.vt_cli.specs.Texts.{GainsText};
 
+use crate::cell::Cell;
 use serde_json::{Map, Value};
 use std::alloc::{AllocError, Global};
 use std::fmt;
@@ -35,6 +37,17 @@ impl JsonLine {
         ensures err { OnErr result (self.new.members.entries ≡ self.old.members.entries) }
     {
         serde_json::put(&mut self.members, self.alloc, name, value)
+    }
+
+    /// Adds members by their names. After `OutOfMemory` it has some of them.
+    pub fn put_all(&mut self, members: &[(&str, Cell<'_>)]) -> Result<(), AllocError>
+        ensures { OnOk result (members_view self.new.members.entries ≡ with_cells (members_view self.old.members.entries) members.now) }
+    {
+        for member in members {
+            let value = member.1.value(self.alloc)?;
+            self.put(member.0, value)?;
+        }
+        Ok(())
     }
 
     /// Adds a member with a text. After `OutOfMemory` the object is unchanged.
@@ -119,4 +132,15 @@ impl JsonLine {
         let alloc = self.alloc;
         writeln!(out, "{}", self.into_value().to_string(alloc)?)
     }
+}
+
+/// Writes an object with these members as a line.
+pub fn put_line<W: Write>(
+    alloc: Global,
+    members: &[(&str, Cell<'_>)],
+    out: &mut W,
+) -> io::Result<()> {
+    let mut line = JsonLine::new(alloc);
+    line.put_all(members)?;
+    line.write(out)
 }

@@ -8,7 +8,7 @@
 //!   the system. `read_file`, `read_pool_file` and `read_names` read whole files. `save_file` writes a file beside the old one and moves
 //!   it there, `overwrite_file` writes into it, and `make_folder` makes a folder. If one fails, it writes the name of the `Program`, the
 //!   path and the reason. `tell_replaced` says how many files were replaced.
-//! - A `JsonLine` is an object of JSON that is built member by member and written as a line.
+//! - A `JsonLine` is an object of JSON that is built from `Cell`s or member by member, and written as a line. `put_line` does so at once.
 //! - `words_of` collects the words of the process, and `exit_code` ends it: with them, `main` of a program is a page.
 //!
 //! It has no subcommand and no option of one program: those are in check_words and log_words. vt_replay uses `Files` and
@@ -18,6 +18,7 @@
 #![tactic(auto)]
 
 mod argument;
+mod cell;
 mod command_line;
 mod files;
 mod json_line;
@@ -30,9 +31,10 @@ mod values;
 mod writing;
 
 pub use argument::{Allowed, Argument, Form};
+pub use cell::Cell;
 pub use command_line::{CommandLine, Subcommand, VERSION};
 pub use files::{Files, List, Open, Opened, Program, Replaced, Save};
-pub use json_line::JsonLine;
+pub use json_line::{JsonLine, put_line};
 pub use process::{exit_code, words_of};
 pub use reading::{read_file, read_names, read_pool_file};
 pub use refusal::{UsageError, refuse};
