@@ -9,7 +9,7 @@ use log_words::Format;
 use std::alloc::{AllocError, Global};
 use std::fmt;
 use std::io::{self, Write};
-use vt_cli::JsonLine;
+use vt_cli::{Cell, JsonLine};
 use vt_frames_text::{Destination, HexByte, error_of, function_name};
 use vt_objects::ObjectId;
 use vt_server::Terminal;
@@ -87,20 +87,28 @@ impl Telling<'_> {
         let ours = sides.ours.as_ref();
         let theirs = sides.theirs.as_ref();
         let mut line = JsonLine::new(self.alloc);
-        line.put_address("destination", topic.destination)?;
-        line.put_text_if("error", ours.and_then(Side::error))?;
-        line.put_address("function", topic.function)?;
-        line.put_text("kind", kind_of(difference))?;
-        line.put_number_if("line", ours.map(|side| side.said.line))?;
-        line.put_text_if("name", function_name(topic.function))?;
-        line.put_number_if("object", topic.object.map(u64::from))?;
+        line.put_all(&[
+            ("destination", Cell::Hex(topic.destination)),
+            ("error", error_cell(ours)),
+            ("function", Cell::Hex(topic.function)),
+            ("kind", Cell::Text(kind_of(difference))),
+            ("line", Cell::number_if(ours.map(|side| side.said.line))),
+            ("name", Cell::text_if(function_name(topic.function))),
+            ("object", Cell::number_if(topic.object.map(u64::from))),
+            ("ours_words", Cell::text_if(ours.and_then(Side::words))),
+            ("recorded_error", error_cell(theirs)),
+            (
+                "recorded_line",
+                Cell::number_if(theirs.map(|side| side.said.line)),
+            ),
+            (
+                "recorded_words",
+                Cell::text_if(theirs.and_then(Side::words)),
+            ),
+            ("time", Cell::Number(time)),
+        ])?;
         line.put_text_if("ours", ours.map(Side::bytes))?;
-        line.put_text_if("ours_words", ours.and_then(Side::words))?;
         line.put_text_if("recorded", theirs.map(Side::bytes))?;
-        line.put_text_if("recorded_error", theirs.and_then(Side::error))?;
-        line.put_number_if("recorded_line", theirs.map(|side| side.said.line))?;
-        line.put_text_if("recorded_words", theirs.and_then(Side::words))?;
-        line.put_number("time", time)?;
         line.put_text_if("why", cause)?;
         line.write(out)
     }
@@ -116,6 +124,14 @@ impl Telling<'_> {
         };
         let words = words_of(self.alloc, said, terminal, self.names)?;
         Ok(Some(Side { said, words }))
+    }
+}
+
+/// The error byte of a side of a difference, if it has a message with one.
+fn error_cell<'a>(side: Option<&Side<'a>>) -> Cell<'a> {
+    match side.and_then(Side::error) {
+        Some(HexByte(error)) => Cell::Hex(error),
+        None => Cell::Null,
     }
 }
 

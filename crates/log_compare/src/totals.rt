@@ -7,7 +7,7 @@ use log_answers::Tally;
 use log_replay::Load;
 use log_words::Format;
 use std::io::{self, Write};
-use vt_cli::JsonLine;
+use vt_cli::{Cell, JsonLine, put_line};
 use vt_frames_text::PoolRequest;
 
 impl Telling<'_> {
@@ -26,11 +26,13 @@ impl Telling<'_> {
             );
         }
         let mut object = JsonLine::new(self.alloc);
-        object.put_text("kind", "load")?;
+        object.put_all(&[
+            ("kind", Cell::Text("load")),
+            ("line", Cell::Number(line)),
+            ("source", Cell::Hex(source)),
+        ])?;
         object.put_bytes_if("label", request.label())?;
-        object.put_number("line", line)?;
         object.put_text("request", request)?;
-        object.put_address("source", source)?;
         object.write(out)
     }
 
@@ -46,13 +48,14 @@ impl Telling<'_> {
         if self.format == Format::Text {
             return writeln!(out, "left out: {count} of {name}: {why}");
         }
-        let mut line = JsonLine::new(self.alloc);
-        line.put_number("count", count)?;
-        line.put_address("function", function)?;
-        line.put_text("kind", "left out")?;
-        line.put_text("name", name)?;
-        line.put_text("why", why)?;
-        line.write(out)
+        let members = [
+            ("count", Cell::Number(count)),
+            ("function", Cell::Hex(function)),
+            ("kind", Cell::Text("left out")),
+            ("name", Cell::Text(name)),
+            ("why", Cell::Text(why)),
+        ];
+        put_line(self.alloc, &members, out)
     }
 
     /// Writes the counts, which are the last line. Whether the options select differences decides if those that are ignored are named.
@@ -87,14 +90,15 @@ impl Telling<'_> {
                 writeln!(out)
             };
         }
-        let mut line = JsonLine::new(self.alloc);
-        line.put_number("differ", differ)?;
-        line.put_number("ignored", ignored)?;
-        line.put_text("kind", "answers")?;
-        line.put_number("not_compared", not_compared)?;
-        line.put_number("ours_alone", ours_alone)?;
-        line.put_number("same", same)?;
-        line.put_number("theirs_alone", theirs_alone)?;
-        line.write(out)
+        let members = [
+            ("differ", Cell::Number(differ)),
+            ("ignored", Cell::Number(ignored)),
+            ("kind", Cell::Text("answers")),
+            ("not_compared", Cell::Number(not_compared)),
+            ("ours_alone", Cell::Number(ours_alone)),
+            ("same", Cell::Number(same)),
+            ("theirs_alone", Cell::Number(theirs_alone)),
+        ];
+        put_line(self.alloc, &members, out)
     }
 }

@@ -10,7 +10,7 @@ use serde_json::Value;
 use std::alloc::Global;
 use std::fmt;
 use std::io::{self, Write};
-use vt_cli::JsonLine;
+use vt_cli::{Cell, JsonLine, put_line};
 use vt_frames_text::PoolRequest;
 
 /// Where an upload has ended, and whether it was an update.
@@ -94,17 +94,19 @@ fn put_upload_fields<W: Write>(
     path: Option<&str>,
     out: &mut W,
 ) -> io::Result<()> {
-    let mut object = JsonLine::new(alloc);
-    object.put_number("bytes", upload.bytes.len() as u64)?;
-    object.put_address("destination", upload.destination)?;
-    object.put_text_if("file", path)?;
-    object.put_number("first_line", upload.first_line)?;
     let is_accepted = matches!(verdict, Verdict::Accepted(_));
+    let mut object = JsonLine::new(alloc);
+    object.put_all(&[
+        ("bytes", Cell::Number(upload.bytes.len() as u64)),
+        ("destination", Cell::Hex(upload.destination)),
+        ("file", Cell::text_if(path)),
+        ("first_line", Cell::Number(upload.first_line)),
+        ("kind", Cell::Text(end.kind())),
+        ("last_line", Cell::Number(end.line)),
+        ("pieces", Cell::Number(upload.pieces)),
+        ("source", Cell::Hex(upload.source)),
+    ])?;
     object.put("is_accepted", Value::Bool(is_accepted))?;
-    object.put_text("kind", end.kind())?;
-    object.put_number("last_line", end.line)?;
-    object.put_number("pieces", upload.pieces)?;
-    object.put_address("source", upload.source)?;
     object.put_text("verdict", verdict)?;
     object.write(out)
 }
@@ -174,13 +176,15 @@ fn put_broken_fields<W: Write>(
         "not whole"
     };
     let mut object = JsonLine::new(alloc);
-    object.put_number("bytes", u64::from(broken.size))?;
-    object.put_address("destination", broken.destination)?;
+    object.put_all(&[
+        ("bytes", Cell::Number(u64::from(broken.size))),
+        ("destination", Cell::Hex(broken.destination)),
+        ("kind", Cell::Text(kind)),
+        ("last_line", Cell::number_if(line)),
+        ("missing", Cell::Number(u64::from(broken.missing))),
+        ("source", Cell::Hex(broken.source)),
+    ])?;
     object.put_text("group", format_args!("{:04X}", broken.pgn))?;
-    object.put_text("kind", kind)?;
-    object.put_number_if("last_line", line)?;
-    object.put_number("missing", u64::from(broken.missing))?;
-    object.put_address("source", broken.source)?;
     object.write(out)
 }
 
@@ -205,12 +209,14 @@ pub(crate) fn put_request<W: Write>(
         );
     }
     let mut object = JsonLine::new(alloc);
-    object.put_address("destination", destination)?;
-    object.put_text("kind", "request")?;
+    object.put_all(&[
+        ("destination", Cell::Hex(destination)),
+        ("kind", Cell::Text("request")),
+        ("last_line", Cell::Number(line)),
+        ("source", Cell::Hex(source)),
+    ])?;
     object.put_bytes_if("label", request.label())?;
-    object.put_number("last_line", line)?;
     object.put_text("request", request)?;
-    object.put_address("source", source)?;
     object.write(out)
 }
 
@@ -241,13 +247,14 @@ pub(crate) fn put_unended<W: Write>(
             None => writeln!(out),
         };
     }
-    let mut object = JsonLine::new(alloc);
-    object.put_number("bytes", size as u64)?;
-    object.put_address("destination", *destination)?;
-    object.put_text_if("file", path)?;
-    object.put_number("first_line", *first_line)?;
-    object.put_text("kind", "unended")?;
-    object.put_number("pieces", *pieces)?;
-    object.put_address("source", *source)?;
-    object.write(out)
+    let members = [
+        ("bytes", Cell::Number(size as u64)),
+        ("destination", Cell::Hex(*destination)),
+        ("file", Cell::text_if(path)),
+        ("first_line", Cell::Number(*first_line)),
+        ("kind", Cell::Text("unended")),
+        ("pieces", Cell::Number(*pieces)),
+        ("source", Cell::Hex(*source)),
+    ];
+    put_line(alloc, &members, out)
 }

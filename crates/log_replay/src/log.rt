@@ -208,10 +208,8 @@ impl<'a> Log<'a> {
         files: &mut F,
         errors: &mut E,
     ) -> io::Result<()> {
-        let mut nobody = ();
-        let mut all = Reading {
+        let mut all = ReadLines {
             reader: LogReader::new(self.alloc, None),
-            pass: &mut nobody,
         };
         let mut nothing = Vec::new(self.alloc);
         if self.can_be_read_again() && !self.each_line(&mut all, files, &mut nothing, errors)? {
@@ -294,5 +292,25 @@ impl<F, W, E, P: Pass<F, W, E>> TakeLine<F, W, E> for Reading<'_, P> {
     ) -> io::Result<()> {
         let reading = self.reader.read(line)?;
         self.pass.line(number, reading, files, out, errors)
+    }
+}
+
+/// Only reads each line.
+#[derive(Drop)]
+struct ReadLines<'a> {
+    reader: LogReader<'a>,
+}
+
+impl<F, W, E> TakeLine<F, W, E> for ReadLines<'_> {
+    fn take_line(
+        &mut self,
+        _number: u64,
+        line: &[u8],
+        _files: &mut F,
+        _out: &mut W,
+        _errors: &mut E,
+    ) -> io::Result<()> {
+        let _ = self.reader.read(line)?;
+        Ok(())
     }
 }

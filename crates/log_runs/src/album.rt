@@ -7,7 +7,7 @@ use std::alloc::{AllocError, Global};
 use std::collections::BTreeMap;
 use std::io::{self, Write};
 use vt_can::{Line, LineFault};
-use vt_cli::{JsonLine, Open};
+use vt_cli::{Cell, JsonLine, Open};
 
 /// Writes a line of JSON for the screen at the beginning of a range of lines, and for each line of the range that changed its text. A
 /// picture has a line of its own before its first use. No more than `most` pictures are written. Returns how many screens are left out
@@ -102,11 +102,13 @@ impl Album {
             },
         };
         let mut line = JsonLine::new(self.alloc);
-        line.put_text("kind", "screen")?;
-        line.put_number("line", number)?;
-        line.put_number_if("picture", picture)?;
+        line.put_all(&[
+            ("kind", Cell::Text("screen")),
+            ("line", Cell::Number(number)),
+            ("picture", Cell::number_if(picture)),
+            ("time", Cell::Number(self.now)),
+        ])?;
         self.screens.put_shown(&mut line)?;
-        line.put_number("time", self.now)?;
         line.write(out)
     }
 

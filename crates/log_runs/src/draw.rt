@@ -7,7 +7,7 @@ use log_words::{DrawOptions, Format};
 use std::alloc::Global;
 use std::io::{self, Write};
 use vt_can::{Line, LineFault};
-use vt_cli::{JsonLine, Open, Save, Status, make_folder, save_file, tell_replaced};
+use vt_cli::{Cell, JsonLine, Open, Save, Status, make_folder, save_file, tell_replaced};
 
 /// Draws the screen after each line of a log that changes the screen's text.
 pub fn run_draw<F: Open + Save, W: Write, E: Messages>(
@@ -141,11 +141,13 @@ impl Gallery<'_> {
     /// Writes the same as an object of JSON.
     fn put_fields<W: Write>(&self, number: u64, path: Option<&str>, out: &mut W) -> io::Result<()> {
         let mut line = JsonLine::new(self.alloc);
-        line.put_text_if("file", path)?;
-        line.put_text("kind", "screen")?;
-        line.put_number("line", number)?;
+        line.put_all(&[
+            ("file", Cell::text_if(path)),
+            ("kind", Cell::Text("screen")),
+            ("line", Cell::Number(number)),
+            ("time", Cell::Number(self.sieve.now())),
+        ])?;
         self.screens.put_shown(&mut line)?;
-        line.put_number("time", self.sieve.now())?;
         line.write(out)
     }
 }

@@ -5,7 +5,7 @@ use std::alloc::{AllocError, Global};
 use std::io::{self, Write};
 use vt_can::assigned::GLOBAL_ADDRESS;
 use vt_can::{Frame, Line, LineFault, write_frame};
-use vt_cli::JsonLine;
+use vt_cli::{Cell, JsonLine};
 
 /// The front of an output in a trace.
 const OUTPUT: &[u8] = b"    ";
@@ -73,22 +73,26 @@ impl<'a> TracedLine<'a> {
     /// Adds the members of a line with a frame.
     fn put_frame(&self, time: u64, frame: &Frame, line: &mut JsonLine) -> Result<(), AllocError> {
         let destination = frame.id.destination().unwrap_or(GLOBAL_ADDRESS);
-        line.put_address("destination", destination)?;
+        line.put_all(&[
+            ("destination", Cell::Hex(destination)),
+            ("kind", Cell::Text("frame")),
+            ("source", Cell::Hex(frame.id.source())),
+            ("time", Cell::Number(time)),
+        ])?;
         line.put_bytes_if("frame", Some(&write_frame(frame)))?;
-        line.put_text("kind", "frame")?;
-        line.put_address("source", frame.id.source())?;
-        line.put_number("time", time)?;
         // The time is in front of the words.
         line.put_bytes_if("words", Some(behind_space(self.head())))
     }
 
     /// Adds the members of a line without a frame. Its time is the latest one so far.
     fn put_other(&self, kind: &str, line: &mut JsonLine) -> Result<(), AllocError> {
-        line.put("destination", Value::Null)?;
-        line.put("frame", Value::Null)?;
-        line.put_text("kind", kind)?;
-        line.put("source", Value::Null)?;
-        line.put_number("time", self.now)?;
+        line.put_all(&[
+            ("destination", Cell::Null),
+            ("frame", Cell::Null),
+            ("kind", Cell::Text(kind)),
+            ("source", Cell::Null),
+            ("time", Cell::Number(self.now)),
+        ])?;
         line.put_bytes_if("words", Some(self.head()))
     }
 

@@ -7,7 +7,7 @@ use log_traffic::{Counts, Percent, Seconds, load_of};
 use std::alloc::{AllocError, Global};
 use std::fmt;
 use std::io::{self, Write};
-use vt_cli::JsonLine;
+use vt_cli::{Cell, put_line};
 use vt_frames_text::Count;
 
 /// The microseconds of a second.
@@ -30,13 +30,14 @@ impl BusySecond {
 
     /// Writes it as a line of JSON of this `"kind"`.
     fn put_json<W: Write>(&self, alloc: Global, kind: &str, out: &mut W) -> io::Result<()> {
-        let mut line = JsonLine::new(alloc);
-        line.put_number("bits", self.counts.bits)?;
-        line.put_number("frames", self.counts.frames)?;
-        line.put_text("kind", kind)?;
-        line.put_number("load", self.load())?;
-        line.put_number("start", self.start)?;
-        line.write(out)
+        let members = [
+            ("bits", Cell::Number(self.counts.bits)),
+            ("frames", Cell::Number(self.counts.frames)),
+            ("kind", Cell::Text(kind)),
+            ("load", Cell::Number(self.load())),
+            ("start", Cell::Number(self.start)),
+        ];
+        put_line(alloc, &members, out)
     }
 }
 

@@ -5,7 +5,7 @@ use log_traffic::Seconds;
 use std::alloc::Global;
 use std::fmt;
 use std::io::{self, Write};
-use vt_cli::JsonLine;
+use vt_cli::{Cell, put_line};
 use vt_frames_text::Count;
 
 /// The most microseconds from a frame to the next one that are no step ahead.
@@ -32,13 +32,14 @@ impl Steps {
         if self.found.count == 0 {
             return Ok(());
         }
-        let mut line = JsonLine::new(alloc);
-        line.put_number("count", self.found.count)?;
-        line.put_text("direction", direction)?;
-        line.put_number("first_line", self.found.first_line)?;
-        line.put_number("greatest", self.greatest)?;
-        line.put_text("kind", "clock")?;
-        line.write(out)
+        let members = [
+            ("count", Cell::Number(self.found.count)),
+            ("direction", Cell::Text(direction)),
+            ("first_line", Cell::Number(self.found.first_line)),
+            ("greatest", Cell::Number(self.greatest)),
+            ("kind", Cell::Text("clock")),
+        ];
+        put_line(alloc, &members, out)
     }
 }
 

@@ -6,7 +6,7 @@ use log_traffic::{LongTransfer, Share, TrafficReport, Transfers};
 use serde_json::Value;
 use std::alloc::{AllocError, Global};
 use std::io::{self, Write};
-use vt_cli::JsonLine;
+use vt_cli::{Cell, JsonLine, put_line};
 
 /// How the numbers of a log are written as lines of JSON.
 #[derive(Clone, Copy, Drop)]
@@ -30,67 +30,82 @@ impl Fields<'_> {
     }
 
     fn put_log<W: Write>(&self, report: &TrafficReport, out: &mut W) -> io::Result<()> {
-        let mut line = JsonLine::new(self.alloc);
-        line.put_number("bytes", report.total.bytes)?;
-        line.put_number("first_line", report.first_line)?;
-        line.put_number("first_time", report.first_time)?;
-        line.put_number("frames", report.total.frames)?;
-        line.put_text("kind", "log")?;
-        line.put_number("last_line", report.last_line)?;
-        line.put_number("last_time", report.last_time)?;
-        line.put_number_if("load", report.load)?;
-        line.put_number("seen_twice", report.seen_twice)?;
-        line.write(out)
+        let members = [
+            ("bytes", Cell::Number(report.total.bytes)),
+            ("first_line", Cell::Number(report.first_line)),
+            ("first_time", Cell::Number(report.first_time)),
+            ("frames", Cell::Number(report.total.frames)),
+            ("kind", Cell::Text("log")),
+            ("last_line", Cell::Number(report.last_line)),
+            ("last_time", Cell::Number(report.last_time)),
+            ("load", Cell::number_if(report.load)),
+            ("seen_twice", Cell::Number(report.seen_twice)),
+        ];
+        put_line(self.alloc, &members, out)
     }
 
     fn put_share<W: Write>(&self, share: &Share, out: &mut W) -> io::Result<()> {
-        let mut line = JsonLine::new(self.alloc);
-        line.put_number("bytes", share.counts.bytes)?;
-        line.put_number("frames", share.counts.frames)?;
-        line.put_text("kind", "source")?;
-        line.put_number_if("load", share.load)?;
-        line.put_address("source", share.source)?;
-        line.write(out)
+        let members = [
+            ("bytes", Cell::Number(share.counts.bytes)),
+            ("frames", Cell::Number(share.counts.frames)),
+            ("kind", Cell::Text("source")),
+            ("load", Cell::number_if(share.load)),
+            ("source", Cell::Hex(share.source)),
+        ];
+        put_line(self.alloc, &members, out)
     }
 
     fn put_transfers<W: Write>(&self, transfers: Transfers, out: &mut W) -> io::Result<()> {
-        let longest = match transfers.longest {
+        let Transfers {
+            whole,
+            broken,
+            unended,
+            repeated_packets,
+            longest,
+        } = transfers;
+        let longest = match longest {
             Some(longest) => self.longest_value(longest)?,
             None => Value::Null,
         };
         let mut line = JsonLine::new(self.alloc);
         line.put("longest", longest)?;
-        line.put_number("broken", transfers.broken)?;
-        line.put_text("kind", "transfers")?;
-        line.put_number("repeated_packets", transfers.repeated_packets)?;
-        line.put_number("unended", transfers.unended)?;
-        line.put_number("whole", transfers.whole)?;
+        line.put_all(&[
+            ("broken", Cell::Number(broken)),
+            ("kind", Cell::Text("transfers")),
+            ("repeated_packets", Cell::Number(repeated_packets)),
+            ("unended", Cell::Number(unended)),
+            ("whole", Cell::Number(whole)),
+        ])?;
         line.write(out)
     }
 
     fn longest_value(&self, longest: LongTransfer) -> Result<Value, AllocError> {
         let mut object = JsonLine::new(self.alloc);
-        object.put_number("bytes", longest.bytes)?;
-        object.put_address("destination", longest.destination)?;
-        object.put_number("line", longest.line)?;
-        object.put_address("source", longest.source)?;
-        object.put_number("time", longest.time)?;
+        object.put_all(&[
+            ("bytes", Cell::Number(longest.bytes)),
+            ("destination", Cell::Hex(longest.destination)),
+            ("line", Cell::Number(longest.line)),
+            ("source", Cell::Hex(longest.source)),
+            ("time", Cell::Number(longest.time)),
+        ])?;
         Ok(object.into_value())
     }
 
     /// Writes the line of a working set.
     pub(crate) fn put_set<W: Write>(&self, set: &SetReach, out: &mut W) -> io::Result<()> {
         let mut line = JsonLine::new(self.alloc);
-        line.put_number("done", set.done)?;
-        line.put_text("kind", "set")?;
+        line.put_all(&[
+            ("done", Cell::Number(set.done)),
+            ("kind", Cell::Text("set")),
+            ("refused", Cell::Number(set.refused)),
+            ("source", Cell::Hex(set.address)),
+        ])?;
         self.put_objects("macros_never", set.macros_never.as_slice(), &mut line)?;
         self.put_objects("macros_reached", set.macros_reached.as_slice(), &mut line)?;
         self.put_objects("masks_never", set.masks_never.as_slice(), &mut line)?;
         self.put_objects("masks_shown", set.masks_shown.as_slice(), &mut line)?;
         self.put_objects("objects_drawn", set.objects_drawn.as_slice(), &mut line)?;
         self.put_objects("objects_never", set.objects_never.as_slice(), &mut line)?;
-        line.put_number("refused", set.refused)?;
-        line.put_address("source", set.address)?;
         line.write(out)
     }
 

@@ -5,7 +5,7 @@ use std::alloc::{AllocError, Global};
 use std::collections::BTreeMap;
 use std::fmt;
 use std::io::{self, Write};
-use vt_cli::JsonLine;
+use vt_cli::{Cell, JsonLine};
 use vt_frames_text::{Count, ParameterGroup, function_name};
 
 /// How many frames each parameter group has, and how many messages each function. Its `Display` writes a line for each of them. The memory
@@ -53,10 +53,12 @@ impl Groups {
     pub(crate) fn put_json<W: Write>(&self, alloc: Global, out: &mut W) -> io::Result<()> {
         for (pgn, frames) in self.frames.iter() {
             let mut line = JsonLine::new(alloc);
-            line.put_number("frames", *frames)?;
+            line.put_all(&[
+                ("frames", Cell::Number(*frames)),
+                ("kind", Cell::Text("group")),
+                ("name", Cell::text_if(ParameterGroup(*pgn).name())),
+            ])?;
             put_group(&mut line, *pgn)?;
-            line.put_text("kind", "group")?;
-            line.put_text_if("name", ParameterGroup(*pgn).name())?;
             line.write(out)?;
         }
         for direction in [Direction::ToTerminal, Direction::OfTerminal] {
@@ -138,10 +140,12 @@ fn put_function<W: Write>(
     out: &mut W,
 ) -> io::Result<()> {
     let mut line = JsonLine::new(alloc);
-    line.put_address("function", function)?;
+    line.put_all(&[
+        ("function", Cell::Hex(function)),
+        ("kind", Cell::Text("function")),
+        ("messages", Cell::Number(count)),
+        ("name", Cell::text_if(function_name(function))),
+    ])?;
     put_group(&mut line, direction.group())?;
-    line.put_text("kind", "function")?;
-    line.put_number("messages", count)?;
-    line.put_text_if("name", function_name(function))?;
     line.write(out)
 }

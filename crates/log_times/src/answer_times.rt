@@ -10,7 +10,7 @@ use std::alloc::{AllocError, Global};
 use std::collections::BTreeMap;
 use std::fmt;
 use std::io::{self, Write};
-use vt_cli::JsonLine;
+use vt_cli::{Cell, put_line};
 use vt_frames_text::{Count, function_name};
 
 /// What is known of the requests with a function.
@@ -163,16 +163,21 @@ impl FunctionTimes {
         kind: &str,
         out: &mut W,
     ) -> io::Result<()> {
-        let mut line = JsonLine::new(alloc);
         let found = self.times;
-        line.put_number("answers", found.map_or(0, |found| found.count))?;
-        line.put_address("function", self.function)?;
-        line.put_number_if("greatest", found.map(|found| u64::from(found.greatest)))?;
-        line.put_text("kind", kind)?;
-        line.put_number_if("least", found.map(|found| u64::from(found.least)))?;
-        line.put_number_if("median", found.map(|found| u64::from(found.median)))?;
-        line.put_text_if("name", function_name(self.function))?;
-        line.put_number("unanswered", self.unanswered)?;
-        line.write(out)
+        let answers = found.map_or(0, |found| found.count);
+        let greatest = found.map(|found| u64::from(found.greatest));
+        let least = found.map(|found| u64::from(found.least));
+        let median = found.map(|found| u64::from(found.median));
+        let members = [
+            ("answers", Cell::Number(answers)),
+            ("function", Cell::Hex(self.function)),
+            ("greatest", Cell::number_if(greatest)),
+            ("kind", Cell::Text(kind)),
+            ("least", Cell::number_if(least)),
+            ("median", Cell::number_if(median)),
+            ("name", Cell::text_if(function_name(self.function))),
+            ("unanswered", Cell::Number(self.unanswered)),
+        ];
+        put_line(alloc, &members, out)
     }
 }

@@ -10,7 +10,7 @@ use std::collections::BTreeMap;
 use std::fmt;
 use std::io::{self, Write};
 use vt_can::assigned::{ECU_TO_VT, GLOBAL_ADDRESS, VT_STATUS, VT_TO_ECU};
-use vt_cli::JsonLine;
+use vt_cli::{Cell, JsonLine};
 use vt_frames_text::MAINTENANCE;
 
 /// Messages that are sent each second.
@@ -146,26 +146,22 @@ impl fmt::Display for SignalGaps {
 impl SignalGaps {
     /// Writes them as a line of JSON.
     pub(crate) fn put_json<W: Write>(&self, alloc: Global, out: &mut W) -> io::Result<()> {
-        let mut line = JsonLine::new(alloc);
-        line.put_number("count", self.count)?;
-        match self.signal {
-            Signal::Status { source } => {
-                line.put("destination", Value::Null)?;
-                line.put_address("function", VT_STATUS)?;
-                put_group(&mut line, VT_TO_ECU)?;
-                line.put_address("source", source)?;
-            }
+        let (destination, function, group, source) = match self.signal {
+            Signal::Status { source } => (Cell::Null, VT_STATUS, VT_TO_ECU, source),
             Signal::Maintenance {
                 source,
                 destination,
-            } => {
-                line.put_address("destination", destination)?;
-                line.put_address("function", MAINTENANCE)?;
-                put_group(&mut line, ECU_TO_VT)?;
-                line.put_address("source", source)?;
-            }
-        }
-        line.put_text("kind", "gaps")?;
+            } => (Cell::Hex(destination), MAINTENANCE, ECU_TO_VT, source),
+        };
+        let mut line = JsonLine::new(alloc);
+        line.put_all(&[
+            ("count", Cell::Number(self.count)),
+            ("destination", destination),
+            ("function", Cell::Hex(function)),
+            ("kind", Cell::Text("gaps")),
+            ("source", Cell::Hex(source)),
+        ])?;
+        put_group(&mut line, group)?;
         line.put("longest", self.longest_value(alloc)?)?;
         line.write(out)
     }
@@ -173,15 +169,13 @@ impl SignalGaps {
     /// The longest gap by its length and the lines around it. The line after it is null if it lasts to the end of the log.
     fn longest_value(&self, alloc: Global) -> Result<Value, AllocError> {
         let Gap { from, to } = self.longest;
-        let last_line = if self.reaches_end {
-            None
-        } else {
-            Some(to.line)
-        };
+        let last_line = (!self.reaches_end).then_some(to.line);
         let mut object = JsonLine::new(alloc);
-        object.put_number("first_line", from.line)?;
-        object.put_number_if("last_line", last_line)?;
-        object.put_number("time", self.longest.length())?;
+        object.put_all(&[
+            ("first_line", Cell::Number(from.line)),
+            ("last_line", Cell::number_if(last_line)),
+            ("time", Cell::Number(self.longest.length())),
+        ])?;
         Ok(object.into_value())
     }
 }

@@ -3,7 +3,7 @@
 use std::alloc::Global;
 use std::fmt;
 use std::io::{self, Write};
-use vt_cli::JsonLine;
+use vt_cli::{Cell, put_line};
 
 /// How often something occurs in a log, and where first.
 #[derive(Clone, Copy, Default, PartialEq, Eq)]
@@ -25,23 +25,24 @@ impl Occurrences {
     }
 
     /// Writes a line of JSON of this `"kind"`, with a member that names what occurs, unless it does not occur.
-    pub fn put_json<W: Write>(
+    pub fn put_json<'a, W: Write>(
         &self,
         alloc: Global,
-        kind: &str,
-        member: &str,
-        name: &str,
+        kind: &'a str,
+        member: &'a str,
+        name: &'a str,
         out: &mut W,
     ) -> io::Result<()> {
         if self.count == 0 {
             return Ok(());
         }
-        let mut line = JsonLine::new(alloc);
-        line.put_number("count", self.count)?;
-        line.put_number("first_line", self.first_line)?;
-        line.put_text("kind", kind)?;
-        line.put_text(member, name)?;
-        line.write(out)
+        let members = [
+            ("count", Cell::Number(self.count)),
+            ("first_line", Cell::Number(self.first_line)),
+            ("kind", Cell::Text(kind)),
+            (member, Cell::Text(name)),
+        ];
+        put_line(alloc, &members, out)
     }
 }
 
