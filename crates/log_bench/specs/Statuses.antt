@@ -1,6 +1,6 @@
 -- The status of a test.
 use Rattle.std.specs.Prelude.{List, [], ◌∷◌}
-use Rattle.log_bench.specs.declared.difference.LineDifference.{LineDifference}
+use Rattle.log_expect.specs.declared.difference.LineDifference.{LineDifference}
 use Rattle.log_bench.specs.declared.outcome.Outcome.{Outcome}
 use Rattle.log_bench.specs.declared.outcome.Outcome.TheVariants as outcome
 use Rattle.vt_cli.specs.declared.status.Status.{Status}

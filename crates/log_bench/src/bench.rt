@@ -3,7 +3,7 @@
 use crate::entries::Entry;
 use crate::outcome::Outcome;
 use crate::report::{put_differences, put_outcome};
-use crate::{Blessed, bless, differences};
+use log_expect::{Blessed, bless, differences};
 use log_replay::{LoadedSet, new_terminal, tell_loss, tell_no_frame};
 use log_words::{Format, TerminalOptions};
 use std::alloc::Global;

@@ -3,7 +3,7 @@
 ghost use Rattle.std.specs.Prelude.{◌≡◌};
 ghost use Rattle.log_bench.specs.Statuses.{outcome_status, status_of};
 
-use crate::LineDifference;
+use log_expect::LineDifference;
 use vt_cli::Status;
 
 /// What became of a log.

@@ -1,8 +1,7 @@
 //! The reports of a test, as text and as lines of JSON.
 
-use crate::LineDifference;
-use crate::expectation::line_fits;
 use crate::outcome::Outcome;
+use log_expect::{LineDifference, line_fits};
 use log_words::Format;
 use serde_json::Value;
 use std::alloc::{AllocError, Global};

@@ -1,5 +1,0 @@
-use Rattle.log_bench.proofs.NoDifference.{as-expected}
-use Rattle.log_bench.proofs.laws.a_test_without_differences_is_as_expected.Goals as goal
-
-pub returns : goal.returns
-returns c = as-expected
