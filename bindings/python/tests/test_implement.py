@@ -1,6 +1,7 @@
 """The simulated implement: its sessions against each other, and its life with a terminal on a simulated bus."""
 from __future__ import annotations
 
+import re
 import unittest
 
 from segyolant import Terminal, commands
@@ -8,12 +9,12 @@ from segyolant.bus import SECOND, Bus
 from segyolant.canid import ETP_CONTROL, TP_CONTROL, TP_DATA, identifier
 from segyolant.frames import group_of
 from segyolant.host import Host
-from segyolant.implement import Implement
+from segyolant.implement import ERROR_AT, Implement
 from segyolant.node import TerminalNode
 from segyolant.objects import objects_in
 from segyolant.sprayer import Sprayer, full_pool
 from segyolant.transport import Receiver, Sender
-from tests.support import EXAMPLES, example
+from tests.support import EXAMPLES, TOP, example
 
 SET, OWN, TO_TERMINAL = 0x80, 0x26, 0xE700
 POOL = example('pool.iop')
@@ -39,6 +40,14 @@ def exchange(size: int, lost: set[int] = set()) -> tuple[bytes | None, str, int]
         else:
             waiting += [(True, each) for each in sender.hear(time, frame.group, frame.data)]
     return came, sender.fault, time
+
+
+class Rows(unittest.TestCase):
+    def test_errors_are_where_the_terminal_has_them(self) -> None:
+        folder = TOP / 'crates/vt_commands/src'
+        numbers = dict(re.findall(r'pub const (\w+): u8 = (0x\w+);', (folder / 'function.rt').read_text()))
+        rows = re.findall(r'function::(\w+) => CommandRow \{[^}]*?error_at: (\d+)', (folder / 'row.rt').read_text())
+        self.assertEqual({int(numbers[name], 16): int(at) for name, at in rows}, ERROR_AT)
 
 
 class Sessions(unittest.TestCase):
