@@ -17,6 +17,6 @@ mod transfer;
 mod turn;
 
 pub use endings::Endings;
-pub use sorter::{Sorter, Spoiled};
+pub use sorter::{Sorter, Spoiled, SpoiledBy};
 pub use transfer::{LateFrame, Moved};
 pub use turn::{Turn, take};

@@ -5,19 +5,31 @@ use crate::marks::{Mark, Sender};
 use crate::transfer::{Ends, LateFrame, Moved, Transfer};
 use crate::turn::Turn;
 use std::alloc::{AllocError, Global};
-use std::collections::{BTreeMap, VecDeque};
+use std::collections::{BTreeMap, BTreeSet, VecDeque};
 use vt_can::Frame;
-use vt_can::assigned::ADDRESS_CLAIMED;
+use vt_can::assigned::{ADDRESS_CLAIMED, ETP_TIMEOUT, TP_TIMEOUT};
+
+/// Why this terminal does not receive a message in packets.
+#[derive(Clone, Copy, PartialEq, Eq)]
+pub enum SpoiledBy {
+    /// The recorded terminal has received it, so packets of it are not in the log.
+    LostPacket,
+    /// The recorded terminal has received it, so its request is not in the log.
+    LostRequest,
+    /// A packet came out of order, and the log does not show what the recorded terminal did.
+    Order,
+    /// Its next packet did not come in time, and the log does not show what the recorded terminal did.
+    Silence,
+}
 
 /// A message in packets that this terminal does not receive.
 #[derive(Clone, Copy)]
 pub struct Spoiled {
-    /// Whether the recorded terminal has received it: then packets of it are not in the log. Otherwise the log does not show what the
-    /// recorded terminal did.
-    pub is_lost: bool,
-    /// The line at which this is known.
+    /// Why it does not.
+    pub by: SpoiledBy,
+    /// The line at which this is known; if it is by silence, the line of the last frame before it.
     pub line: u64,
-    /// The line of the request.
+    /// The line of the request. 0 if it is not in the log.
     pub request: u64,
     /// The address of the sender.
     pub source: u8,
@@ -35,7 +47,13 @@ pub struct Sorter<'a> {
     own: u8,
     /// The NAME of the terminal.
     name: u64,
+    /// The latest time, in microseconds.
+    now: u64,
     transfers: BTreeMap<Sender, Transfer>,
+    /// The senders whose last request has no end message so far.
+    requested: BTreeSet<Sender>,
+    /// The others of which a packet has come since.
+    strays: BTreeSet<Sender>,
     /// How the messages ended with the recorded terminal.
     endings: &'a Endings,
     /// The packets whose turn has come with the last frame.
@@ -53,7 +71,10 @@ impl<'a> Sorter<'a> {
             alloc,
             own,
             name,
+            now: 0,
             transfers: BTreeMap::new(alloc),
+            requested: BTreeSet::new(alloc),
+            strays: BTreeSet::new(alloc),
             endings,
             late: VecDeque::new(alloc),
             moved: Moved::default(),
@@ -61,10 +82,11 @@ impl<'a> Sorter<'a> {
         }
     }
 
-    /// The turn of the frame of a line. The frames whose turn comes after it are in `late`. After `OutOfMemory` the sorter is of no more
-    /// use.
+    /// The turn of the frame of a line, with its time in microseconds. The frames whose turn comes after it are in `late`. After
+    /// `OutOfMemory` the sorter is of no more use.
     #[inline]
-    pub fn turn(&mut self, line: u64, frame: &Frame) -> Result<Turn, AllocError> {
+    pub fn turn(&mut self, line: u64, time: u64, frame: &Frame) -> Result<Turn, AllocError> {
+        self.now = self.now.max(time);
         let Some(mark) = Mark::in_frame(frame, self.own) else {
             return Ok(self.turn_of_other(frame));
         };
@@ -75,7 +97,11 @@ impl<'a> Sorter<'a> {
                 self.packet(line, sender, sequence, packet)
             }
             Mark::End(sender) => self.end(line, sender),
-            Mark::Refused(sender) | Mark::Abort(sender) => {
+            Mark::Refused(sender) => {
+                self.request(sender)?;
+                Ok(self.turn_of_other(frame))
+            }
+            Mark::Abort(sender) => {
                 self.close(sender)?;
                 Ok(self.turn_of_other(frame))
             }
@@ -104,10 +130,18 @@ impl<'a> Sorter<'a> {
             source: sender.address,
             destination: self.own,
         };
-        self.close(sender)?;
-        let transfer = Transfer::new(self.alloc, line, ends, size);
+        self.request(sender)?;
+        let transfer = Transfer::new(self.alloc, (line, self.now), ends, size);
         self.transfers.insert(sender, transfer)?;
         Ok(Turn::Now)
+    }
+
+    /// Ends the message of a sender, which requests to send another one.
+    fn request(&mut self, sender: Sender) -> Result<(), AllocError> {
+        self.close(sender)?;
+        self.strays.remove(&sender);
+        self.requested.insert(sender)?;
+        Ok(())
     }
 
     /// The sender says which packets come next.
@@ -122,6 +156,7 @@ impl<'a> Sorter<'a> {
             return Ok(Turn::Now);
         };
         if transfer.is_offset(offset, count) {
+            transfer.last = (line, self.now);
             self.transfers.insert(sender, transfer)?;
             return Ok(Turn::Now);
         }
@@ -141,10 +176,14 @@ impl<'a> Sorter<'a> {
         sequence: u8,
         packet: [u8; 7],
     ) -> Result<Turn, AllocError> {
+        let now = self.now;
         let Some(transfer) = self.transfers.get_mut(&sender) else {
-            return Ok(Turn::Now);
+            return self.stray(sender);
         };
         let is_next = transfer.is_packet(sequence);
+        if is_next {
+            transfer.last = (line, now);
+        }
         if is_next && !transfer.is_sorted && !transfer.is_whole() {
             return Ok(Turn::Now);
         }
@@ -169,21 +208,39 @@ impl<'a> Sorter<'a> {
         Ok(turn)
     }
 
+    /// A packet comes that belongs to no message on its way.
+    fn stray(&mut self, sender: Sender) -> Result<Turn, AllocError> {
+        if !self.requested.contains(&sender) {
+            self.strays.insert(sender)?;
+        }
+        Ok(Turn::Now)
+    }
+
     /// The recorded terminal says that it has received a message.
     fn end(&mut self, line: u64, sender: Sender) -> Result<Turn, AllocError> {
+        self.requested.remove(&sender);
+        let is_stray = self.strays.remove(&sender);
         if let Some(mut transfer) = self.transfers.remove(&sender) {
             transfer.end = Some(line);
             self.transfers.insert(sender, transfer)?;
+        } else if is_stray {
+            self.spoiled.push(Spoiled {
+                by: SpoiledBy::LostRequest,
+                line,
+                request: 0,
+                source: sender.address,
+                missing: 1,
+            })?;
         }
         Ok(Turn::Own)
     }
 
-    /// Ends the message of a sender. If the recorded terminal has received it, packets of it are not in the log.
+    /// Ends the message of a sender, and notes if it is spoiled.
     fn close(&mut self, sender: Sender) -> Result<(), AllocError> {
         let Some(transfer) = self.transfers.remove(&sender) else {
             return Ok(());
         };
-        if let Some(spoiled) = lost(sender, &transfer) {
+        if let Some(spoiled) = self.spoiled_by(sender, &transfer) {
             self.spoiled.push(spoiled)?;
         }
         Ok(())
@@ -191,12 +248,13 @@ impl<'a> Sorter<'a> {
 
     /// Ends the messages of all senders, at the end of the log.
     pub fn close_all(&mut self) -> Result<(), AllocError> {
-        for (sender, transfer) in self.transfers.iter() {
-            if let Some(spoiled) = lost(*sender, transfer) {
-                self.spoiled.push(spoiled)?;
-            }
+        let mut open = Vec::new(self.alloc);
+        for sender in self.transfers.keys() {
+            open.push(*sender)?;
         }
-        self.transfers.clear();
+        for sender in open.iter() {
+            self.close(*sender)?;
+        }
         self.spoiled.sort_by_key(|spoiled| spoiled.line)?;
         Ok(())
     }
@@ -215,7 +273,7 @@ impl<'a> Sorter<'a> {
             Ending::Received => transfer.is_sorted = true,
             Ending::Aborted => {}
             Ending::Unknown => self.spoiled.push(Spoiled {
-                is_lost: false,
+                by: SpoiledBy::Order,
                 line,
                 request: transfer.request,
                 source: sender.address,
@@ -224,15 +282,33 @@ impl<'a> Sorter<'a> {
         }
         Ok(transfer.is_sorted)
     }
-}
 
-/// What is spoiled by a message whose packets have not all come, if the recorded terminal has received it.
-fn lost(sender: Sender, transfer: &Transfer) -> Option<Spoiled> {
-    Some(Spoiled {
-        is_lost: true,
-        line: transfer.end?,
-        request: transfer.request,
-        source: sender.address,
-        missing: transfer.missing(),
-    })
+    /// What is spoiled by a message whose packets have not all come: if the recorded terminal has received it, or if its next packet is
+    /// overdue and the log does not show how it ended.
+    fn spoiled_by(&self, sender: Sender, transfer: &Transfer) -> Option<Spoiled> {
+        let (by, line) = match transfer.end {
+            Some(line) => (SpoiledBy::LostPacket, line),
+            None => (SpoiledBy::Silence, self.overdue_since(sender, transfer)?),
+        };
+        Some(Spoiled {
+            by,
+            line,
+            request: transfer.request,
+            source: sender.address,
+            missing: transfer.missing(),
+        })
+    }
+
+    /// The line of the last frame of a message whose next packet is overdue, if the log does not show how the message ended.
+    fn overdue_since(&self, sender: Sender, transfer: &Transfer) -> Option<u64> {
+        let (line, time) = transfer.last;
+        let timeout = if sender.is_extended {
+            ETP_TIMEOUT
+        } else {
+            TP_TIMEOUT
+        };
+        let is_overdue = self.now.saturating_sub(time) > timeout;
+        let is_unknown = self.endings.of(transfer.request) == Ending::Unknown;
+        (is_overdue && is_unknown).then_some(line)
+    }
 }

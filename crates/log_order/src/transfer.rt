@@ -51,6 +51,8 @@ pub(crate) struct Transfer {
     full: u32,
     /// The line of the recorded terminal's end message, if it came before the last packet.
     pub(crate) end: Option<u64>,
+    /// The line and the time of its last frame that the terminal has received.
+    pub(crate) last: (u64, u64),
     held: BTreeMap<u32, Held>,
     /// Its frames that the terminal does not receive at their lines.
     pub(crate) moved: Moved,
@@ -88,11 +90,11 @@ impl Moved {
 }
 
 impl Transfer {
-    /// A message of so many bytes, before its first packet. Does not allocate.
-    pub(crate) fn new(alloc: Global, request: u64, ends: Ends, size: u32) -> Transfer {
+    /// A message of so many bytes, before its first packet, with the line and the time of its request. Does not allocate.
+    pub(crate) fn new(alloc: Global, request: (u64, u64), ends: Ends, size: u32) -> Transfer {
         let packets = size.div_ceil(7);
         Transfer {
-            request,
+            request: request.0,
             is_sorted: false,
             ends,
             packets,
@@ -105,6 +107,7 @@ impl Transfer {
             },
             full: 0,
             end: None,
+            last: request,
             held: BTreeMap::new(alloc),
             moved: Moved::default(),
         }

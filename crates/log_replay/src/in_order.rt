@@ -1,7 +1,7 @@
 //! Passes over the lines of a log, for a terminal that replays it.
 
 use crate::log::Pass;
-use log_order::{Moved, Sorter, Spoiled, Turn};
+use log_order::{Moved, Sorter, Spoiled, SpoiledBy, Turn};
 use std::alloc::AllocError;
 use std::io::{self, Write};
 use vt_can::{Line, LineFault};
@@ -55,26 +55,7 @@ impl<'a, P> InOrder<'a, P> {
             );
         }
         for spoiled in self.sorter.spoiled.iter() {
-            let Spoiled {
-                is_lost,
-                line,
-                request,
-                source,
-                missing,
-            } = *spoiled;
-            let _ = if is_lost {
-                writeln!(
-                    errors,
-                    "{program}: {path}: line {line}: the recorded terminal received a message of {source:02X} (request in line {request}) whose packet {missing} is not in the log; this terminal did not, and may differ from there on"
-                )
-            } else if has_messages {
-                writeln!(
-                    errors,
-                    "{program}: {path}: line {line}: packet {missing} of a message of {source:02X} (request in line {request}) is expected here; this terminal aborts the message, and the log does not show whether the recorded one did"
-                )
-            } else {
-                Ok(())
-            };
+            tell_spoiled(*spoiled, path, has_messages, program, errors);
         }
         Ok(())
     }
@@ -96,7 +77,7 @@ impl<F, W, E, P: ReplayPass<F, W, E>> Pass<F, W, E> for InOrder<'_, P> {
                 .line(number, Turn::Now, reading, files, out, errors);
         };
         let time = *time;
-        let turn = self.sorter.turn(number, frame)?;
+        let turn = self.sorter.turn(number, time, frame)?;
         self.pass.line(number, turn, reading, files, out, errors)?;
         for _ in 0..self.sorter.late.len() {
             let Some(late) = self.sorter.late.pop_front() else {
@@ -109,4 +90,41 @@ impl<F, W, E, P: ReplayPass<F, W, E>> Pass<F, W, E> for InOrder<'_, P> {
         }
         Ok(())
     }
+}
+
+/// Writes to `errors` which message this terminal does not receive, and why. What the log does not show of the recorded terminal is only
+/// told if the log has messages of it.
+fn tell_spoiled<E: Write>(
+    spoiled: Spoiled,
+    path: &str,
+    has_messages: bool,
+    program: &str,
+    errors: &mut E,
+) {
+    let Spoiled {
+        by,
+        line,
+        request,
+        source,
+        missing,
+    } = spoiled;
+    let _ = match by {
+        SpoiledBy::LostPacket => writeln!(
+            errors,
+            "{program}: {path}: line {line}: the recorded terminal received a message of {source:02X} (request in line {request}) whose packet {missing} is not in the log; this terminal did not, and may differ from there on"
+        ),
+        SpoiledBy::LostRequest => writeln!(
+            errors,
+            "{program}: {path}: line {line}: the recorded terminal received a message of {source:02X} whose request is not in the log; this terminal did not, and may differ from there on"
+        ),
+        SpoiledBy::Order if has_messages => writeln!(
+            errors,
+            "{program}: {path}: line {line}: packet {missing} of a message of {source:02X} (request in line {request}) is expected here; this terminal aborts the message, and the log does not show whether the recorded one did"
+        ),
+        SpoiledBy::Silence if has_messages => writeln!(
+            errors,
+            "{program}: {path}: line {line}: packet {missing} of a message of {source:02X} (request in line {request}) does not follow in time; this terminal aborts the message, and the log does not show whether the recorded one did"
+        ),
+        SpoiledBy::Order | SpoiledBy::Silence => Ok(()),
+    };
 }
