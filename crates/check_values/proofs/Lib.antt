@@ -1,0 +1,3 @@
+-- Lemmas.
+pub mod Each
+pub mod Pairs

@@ -1,0 +1,93 @@
+//! Inputs where the operator cannot reach them, and keys without a code.
+
+ghost use Rattle.std.specs.Prelude.{◌≡◌, ◌++◌, OnOk};
+ghost use Rattle.vt_kinds.specs.Records.{seen};
+ghost use Rattle.check_values.specs.Inputs as spec;
+ghost use Rattle.check_values.specs.Listed.{each_from};
+
+use crate::warning::ValueWarning;
+use std::alloc::AllocError;
+use vt_objects::{Child, Object, ObjectId, SortedStore};
+use vt_shown::resolve;
+
+/// Appends the inputs and buttons among the children of an Alarm Mask or a Key.
+pub(crate) fn put_inputs_there(
+    objects: &SortedStore,
+    id: ObjectId,
+    object: &Object<Vec<u8>>,
+    found: &mut Vec<ValueWarning>,
+) -> Result<(), AllocError>
+    ensures { OnOk result (found.new.items ≡ found.old.items ++ spec.inputs_there objects.now id (seen object.now)) }
+{
+    match object {
+        Object::AlarmMask(o) => put_inputs(objects, id, o.children.as_slice(), found),
+        Object::Key(o) => put_inputs(objects, id, o.children.as_slice(), found),
+        _ => Ok(()),
+    }
+}
+
+fn put_inputs(
+    objects: &SortedStore,
+    parent: ObjectId,
+    children: &[Child],
+    found: &mut Vec<ValueWarning>,
+) -> Result<(), AllocError>
+    ensures { OnOk result (found.new.items ≡ found.old.items ++ each_from (spec.if_input objects.now parent) 0 children.now) }
+{
+    for (index, child) in children.iter().enumerate() {
+        put_if_input(objects, parent, index, *child, found)?;
+    }
+    Ok(())
+}
+
+/// Appends a child that is an input or a button, itself or by a pointer.
+fn put_if_input(
+    objects: &SortedStore,
+    parent: ObjectId,
+    index: usize,
+    child: Child,
+    found: &mut Vec<ValueWarning>,
+) -> Result<(), AllocError>
+    ensures { OnOk result (found.new.items ≡ found.old.items ++ spec.if_input objects.now parent index child) }
+{
+    match resolve(objects, child.id) {
+        Some((id, object)) if is_input(object) => {
+            found.push(ValueWarning::InputThere { parent, index, id })?;
+        }
+        _ => {}
+    }
+    Ok(())
+}
+
+/// Whether the operator enters something into an object, or presses it.
+fn is_input(object: &Object<Vec<u8>>) -> bool
+    ensures { result ≡ spec.is_input (seen object.now) }
+{
+    match object {
+        Object::Button(_)
+        | Object::InputBoolean(_)
+        | Object::InputString(_)
+        | Object::InputNumber(_)
+        | Object::InputList(_) => true,
+        _ => false,
+    }
+}
+
+/// Appends a Key or a Button with the code 0.
+pub(crate) fn put_no_codes(
+    id: ObjectId,
+    object: &Object<Vec<u8>>,
+    found: &mut Vec<ValueWarning>,
+) -> Result<(), AllocError>
+    ensures { OnOk result (found.new.items ≡ found.old.items ++ spec.no_codes id (seen object.now)) }
+{
+    let code = match object {
+        Object::Key(o) => o.key_code,
+        Object::Button(o) => o.key_code,
+        _ => return Ok(()),
+    };
+    if code == 0 {
+        found.push(ValueWarning::NoCode { id })?;
+    }
+    Ok(())
+}
