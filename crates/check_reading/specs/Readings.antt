@@ -145,7 +145,7 @@ NamesObjects found = AllByRecursion (λ f. f.id < null_id) found
 -- a record, if a later one of its ID is at `last`
 abbrev pub replaced_by : FoundAt → Option ℕ → List ReplacedRecord
 replaced_by f None = []
-replaced_by f (Some last) = record { id = f.id; at = f.at; by = last } ∷ []
+replaced_by f (Some last) = record { id = f.id; kind = kind_of f.object; at = f.at; by = last } ∷ []
 
 -- the records that a later one of the same ID replaces
 abbrev pub replaced_in : List FoundAt → List ReplacedRecord

@@ -36,6 +36,7 @@ pub(crate) fn in_force(alloc: Global, found: Vec<FoundRecord>) -> Result<InForce
         match places.get(&record.id) {
             Some(by) => replaced.push(ReplacedRecord {
                 id: record.id,
+                kind: record.object.kind(),
                 at: record.at,
                 by: *by,
             })?,

@@ -26,6 +26,8 @@ pub struct ObjectRecord {
 pub struct ReplacedRecord {
     /// The ID of both records.
     pub id: ObjectId,
+    /// The kind of the replaced record.
+    pub kind: Kind,
     /// The index of the replaced record's first byte.
     pub at: usize,
     /// The index of the first byte of the record in force.

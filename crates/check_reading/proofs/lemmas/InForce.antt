@@ -9,7 +9,7 @@ use Rattle.std.specs.List.{IsDistinct}
 use Rattle.std.specs.Ordering.{nat_cmp, is_eq, eq_by_cmp}
 use Rattle.std.specs.FinMap as finite
 use Rattle.vt_kinds.specs.Ids.{null_id}
-use Rattle.vt_kinds.specs.Records.{Seen}
+use Rattle.vt_kinds.specs.Records.{Seen, kind_of}
 use Rattle.vt_stores.specs.Stores.{Objects, AreNamed, object_at, by_rising_id}
 use Rattle.vt_stores.proofs.SortedEntries.{three, equal}
 use Rattle.vt_stores.proofs.BinarySearch.{other_id}
@@ -137,7 +137,7 @@ module _ (all left less : List FoundAt) (f : FoundAt) (entries : Objects) (place
 
   -- a record that a later one replaces
   pub collects_replaced : (by : ℕ) (more : List ReplacedRecord) → places f.id ≡ Some by
-      → more ≡ replaced ++ record { id = f.id; at = f.at; by = by } ∷ [] → IsCollecting all less entries places more
+      → more ≡ replaced ++ record { id = f.id; kind = kind_of f.object; at = f.at; by = by } ∷ [] → IsCollecting all less entries places more
   collects_replaced by more found made =
       let known : last_at f.id is.done ≡ Some by = sym (is.places_are f.id) ∙ found in
       let there : is_some (object_at (latest is.done) f.id) ≡ true = same_known is.done f.id ∙ some_of (last_at f.id is.done) by known in
@@ -153,8 +153,8 @@ module _ (all left less : List FoundAt) (f : FoundAt) (entries : Objects) (place
             ∙ later_kept (last_at q is.done) (eqb q f.id) f.at
             (λ same. ap (λ (k : ℕ). is_some (last_at k is.done)) (eqb-true q f.id same) ∙ some_of (last_at f.id is.done) by known);
         replaced_are = ap reverse made
-            ∙ reverse-append replaced (record { id = f.id; at = f.at; by = by } ∷ [])
-            ∙ ap (λ l. record { id = f.id; at = f.at; by = by } ∷ l) is.replaced_are
+            ∙ reverse-append replaced (record { id = f.id; kind = kind_of f.object; at = f.at; by = by } ∷ [])
+            ∙ ap (λ l. record { id = f.id; kind = kind_of f.object; at = f.at; by = by } ∷ l) is.replaced_are
             ∙ ap (λ (o : Option ℕ). replaced_by f o ++ replaced_in is.done) (sym known);
       }
 
