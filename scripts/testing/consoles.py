@@ -7,7 +7,7 @@ import tempfile
 from testing import pools
 
 # The first warning of a pool, in colours.
-COLOURED = ('warned.iop:24: \x1b[1;33mwarning[W01 Replaced]\x1b[0m Container 100: the record at 34 replaces this one\n'
+COLOURED = ('warned.iop:24: \x1b[1;33mwarning[W01 Replaced]\x1b[0m Container 100 is replaced by the record at 34\n'
             'warned.iop: 0 errors, 1 warning, 3 objects\n')
 # A Working Set 0, its Data Mask 1000, and in it the Container 100, whose record comes twice.
 WARNED = '@0 00 00 01 @1000 00 00 00  @1000 01 00 @65535 01 00 @100 @10 @5\n' + 2 * '@100 03 @50 @20 00 00 00\n'

@@ -7,9 +7,11 @@ use Rattle.check_text.specs.declared.item.Item.{Item}
 use Rattle.check_text.specs.declared.item.Item.TheVariants as items
 use Rattle.check_text.specs.declared.message.ItemLine.{ItemLine}
 use Rattle.check_text.specs.declared.summary.Summary.{Summary}
+use Rattle.check_text.specs.declared.totals.Totals.{Totals}
 use Rattle.check_text.specs.declared.checked_pool.CheckedPool.{CheckedPool}
+use Rattle.check_text.specs.Circles.{shown_part}
 use Rattle.check_text.specs.Severities.{severity_word}
-use Rattle.check_text.specs.Labels.{Labelled, label_at}
+use Rattle.check_text.specs.Labels.{Labelled, label_at, replaced_label}
 use Rattle.check_text.specs.Spots.{spot_text}
 use Rattle.check_inspect.specs.declared.finding.Finding.{Finding}
 use Rattle.check_inspect.specs.declared.finding.Finding.TheVariants as findings
@@ -22,6 +24,10 @@ use Rattle.check_needs.specs.declared.warning.PlacedElement.{PlacedElement}
 use Rattle.check_needs.specs.declared.warning.TextField.{TextField}
 use Rattle.check_needs.specs.declared.warning.Warning.{Warning}
 use Rattle.check_needs.specs.declared.warning.Warning.TheVariants as warnings
+use Rattle.check_values.specs.Names.{limited_name, ranged_name}
+use Rattle.check_values.specs.declared.warning.ShortVariable.{ShortVariable}
+use Rattle.check_values.specs.declared.warning.ValueWarning.{ValueWarning}
+use Rattle.check_values.specs.declared.warning.ValueWarning.TheVariants as values
 
 -- ---- numbers and texts
 
@@ -127,7 +133,7 @@ finding_details source findings.NoWorkingSet = no_details
 finding_details source (findings.TwoWorkingSets id) = object_details (object_data source id)
 finding_details source (findings.Missing found) = reference_details source found
 finding_details source (findings.WrongKind found) = reference_details source found
-finding_details source (findings.TooDeep chain) = path_details source chain.items
+finding_details source (findings.TooDeep chain) = path_details source (shown_part chain.items)
 finding_details source (findings.MacroBytes id) = object_details (object_data source id)
 finding_details source (findings.MacroCommand id at function) = command_details (object_data source id) at function
 finding_details source (findings.MacroMissing found) = reference_details source found
@@ -140,6 +146,11 @@ finding_details source (findings.OverBudget id event) = budget_details (object_d
 
 abbrev pub replaced_details : Data → ℕ → Data
 replaced_details named by = object (member (codes "by") (number_data by) (member (codes "object") named no_members))
+
+-- the same, with the object in force, which is of another kind
+abbrev pub clash_details : Data → ℕ → Data → Data
+clash_details named by in_force =
+    object (member (codes "by") (number_data by) (member (codes "in_force") in_force (member (codes "object") named no_members)))
 
 abbrev pub size_data : ℕ → ℕ → Data
 size_data width height = object (member (codes "height") (number_data height) (member (codes "width") (number_data width) no_members))
@@ -177,18 +188,74 @@ warning_details source (warnings.TextTooHigh field) = text_details source field
 warning_details source (warnings.Outside element area) = outside_details source element area
 warning_details source (warnings.ExtraKeys id keys most) = keys_details (object_data source id) keys most
 
+-- ---- the details of a warning about a value
+
+abbrev pub short_data : CheckedPool → ShortVariable → Data
+short_data source it =
+    object (member (codes "bytes") (number_data it.bytes) (member (codes "expected") (number_data it.expected)
+    (member (codes "object") (object_data source it.id) (member (codes "variable") (object_data source it.variable) no_members))))
+
+abbrev pub value_details_of : CheckedPool → ValueWarning → Data
+value_details_of source (values.NoMeaning id limited) =
+    object (member (codes "field") (string (limited_name limited.field)) (member (codes "object") (object_data source id)
+    (member (codes "value") (number_data limited.value) no_members)))
+value_details_of source (values.EmptyRange id min max) =
+    object (member (codes "max") (number_data max) (member (codes "min") (number_data min)
+    (member (codes "object") (object_data source id) no_members)))
+value_details_of source (values.OutOfRange it) =
+    object (member (codes "field") (string (ranged_name it.field)) (member (codes "max") (number_data it.max)
+    (member (codes "min") (number_data it.min) (member (codes "object") (object_data source it.id)
+    (member (codes "value") (number_data it.value) no_members)))))
+value_details_of source (values.NoItem id value items) =
+    object (member (codes "items") (number_data items) (member (codes "object") (object_data source id)
+    (member (codes "value") (number_data value) no_members)))
+value_details_of source (values.PictureBytes id bytes expected) =
+    object (member (codes "bytes") (number_data bytes) (member (codes "expected") (number_data expected)
+    (member (codes "object") (object_data source id) no_members)))
+value_details_of source (values.HalfPair id bytes) =
+    object (member (codes "bytes") (number_data bytes) (member (codes "object") (object_data source id) no_members))
+value_details_of source (values.FewPoints id points) =
+    object (member (codes "object") (object_data source id) (member (codes "points") (number_data points) no_members))
+value_details_of source (values.PointOutside it) =
+    object (member (codes "index") (number_data it.index) (member (codes "object") (object_data source it.id)
+    (member (codes "x") (number_data it.point.x) (member (codes "y") (number_data it.point.y) no_members))))
+value_details_of source (values.ShortVariable it) = short_data source it
+value_details_of source (values.NeverRaised id index event) =
+    object (member (codes "event") (number_data event) (member (codes "index") (number_data index)
+    (member (codes "object") (object_data source id) no_members)))
+value_details_of source (values.NoActiveMask id) = object_details (object_data source id)
+value_details_of source (values.NoDesignator id) = object_details (object_data source id)
+value_details_of source (values.NoLanguage it) =
+    object (member (codes "first") (number_data it.language.first) (member (codes "index") (number_data it.index)
+    (member (codes "object") (object_data source it.id) (member (codes "second") (number_data it.language.second) no_members))))
+value_details_of source (values.InputThere parent index id) =
+    object (member (codes "index") (number_data index) (member (codes "input") (number_data id)
+    (member (codes "object") (object_data source parent) no_members)))
+value_details_of source (values.NoCode id) = object_details (object_data source id)
+value_details_of source (values.SameColour id font colour) =
+    object (member (codes "colour") (number_data colour) (member (codes "font") (number_data font)
+    (member (codes "object") (object_data source id) no_members)))
+
 -- ---- the details of an item
 
 abbrev pub details_of : CheckedPool → Item → Data
 details_of source (items.Finding finding) = finding_details source finding.now
-details_of source (items.Replaced replaced) = replaced_details (object_data source replaced.now.id) replaced.now.by
+details_of source (items.Clash replaced) =
+    clash_details (label_data (replaced_label source replaced.now)) replaced.now.by (object_data source replaced.now.id)
+details_of source (items.Replaced replaced) = replaced_details (label_data (replaced_label source replaced.now)) replaced.now.by
 details_of source (items.Warning warning) = warning_details source warning.now
+details_of source (items.Value warning) = value_details_of source warning.now
 details_of source (items.Note note) = no_details
 
--- ---- the line of the counts
+-- ---- the lines of counts
 
 abbrev pub summary_data : Summary → Data
 summary_data summary =
     object (member (codes "errors") (number_data summary.errors) (member (codes "file") (string summary.file.now)
     (member (codes "left_out") (number_data summary.left_out) (member (codes "objects") (number_data summary.objects)
     (member (codes "warnings") (number_data summary.warnings) no_members)))))
+
+abbrev pub totals_data : Totals → Data
+totals_data totals =
+    object (member (codes "errors") (number_data totals.errors) (member (codes "files") (number_data totals.files)
+    (member (codes "objects") (number_data totals.objects) (member (codes "warnings") (number_data totals.warnings) no_members))))

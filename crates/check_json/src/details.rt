@@ -5,13 +5,14 @@ ghost use Rattle.serde_json.specs.View.{view};
 ghost use Rattle.check_json.specs.Json as json_of;
 
 use crate::objects::{
-    ChildValues, child_details, command_details, event_details, field_details, keys_details,
-    label_value, named_details, no_details, object_details, path_details, position_value,
-    replaced_details, size_value, through_details, value_details,
+    ChildValues, child_details, clash_details, command_details, event_details, field_details,
+    keys_details, label_value, named_details, no_details, object_details, path_details,
+    position_value, replaced_details, size_value, through_details, value_details,
 };
+use crate::value_details::value_warning_details;
 use check_inspect::{Finding, ReferenceAt, Spot};
 use check_needs::{Area, PlacedElement, TextField, Warning};
-use check_text::{CheckedPool, Item, SpotText};
+use check_text::{CheckedPool, Item, SpotText, circle_in};
 use serde_json::Value;
 use std::alloc::{AllocError, Global};
 use vt_objects::ObjectId;
@@ -26,17 +27,27 @@ pub(crate) fn details_of(
 {
     match item {
         Item::Finding(finding) => finding_details(alloc, source, finding),
+        Item::Clash(replaced) => {
+            let in_force = object_value(alloc, source, replaced.id)?;
+            let object = label_value(alloc, source.replaced_label(replaced))?;
+            clash_details(alloc, object, replaced.by, in_force)
+        }
         Item::Replaced(replaced) => {
-            let object = object_value(alloc, source, replaced.id)?;
+            let object = label_value(alloc, source.replaced_label(replaced))?;
             replaced_details(alloc, object, replaced.by)
         }
         Item::Warning(warning) => warning_details(alloc, source, warning),
+        Item::Value(warning) => value_warning_details(alloc, source, warning),
         Item::Note(_) => no_details(alloc),
     }
 }
 
 /// An object by its ID, with its kind and its name.
-fn object_value(alloc: Global, source: &CheckedPool<'_>, id: ObjectId) -> Result<Value, AllocError>
+pub(crate) fn object_value(
+    alloc: Global,
+    source: &CheckedPool<'_>,
+    id: ObjectId,
+) -> Result<Value, AllocError>
     ensures { IfOk result (λ v. view v ≡ json_of.object_data source.now id) }
 {
     label_value(alloc, source.label(id))
@@ -60,7 +71,9 @@ fn finding_details(
         | Finding::MacroMissing(found)
         | Finding::MacroKind(found) => reference_details(alloc, source, found),
         Finding::TooDeep { chain } => {
-            let path = chain_values(alloc, source, chain.as_slice())?;
+            let chain = chain.as_slice();
+            let shown = circle_in(chain).unwrap_or(chain);
+            let path = chain_values(alloc, source, shown)?;
             path_details(alloc, path)
         }
         Finding::MacroCommand { id, at, function } => {

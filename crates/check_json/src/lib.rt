@@ -1,7 +1,7 @@
 //! Findings and warnings about a pool as lines of JSON.
 //!
 //! - `item_json` returns the line of an item: it reads back as the item's message with its details.
-//! - `summary_json` returns the line of a pool's counts.
+//! - `summary_json` returns the line of a pool's counts, and `totals_json` that of the counts of several pools.
 //!
 //! Lines for people are in check_text. Come here to ask which members a line of JSON of `segyolant` has.
 //!
@@ -10,6 +10,8 @@
 
 mod details;
 mod lines;
+mod members;
 mod objects;
+mod value_details;
 
-pub use lines::{item_json, summary_json};
+pub use lines::{item_json, summary_json, totals_json};

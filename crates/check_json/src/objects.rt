@@ -6,7 +6,7 @@ ghost use Rattle.serde_json.specs.View.{view, items_of};
 ghost use Rattle.check_json.specs.Json as json_of;
 ghost use Rattle.check_text.specs.Labels.{label_seen};
 
-use check_text::{ItemLine, Label, Summary};
+use check_text::{ItemLine, Label, Summary, Totals};
 use serde_json::{Value, json};
 use std::alloc::{AllocError, Global};
 
@@ -40,6 +40,21 @@ pub(crate) fn summary_value(alloc: Global, summary: Summary<'_>) -> Result<Value
         "errors": errors,
         "file": summary.file,
         "left_out": left_out,
+        "objects": objects,
+        "warnings": warnings
+    })
+}
+
+pub(crate) fn totals_value(alloc: Global, totals: Totals) -> Result<Value, AllocError>
+    ensures { IfOk result (λ v. view v ≡ json_of.totals_data totals) }
+{
+    let files = totals.files as u64;
+    let errors = totals.errors as u64;
+    let warnings = totals.warnings as u64;
+    let objects = totals.objects as u64;
+    json!(in alloc; {
+        "errors": errors,
+        "files": files,
         "objects": objects,
         "warnings": warnings
     })
@@ -142,6 +157,18 @@ pub(crate) fn replaced_details(alloc: Global, object: Value, by: usize) -> Resul
 {
     let by = by as u64;
     json!(in alloc; {"by": by, "object": object})
+}
+
+pub(crate) fn clash_details(
+    alloc: Global,
+    object: Value,
+    by: usize,
+    in_force: Value,
+) -> Result<Value, AllocError>
+    ensures { IfOk result (λ v. view v ≡ json_of.clash_details (view object) by (view in_force)) }
+{
+    let by = by as u64;
+    json!(in alloc; {"by": by, "in_force": in_force, "object": object})
 }
 
 pub(crate) fn size_value(alloc: Global, width: u32, height: u32) -> Result<Value, AllocError>

@@ -9,6 +9,8 @@ use Rattle.check_inspect.specs.declared.inspection.Note.{Note}
 use Rattle.check_inspect.specs.declared.inspection.Note.TheVariants as notes
 use Rattle.check_needs.specs.declared.warning.Warning.{Warning}
 use Rattle.check_needs.specs.declared.warning.Warning.TheVariants as warnings
+use Rattle.check_values.specs.declared.warning.ValueWarning.{ValueWarning}
+use Rattle.check_values.specs.declared.warning.ValueWarning.TheVariants as values
 use Rattle.vt_records.specs.declared.fault.PoolFault.{PoolFault}
 use Rattle.vt_records.specs.declared.fault.PoolFault.TheVariants as faults
 
@@ -50,6 +52,24 @@ warning_code (warnings.TextTooHigh field) = (codes "W04", codes "TextTooHigh")
 warning_code (warnings.Outside element area) = (codes "W05", codes "Outside")
 warning_code (warnings.ExtraKeys id keys most) = (codes "W06", codes "ExtraKeys")
 
+abbrev pub value_code : ValueWarning → Text × Text
+value_code (values.NoMeaning id limited) = (codes "W08", codes "NoMeaning")
+value_code (values.EmptyRange id min max) = (codes "W09", codes "EmptyRange")
+value_code (values.OutOfRange it) = (codes "W10", codes "OutOfRange")
+value_code (values.NoItem id value items) = (codes "W11", codes "NoItem")
+value_code (values.PictureBytes id bytes expected) = (codes "W12", codes "PictureBytes")
+value_code (values.HalfPair id bytes) = (codes "W12", codes "PictureBytes")
+value_code (values.FewPoints id points) = (codes "W13", codes "FewPoints")
+value_code (values.PointOutside it) = (codes "W14", codes "PointOutside")
+value_code (values.ShortVariable it) = (codes "W15", codes "ShortVariable")
+value_code (values.NeverRaised id index event) = (codes "W16", codes "NeverRaised")
+value_code (values.NoActiveMask id) = (codes "W17", codes "NoActiveMask")
+value_code (values.NoDesignator id) = (codes "W18", codes "NoDesignator")
+value_code (values.NoLanguage it) = (codes "W19", codes "NoLanguage")
+value_code (values.InputThere parent index id) = (codes "W20", codes "InputThere")
+value_code (values.NoCode id) = (codes "W21", codes "NoCode")
+value_code (values.SameColour id font colour) = (codes "W22", codes "SameColour")
+
 abbrev pub note_code : Note → Text × Text
 note_code (notes.Unread at) = (codes "N01", codes "Unread")
 note_code notes.UnknownTriggers = (codes "N02", codes "UnknownTriggers")
@@ -57,6 +77,8 @@ note_code notes.UnknownCosts = (codes "N03", codes "UnknownCosts")
 
 abbrev pub code_of : Item → Text × Text
 code_of (items.Finding finding) = finding_code finding.now
+code_of (items.Clash replaced) = (codes "W07", codes "OtherKind")
 code_of (items.Replaced replaced) = (codes "W01", codes "Replaced")
 code_of (items.Warning warning) = warning_code warning.now
+code_of (items.Value warning) = value_code warning.now
 code_of (items.Note note) = note_code note

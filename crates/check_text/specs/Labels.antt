@@ -1,11 +1,12 @@
 -- Objects by their kinds and their names.
-use Rattle.std.specs.Prelude.{ℕ, List, Option, string_bytes}
+use Rattle.std.specs.Prelude.{ℕ, List, Option, Some, string_bytes}
 use Rattle.std.specs.BTreeMap.{get}
 use Rattle.std.specs.Option.{option_map}
 use Rattle.std.specs.Ordering.{nat_cmp}
 use Rattle.check_text.specs.declared.label.Label.{Label}
 use Rattle.check_text.specs.declared.names.Names.{Names}
 use Rattle.check_text.specs.declared.checked_pool.CheckedPool.{CheckedPool}
+use Rattle.check_reading.specs.declared.pool_reading.ReplacedRecord.{ReplacedRecord}
 use Rattle.vt_kinds.specs.declared.kind.Kind.{Kind}
 use Rattle.vt_kinds.specs.Records.{kind_of}
 use Rattle.vt_stores.specs.Stores.{object_at}
@@ -30,3 +31,7 @@ label_at source id = record {
   kind = option_map kind_of (object_at source.inspection.now.objects id);
   name = name_at source.names.now id;
 }
+
+-- the object of a replaced record, with its kind there and its name
+abbrev pub replaced_label : CheckedPool → ReplacedRecord → Labelled
+replaced_label source replaced = record { id = replaced.id; kind = Some replaced.kind; name = name_at source.names.now replaced.id }

@@ -1,4 +1,6 @@
 -- The specifications that the contracts of check_text use.
+pub mod Circles
+pub mod Clashes
 pub mod Codes
 pub mod Events
 pub mod Labels

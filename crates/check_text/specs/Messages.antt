@@ -13,6 +13,7 @@ use Rattle.check_inspect.specs.declared.inspection.Note.TheVariants as notes
 use Rattle.check_inspect.specs.Places.{place_of, IsRecordOf, IsOffset, HasOffset}
 use Rattle.check_needs.specs.declared.warning.Warning.{Warning}
 use Rattle.check_needs.specs.declared.warning.Warning.TheVariants as warnings
+use Rattle.check_values.specs.Subjects as values
 use Rattle.check_reading.specs.declared.pool_reading.ObjectRecord.{ObjectRecord}
 use Rattle.vt_stores.specs.Stores.{object_at}
 
@@ -44,9 +45,12 @@ pub record IsFirstByte (i : Inspection) (place : Option FindingPlace) (at : ℕ)
 -- The index of the byte that an item is about. Each object has a record in an inspection.
 abbrev pub IsItemOffset : Inspection → Item → ℕ → Type 0
 IsItemOffset i (items.Finding finding) at = IsFirstByte i (place_of finding.now) at
+IsItemOffset i (items.Clash replaced) at = at ≡ replaced.now.at
 IsItemOffset i (items.Replaced replaced) at = at ≡ replaced.now.at
 IsItemOffset i (items.Warning warning) at =
     length i.objects ≤ length i.records.items → IsSome (object_at i.objects (object_of warning.now)) → IsRecordAt i (object_of warning.now) at
+IsItemOffset i (items.Value warning) at =
+    length i.objects ≤ length i.records.items → IsSome (object_at i.objects (values.object_of warning.now)) → IsRecordAt i (values.object_of warning.now) at
 IsItemOffset i (items.Note note) at = at ≡ note_offset note
 
 -- The message has the file, the severity, the code and the offset of its item.

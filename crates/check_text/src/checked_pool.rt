@@ -4,7 +4,7 @@ ghost use Rattle.std.specs.Prelude.{◌≡◌, ◌≤◌, length, IfOk, IsSome};
 ghost use Rattle.std.specs.Option.{option_map};
 ghost use Rattle.vt_kinds.specs.Records.{kind_of};
 ghost use Rattle.vt_stores.specs.Stores.{object_at};
-ghost use Rattle.check_text.specs.Labels.{label_seen, label_at};
+ghost use Rattle.check_text.specs.Labels.{label_seen, label_at, replaced_label};
 ghost use Rattle.check_text.specs.Messages.{IsFirstByte, IsItemOffset, IsMessage, IsRecordAt, note_offset, object_of};
 ghost use Rattle.check_inspect.specs.Places.{place_of};
 
@@ -14,7 +14,7 @@ use crate::label::Label;
 use crate::message::{ItemLine, severity_of};
 use crate::names::Names;
 use crate::sentences::Sentence;
-use check_inspect::{Finding, Inspection, Note};
+use check_inspect::{Finding, Inspection, Note, ReplacedRecord};
 use check_needs::Warning;
 use std::alloc::{AllocError, Global};
 use vt_objects::{Kind, ObjectId, SortedStore, Store};
@@ -42,6 +42,17 @@ impl<'a> CheckedPool<'a> {
         }
     }
 
+    /// The object of a replaced record, with its kind in that record and its name.
+    pub fn replaced_label(&self, replaced: &ReplacedRecord) -> Label<'a>
+        ensures { label_seen result ≡ replaced_label self.now replaced.now }
+    {
+        Label {
+            id: replaced.id,
+            kind: Some(replaced.kind),
+            name: self.names.get(replaced.id),
+        }
+    }
+
     /// The message of an item of this pool.
     pub fn message(&self, alloc: Global, item: Item<'_>) -> Result<ItemLine<'a>, AllocError>
         ensures { IfOk result (IsMessage self.now item.entry) }
@@ -65,8 +76,9 @@ impl<'a> CheckedPool<'a> {
     {
         match item {
             Item::Finding(finding) => self.finding_at(finding),
-            Item::Replaced(replaced) => replaced.at,
+            Item::Clash(replaced) | Item::Replaced(replaced) => replaced.at,
             Item::Warning(warning) => self.record_at(warning_object(warning)),
+            Item::Value(warning) => self.record_at(warning.object()),
             Item::Note(note) => note_offset(note),
         }
     }
@@ -93,7 +105,7 @@ impl<'a> CheckedPool<'a> {
 }
 
 /// The kind of an object, or `None` if it is missing.
-fn kind_at(objects: &SortedStore, id: ObjectId) -> Option<Kind>
+pub(crate) fn kind_at(objects: &SortedStore, id: ObjectId) -> Option<Kind>
     ensures { result ≡ option_map kind_of (object_at objects.now id) }
 {
     match objects.get(id) {

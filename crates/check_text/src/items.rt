@@ -1,25 +1,39 @@
 //! The errors and warnings of a pool.
 
+ghost use Rattle.std.specs.Prelude.{◌≡◌};
+ghost use Rattle.check_text.specs.Clashes.{is_clash};
+
+use crate::checked_pool::kind_at;
 use crate::item::Item;
-use check_inspect::{Finding, Inspection, Note};
+use check_inspect::{Finding, Inspection, Note, ReplacedRecord};
 use check_needs::Warning;
+use check_values::ValueWarning;
 use std::alloc::{AllocError, Global};
 use vt_objects::{Kind, ObjectId};
 use vt_pool::PoolFault;
 
-/// The findings, then the replaced records, then the warnings. If bytes could not be read, no object is listed as unused. A number
-/// whose scale or decimals are wrong is not listed with a text that is too wide.
+/// The findings, then the records that others of another kind replace, then the other replaced records, then the warnings about objects
+/// and those about their values. If bytes could not be read, no object is listed as unused. A number whose scale or decimals are wrong is
+/// not listed with a text that is too wide.
 pub fn items_of<'a>(
     alloc: Global,
     inspection: &'a Inspection,
     warnings: &'a [Warning],
+    values: &'a [ValueWarning],
 ) -> Result<Vec<Item<'a>>, AllocError> {
     let mut items = Vec::new(alloc);
     for finding in inspection.findings.iter() {
         items.push(Item::Finding(finding))?;
     }
     for replaced in inspection.replaced.iter() {
-        items.push(Item::Replaced(replaced))?;
+        if is_clash(inspection, replaced) {
+            items.push(Item::Clash(replaced))?;
+        }
+    }
+    for replaced in inspection.replaced.iter() {
+        if !is_clash(inspection, replaced) {
+            items.push(Item::Replaced(replaced))?;
+        }
     }
     let is_read = !inspection.notes.iter().any(is_unread);
     let mended = mended_bytes(alloc, inspection)?;
@@ -33,7 +47,20 @@ pub fn items_of<'a>(
             items.push(Item::Warning(warning))?;
         }
     }
+    for value in values {
+        items.push(Item::Value(value))?;
+    }
     Ok(items)
+}
+
+/// Whether the object in force is of another kind than the record that it replaces.
+fn is_clash(inspection: &Inspection, replaced: &ReplacedRecord) -> bool
+    ensures { result ≡ is_clash inspection.now replaced.now }
+{
+    match kind_at(&inspection.objects, replaced.id) {
+        Some(kind) => kind.number() != replaced.kind.number(),
+        None => false,
+    }
 }
 
 /// The indices of the bytes with a wrong scale or wrong decimals, in their order.

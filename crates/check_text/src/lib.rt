@@ -1,11 +1,12 @@
 //! Findings and warnings about a pool as lines for people and for GitHub.
 //!
-//! - `Names` are the names of objects, from files of lines `ID,NAME` or `#define NAME ID`.
+//! - `Names` are the names of objects, from files of lines `ID,NAME` or from headers in C.
 //! - A `CheckedPool` is an inspected pool with its path and its names. `CheckedPool::message` returns the `ItemLine` of an `Item`: the
 //!   offset in the file, the severity, the code, and a sentence with the cause.
 //! - An `ItemLine` writes its line for people by `Display`, in colours by `ColouredLine`, and for GitHub by `GithubLine`.
+//! - `circle_in` is the part of a chain of inclusions that its sentence shows.
 //! - `items_of` returns the errors and warnings of a pool in the order of their lines, without warnings that cannot be judged, and
-//!   `summary_of` their counts.
+//!   `summary_of` their counts. `Totals` are those of several pools.
 //!
 //! It finds nothing itself: findings are those of check_inspect, and warnings those of check_needs. Lines of JSON are in check_json.
 //!
@@ -13,29 +14,38 @@
 #![tactic(auto)]
 
 mod checked_pool;
+mod circles;
 mod codes;
 mod colour;
+mod command_text;
 mod events;
 mod github;
 mod item;
 mod items;
+mod kinds_text;
 mod label;
 mod message;
+mod name_line;
 mod names;
 mod sentences;
 mod spot;
 mod summary;
+mod totals;
+mod value_sentences;
 mod warning_sentences;
 
 pub use checked_pool::CheckedPool;
-pub use codes::{Code, code_of};
+pub use circles::circle_in;
+pub use codes::{Code, code_of, is_code};
 pub use colour::ColouredLine;
+pub use command_text::CommandText;
 pub use events::event_name;
 pub use github::GithubLine;
 pub use item::Item;
 pub use items::items_of;
 pub use label::Label;
 pub use message::{ItemLine, Severity};
-pub use names::Names;
+pub use names::{LinesWithoutId, Names, NamesRead};
 pub use spot::SpotText;
 pub use summary::{Summary, summary_of};
+pub use totals::Totals;

@@ -10,9 +10,9 @@ use std::fmt;
 /// The severity of a message.
 #[derive(Clone, Copy, PartialEq, Eq)]
 pub enum Severity {
-    /// A terminal refuses the pool.
+    /// A terminal refuses the pool, or two objects of different kinds have one ID.
     Error,
-    /// A terminal does not refuse the pool for this.
+    /// A terminal does not refuse the pool for this, and it may be meant.
     Warning,
     /// Some rules were not judged.
     Note,
@@ -36,8 +36,8 @@ pub(crate) fn severity_of(item: Item<'_>) -> Severity
     ensures { result ≡ severity_of item.entry }
 {
     match item {
-        Item::Finding(_) => Severity::Error,
-        Item::Replaced(_) | Item::Warning(_) => Severity::Warning,
+        Item::Finding(_) | Item::Clash(_) => Severity::Error,
+        Item::Replaced(_) | Item::Warning(_) | Item::Value(_) => Severity::Warning,
         Item::Note(_) => Severity::Note,
     }
 }

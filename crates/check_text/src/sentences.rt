@@ -1,9 +1,14 @@
 //! The sentences of items.
 
 use crate::checked_pool::CheckedPool;
+use crate::circles::circle_in;
+use crate::command_text::CommandText;
 use crate::events::event_name;
 use crate::item::Item;
-use crate::spot::SpotText;
+use crate::kinds_text::KindsText;
+use crate::label::Label;
+use crate::spot::SpotWords;
+use crate::value_sentences::ValueSentence;
 use crate::warning_sentences::WarningSentence;
 use check_inspect::{Finding, Note, ReferenceAt, Spot};
 use std::fmt;
@@ -23,13 +28,24 @@ impl fmt::Display for Sentence<'_, '_> {
         let source = self.source;
         match self.item {
             Item::Finding(finding) => write!(f, "{}", FindingSentence { source, finding }),
+            Item::Clash(replaced) => write!(
+                f,
+                "{}: {} at {} has the same ID and replaces it; give one of them another number",
+                source.replaced_label(replaced),
+                Label {
+                    name: None,
+                    ..source.label(replaced.id)
+                },
+                replaced.by
+            ),
             Item::Replaced(replaced) => write!(
                 f,
-                "{}: the record at {} replaces this one",
-                source.label(replaced.id),
+                "{} is replaced by the record at {}",
+                source.replaced_label(replaced),
                 replaced.by
             ),
             Item::Warning(warning) => write!(f, "{}", WarningSentence { source, warning }),
+            Item::Value(warning) => write!(f, "{}", ValueSentence { source, warning }),
             Item::Note(note) => f.write_str(note_sentence(note)),
         }
     }
@@ -53,7 +69,10 @@ impl fmt::Display for FindingSentence<'_, '_> {
             Finding::Missing(found) | Finding::MacroMissing(found) => self.write_missing(f, found),
             Finding::WrongKind(found) | Finding::MacroKind(found) => {
                 self.write_named(f, found)?;
-                f.write_str(", a kind that is not allowed there")
+                let kinds = KindsText {
+                    kinds: found.reference.kinds,
+                };
+                write!(f, ", a kind that is not allowed there; expected {kinds}")
             }
             Finding::TooDeep { chain } => self.write_chain(f, chain.as_slice()),
             Finding::MacroBytes { id } => {
@@ -63,11 +82,14 @@ impl fmt::Display for FindingSentence<'_, '_> {
                     self.source.label(*id)
                 )
             }
-            Finding::MacroCommand { id, at, function } => write!(
-                f,
-                "{}: command {function:02X} at byte {at} is not allowed in a macro",
-                self.source.label(*id)
-            ),
+            Finding::MacroCommand { id, at, function } => {
+                let command = CommandText {
+                    at: *at,
+                    function: *function,
+                };
+                let label = self.source.label(*id);
+                write!(f, "{label}: {command} is not allowed in a macro")
+            }
             Finding::MacroValue {
                 id,
                 at,
@@ -121,7 +143,7 @@ impl FindingSentence<'_, '_> {
         found: &ReferenceAt,
     ) -> fmt::Result {
         if found.reference.id.is_null() {
-            let spot = SpotText { spot: found.spot };
+            let spot = SpotWords { spot: found.spot };
             let parent = self.source.label(found.reference.parent);
             return write!(
                 f,
@@ -140,7 +162,7 @@ impl FindingSentence<'_, '_> {
     ) -> fmt::Result {
         let parent = self.source.label(found.reference.parent);
         let named = self.source.label(found.reference.id);
-        let spot = SpotText { spot: found.spot };
+        let spot = SpotWords { spot: found.spot };
         write!(f, "{parent}: {spot} names {named}")?;
         match found.spot {
             Spot::Through { pointer, .. } => {
@@ -150,18 +172,22 @@ impl FindingSentence<'_, '_> {
         }
     }
 
-    /// Writes a chain of inclusions, each object by its label.
+    /// Writes a chain of inclusions, each object by its label, or only its circle.
     fn write_chain<W: fmt::Write>(
         &self,
         f: &mut fmt::Formatter<W>,
         chain: &[ObjectId],
     ) -> fmt::Result {
-        write!(
-            f,
-            "inclusions more than {} deep, or a circle of them:",
-            TERMINAL_LIMITS.inclusions
-        )?;
-        for (index, id) in chain.iter().enumerate() {
+        let circle = circle_in(chain);
+        match circle {
+            Some(_) => f.write_str("a circle of inclusions:")?,
+            None => write!(
+                f,
+                "inclusions more than {} deep:",
+                TERMINAL_LIMITS.inclusions
+            )?,
+        }
+        for (index, id) in circle.unwrap_or(chain).iter().enumerate() {
             let separator = if index == 0 { "" } else { " >" };
             write!(f, "{separator} {}", self.source.label(*id))?;
         }

@@ -3,11 +3,31 @@
 ghost use Rattle.std.specs.Prelude.{Some};
 ghost use Rattle.check_text.specs.Spots.{spot_text, place_text};
 
+use crate::command_text::CommandText;
+use crate::events::event_name;
 use check_inspect::Spot;
 use std::fmt;
 use vt_objects::Place;
 
-/// The words for the position of a reference, such as `child 3` or `macro entry 1 (event 25)`.
+/// The position of a reference for people, such as `child 3` or `macro entry 1 (key release)`.
+#[derive(Clone, Copy, Drop)]
+pub(crate) struct SpotWords {
+    pub(crate) spot: Spot,
+}
+
+impl fmt::Display for SpotWords {
+    fn fmt<W: fmt::Write>(&self, f: &mut fmt::Formatter<W>) -> fmt::Result {
+        match self.spot {
+            Spot::Slot(place) | Spot::Through { place, .. } => write!(f, "{}", PlaceText { place }),
+            Spot::Entry { index, event } => {
+                write!(f, "macro entry {index} ({})", event_name(event))
+            }
+            Spot::Command { at, function } => write!(f, "{}", CommandText { at, function }),
+        }
+    }
+}
+
+/// The position of a reference for other programs, such as `child 3` or `macro entry 1 (event 25)`.
 #[derive(Clone, Copy, Drop)]
 pub struct SpotText {
     /// The position.

@@ -3,9 +3,11 @@
 ghost use Rattle.std.specs.Prelude.{◌≡◌, ◌-◌, length};
 ghost use Rattle.std.specs.FinMap as finite;
 ghost use Rattle.vt_stores.specs.Stores.{map_of};
+ghost use Rattle.check_text.specs.Severities.{errors_among, is_error, severity_of};
 
 use crate::checked_pool::CheckedPool;
 use crate::item::Item;
+use crate::message::{Severity, severity_of};
 use std::fmt;
 use vt_objects::Store;
 
@@ -24,15 +26,15 @@ pub struct Summary<'a> {
     pub left_out: usize,
 }
 
-/// The counts of a pool's objects, errors and warnings. At most `most` of the errors and warnings have lines.
+/// The counts of a pool's objects, and of its errors and warnings, which are `items`. At most `most` of these have lines.
 pub fn summary_of<'a>(source: &CheckedPool<'a>, items: &[Item<'_>], most: usize) -> Summary<'a>
     ensures file { result.file.now ≡ source.now.path.now }
-    ensures errors { result.errors ≡ length source.now.inspection.now.findings.items }
-    ensures warnings { result.warnings ≡ length items.now - length source.now.inspection.now.findings.items }
+    ensures errors { result.errors ≡ errors_among items.now }
+    ensures warnings { result.warnings ≡ length items.now - errors_among items.now }
     ensures objects { result.objects ≡ finite.len (map_of source.now.inspection.now.objects) }
     ensures left_out { result.left_out ≡ length items.now - most }
 {
-    let errors = source.inspection.findings.len();
+    let errors = count_errors(items);
     Summary {
         file: source.path,
         errors,
@@ -40,6 +42,26 @@ pub fn summary_of<'a>(source: &CheckedPool<'a>, items: &[Item<'_>], most: usize)
         objects: source.inspection.objects.count(),
         left_out: items.len().saturating_sub(most),
     }
+}
+
+/// How many of these items are errors.
+fn count_errors(items: &[Item<'_>]) -> usize
+    ensures { result ≡ errors_among items.now }
+{
+    let mut errors = 0usize;
+    for item in items {
+        if is_error(*item) {
+            errors += 1;
+        }
+    }
+    errors
+}
+
+/// Whether an item is an error.
+fn is_error(item: Item<'_>) -> bool
+    ensures { result ≡ is_error (severity_of item.entry) }
+{
+    matches!(severity_of(item), Severity::Error)
 }
 
 impl fmt::Display for Summary<'_> {
@@ -65,7 +87,11 @@ impl fmt::Display for Summary<'_> {
 }
 
 /// Writes a count with its noun, which takes an s unless the count is 1.
-fn write_count<W: fmt::Write>(f: &mut fmt::Formatter<W>, count: usize, noun: &str) -> fmt::Result {
+pub(crate) fn write_count<W: fmt::Write>(
+    f: &mut fmt::Formatter<W>,
+    count: usize,
+    noun: &str,
+) -> fmt::Result {
     let ending = if count == 1 { "" } else { "s" };
     write!(f, "{count} {noun}{ending}")
 }

@@ -14,7 +14,7 @@ use vt_objects::{Kind, Store};
 use vt_pool::read_pool;
 use vt_verify::{Accepted, Refusal, verify_update};
 
-/// Prints what a pool needs, and whether the terminal has it.
+/// Prints what a pool needs, and whether the terminal has it, which is not judged for a refused pool.
 pub(crate) fn run_needs<F: Open, W: Write, E: Write>(
     alloc: Global,
     options: &NeedsOptions<'_>,
@@ -39,16 +39,15 @@ pub(crate) fn run_needs<F: Open, W: Write, E: Write>(
     if !is_read(&inspection, options.pool, errors) {
         return Ok(Status::NotJudged);
     }
-    let cause = put_load(alloc, &source, out)?;
-    let fits = put_lacks(&needs, options.sizes, out)?;
-    if let Some(cause) = cause {
+    if let Some(cause) = put_load(alloc, &source, out)? {
         let _ = writeln!(
             errors,
-            "segyolant: {}: {cause}, so its chains and events are not judged; segyolant check says why",
+            "segyolant: {}: {cause}, so its chains and events are not judged, nor whether it fits; segyolant check says why",
             options.pool
         );
         return Ok(Status::NotJudged);
     }
+    let fits = put_lacks(&needs, options.sizes, out)?;
     Ok(if fits { Status::Clean } else { Status::Found })
 }
 

@@ -69,6 +69,18 @@ pub(crate) const DENY: Argument<'static> = Argument {
     form: Form::Setting("WHAT", Allowed::OneOf(DENIED)),
 };
 
+pub(crate) const SELECT: Argument<'static> = Argument {
+    name: "select",
+    help: "Only what has this code or name, such as R03 or Missing; may be given again",
+    form: Form::RepeatedSetting("CODE"),
+};
+
+pub(crate) const IGNORE: Argument<'static> = Argument {
+    name: "ignore",
+    help: "Not what has this code or name, such as W02 or Unused; may be given again",
+    form: Form::RepeatedSetting("CODE"),
+};
+
 pub(crate) const SIZE: Argument<'static> = Argument {
     name: "size",
     help: "The terminal's area of a mask, in pixels [default: 480x480]",

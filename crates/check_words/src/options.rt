@@ -4,6 +4,7 @@ use crate::draw::{DrawOptions, area_of, draw_options};
 use crate::subcommands::SEGYOLANT;
 use crate::wrong_option::WrongOption;
 use check_needs::{Area, Sizes, TERMINAL_SIZES};
+use check_text::is_code;
 use clap::ArgMatches;
 use std::alloc::{AllocError, Global};
 use std::convert::AsStr;
@@ -49,6 +50,12 @@ pub struct CheckOptions<'a> {
     pub most: Option<u32>,
     /// Whether a run with a warning ends with status 1.
     pub denies_warnings: bool,
+    /// The codes or names of what is told, or none for all.
+    pub select: Vec<&'a str>,
+    /// The codes or names of what is not told.
+    pub ignore: Vec<&'a str>,
+    /// The sizes of the terminal.
+    pub sizes: Sizes,
 }
 
 /// The options of `why`.
@@ -131,7 +138,7 @@ impl<'a> Options<'a> {
 fn check_options<'a>(
     alloc: Global,
     matches: &ArgMatches<'a>,
-) -> Result<CheckOptions<'a>, AllocError> {
+) -> Result<CheckOptions<'a>, UsageError<WrongOption<'a>>> {
     let format = match matches.get_str("format") {
         Some("json") => Format::Json,
         Some("github") => Format::Github,
@@ -143,6 +150,36 @@ fn check_options<'a>(
         format,
         most: matches.get_one::<u32>("most"),
         denies_warnings: matches.contains_id("deny"),
+        select: codes_of(alloc, matches, "select")?,
+        ignore: codes_of(alloc, matches, "ignore")?,
+        sizes: Sizes {
+            key: area_of(matches, "key-size", TERMINAL_SIZES.key).map_err(WrongOption::KeySize)?,
+            ..sizes_of(matches)?
+        },
+    })
+}
+
+/// The codes and names that an option gives.
+fn codes_of<'a>(
+    alloc: Global,
+    matches: &ArgMatches<'a>,
+    option: &'static str,
+) -> Result<Vec<&'a str>, UsageError<WrongOption<'a>>> {
+    let codes = all_of(alloc, matches, option)?;
+    match codes.iter().find(|word| !is_code(word)) {
+        Some(word) => Err(UsageError::Wrong(WrongOption::Code { option, word })),
+        None => Ok(codes),
+    }
+}
+
+/// The sizes of the terminal, by `--size` and `--keys`.
+fn sizes_of<'a>(matches: &ArgMatches<'a>) -> Result<Sizes, WrongOption<'a>> {
+    let mask = area_of(matches, "size", TERMINAL_SIZES.mask).map_err(WrongOption::Size)?;
+    let keys = matches.get_one::<u8>("keys").unwrap_or(TERMINAL_SIZES.keys);
+    Ok(Sizes {
+        mask,
+        keys,
+        ..TERMINAL_SIZES
     })
 }
 
@@ -177,16 +214,10 @@ fn needs_options<'a>(
     alloc: Global,
     matches: &ArgMatches<'a>,
 ) -> Result<NeedsOptions<'a>, UsageError<WrongOption<'a>>> {
-    let mask = area_of(matches, "size", TERMINAL_SIZES.mask).map_err(WrongOption::Size)?;
-    let keys = matches.get_one::<u8>("keys").unwrap_or(TERMINAL_SIZES.keys);
     Ok(NeedsOptions {
         pool: matches.get_str("POOL").unwrap_or(""),
         names: all_of(alloc, matches, "names")?,
-        sizes: Sizes {
-            mask,
-            keys,
-            ..TERMINAL_SIZES
-        },
+        sizes: sizes_of(matches)?,
     })
 }
 

@@ -1,8 +1,8 @@
 //! The command line of the program, for `clap`.
 
 use crate::arguments::{
-    DENY, DRAWN_POOL, EVENT, FORMAT, KEY_SIZE, KEYS, MASK, MOST, NAMES, NEW, OLD, OUT, OWNER, POOL,
-    POOLS, SIZE, STATE,
+    DENY, DRAWN_POOL, EVENT, FORMAT, IGNORE, KEY_SIZE, KEYS, MASK, MOST, NAMES, NEW, OLD, OUT,
+    OWNER, POOL, POOLS, SELECT, SIZE, STATE,
 };
 use vt_cli::{CommandLine, Subcommand};
 
@@ -28,7 +28,8 @@ A line for each finding, FILE:OFFSET: SEVERITY[CODE NAME] SENTENCE:
 
   my.iop:598: error[R03 Missing] Output Number 341 `tank_value`: font names object 104, which is not there
 
-  segyolant check my.iop --deny warnings
+  segyolant check my.iop --deny warnings --ignore Unused
+  segyolant check my.iop --size 240x240 --keys 6
   cat my.iop | segyolant check -";
 
 /// The text of help after the options of `why`.
@@ -62,7 +63,9 @@ const CHECK: Subcommand<'static> = Subcommand {
     name: "check",
     about: "Prints every fault of object pools, and warnings",
     after_help: Some(AFTER_CHECK),
-    arguments: &[POOLS, NAMES, FORMAT, MOST, DENY],
+    arguments: &[
+        POOLS, NAMES, FORMAT, MOST, DENY, SELECT, IGNORE, SIZE, KEY_SIZE, KEYS,
+    ],
 };
 
 const WHY: Subcommand<'static> = Subcommand {

@@ -10,6 +10,8 @@ pub enum WrongOption<'a> {
     Size(&'a str),
     /// The value of `--key-size` is no width and height.
     KeySize(&'a str),
+    /// The value of `--select` or `--ignore` is neither a code nor a name.
+    Code { option: &'static str, word: &'a str },
     /// The value of `--mask` is neither an ID nor `all`.
     Mask(&'a str),
     /// All masks are requested, but not into a folder.
@@ -34,6 +36,10 @@ impl fmt::Display for WrongOption<'_> {
             WrongOption::KeySize(value) => write!(
                 f,
                 "--key-size {value}: expected a width and a height, such as 64x64"
+            ),
+            WrongOption::Code { option, word } => write!(
+                f,
+                "--{option} {word}: expected a code, such as W02, or a name, such as Unused; docs/POOLS.md lists them"
             ),
             WrongOption::Mask(value) => write!(
                 f,

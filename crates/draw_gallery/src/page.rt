@@ -3,6 +3,7 @@
 use crate::html::Html;
 use check_needs::{TERMINAL_SIZES, warnings};
 use check_text::{CheckedPool, Item, items_of, summary_of};
+use check_values::value_warnings;
 use std::alloc::{AllocError, Global};
 use std::fmt::Display;
 use vt_objects::ObjectId;
@@ -97,7 +98,13 @@ fn put_findings(
     source: &CheckedPool<'_>,
 ) -> Result<(), AllocError> {
     let warnings = warnings(alloc, &source.inspection.objects, TERMINAL_SIZES)?;
-    let items = items_of(alloc, source.inspection, warnings.as_slice())?;
+    let values = value_warnings(alloc, &source.inspection.objects)?;
+    let items = items_of(
+        alloc,
+        source.inspection,
+        warnings.as_slice(),
+        values.as_slice(),
+    )?;
     for item in items.iter() {
         put_item(alloc, page, source, *item)?;
     }

@@ -6,7 +6,7 @@ use crate::page::page_of;
 use crate::refusal::{Refusal, RefusalLine};
 use check_inspect::inspect;
 use check_needs::Sizes;
-use check_text::CheckedPool;
+use check_text::{CheckedPool, items_of, summary_of};
 use check_words::{DrawOptions, Drawing};
 use draw_picture::draw;
 use std::alloc::{AllocError, Global};
@@ -73,7 +73,7 @@ fn draw_source<F: Save, W: Write, E: Write>(
     if !is_drawn {
         return Ok(Outcome::NotDrawn);
     }
-    Ok(outcome_of(source, errors))
+    Ok(outcome_of(alloc, source, errors)?)
 }
 
 /// A pool with its masks, and the sizes of pictures.
@@ -194,10 +194,16 @@ impl Sheet<'_> {
 }
 
 /// The outcome of masks that are drawn. If the pool has errors, `errors` receives a sentence that says so.
-fn outcome_of<E: Write>(source: &CheckedPool<'_>, errors: &mut E) -> Outcome {
+fn outcome_of<E: Write>(
+    alloc: Global,
+    source: &CheckedPool<'_>,
+    errors: &mut E,
+) -> Result<Outcome, AllocError> {
     let path = source.path;
-    let _ = match source.inspection.findings.len() {
-        0 => return Outcome::Clean,
+    let items = items_of(alloc, source.inspection, &[], &[])?;
+    let summary = summary_of(source, items.as_slice(), items.len());
+    let _ = match summary.errors {
+        0 => return Ok(Outcome::Clean),
         1 => writeln!(
             errors,
             "segyolant: {path}: 1 error; segyolant check says what it is"
@@ -207,5 +213,5 @@ fn outcome_of<E: Write>(source: &CheckedPool<'_>, errors: &mut E) -> Outcome {
             "segyolant: {path}: {count} errors; segyolant check says what they are"
         ),
     };
-    Outcome::Faulty
+    Ok(Outcome::Faulty)
 }

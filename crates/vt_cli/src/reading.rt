@@ -1,7 +1,7 @@
 //! Files that are read whole.
 
 use crate::files::Open;
-use check_text::Names;
+use check_text::{LinesWithoutId, Names, NamesRead};
 use std::alloc::Global;
 use std::io::{self, ErrorKind, Read, Write};
 
@@ -56,7 +56,8 @@ fn is_text(bytes: &[u8]) -> bool {
     !bytes.is_empty() && bytes.iter().all(is_of_text)
 }
 
-/// The names in files. `None` if one of them cannot be read: then `errors` receives the reason.
+/// The names in files. `None` if one of them cannot be read: then `errors` receives the reason. `errors` also receives a sentence for a
+/// file without a name, and one for lines of a file that have the form of a name but give no ID.
 pub fn read_names<F: Open, E: Write>(
     alloc: Global,
     paths: &[&str],
@@ -66,9 +67,37 @@ pub fn read_names<F: Open, E: Write>(
     let mut names = Names::new(alloc);
     for path in paths {
         match read_file(alloc, path, files, errors)? {
-            Some(bytes) => names.add(alloc, bytes.as_slice())?,
+            Some(bytes) => {
+                let read = names.add(alloc, bytes.as_slice())?;
+                tell_names(files.name(), path, read, errors);
+            }
             None => return Ok(None),
         }
     }
     Ok(Some(names))
+}
+
+/// Writes that a file has no name, and which of its lines have the form of a name but give no ID.
+fn tell_names<E: Write>(program: &str, path: &str, read: NamesRead, errors: &mut E) {
+    if read.names == 0 {
+        let _ = writeln!(
+            errors,
+            "{program}: {path}: no name was read; expected lines ID,NAME or #define NAME ID"
+        );
+    }
+    let _ = match read.without_id {
+        None => return,
+        Some(LinesWithoutId { first, later: 0 }) => writeln!(
+            errors,
+            "{program}: {path}: line {first} gives no ID and is passed over"
+        ),
+        Some(LinesWithoutId { first, later: 1 }) => writeln!(
+            errors,
+            "{program}: {path}: line {first} and 1 later line give no ID and are passed over"
+        ),
+        Some(LinesWithoutId { first, later }) => writeln!(
+            errors,
+            "{program}: {path}: line {first} and {later} later lines give no ID and are passed over"
+        ),
+    };
 }

@@ -3,7 +3,7 @@
 use crate::costs::parts::{end_line, write_event, write_listed, write_macro, write_steps};
 use crate::costs::way::write_way;
 use check_costs::{Breakdown, EventCost, MacroCost, Share};
-use check_text::CheckedPool;
+use check_text::{CheckedPool, CommandText};
 use std::io::{self, Write};
 
 /// Writes the event with its macros, then each macro that it can run with the shares of its commands, and then the dearest way.
@@ -58,7 +58,11 @@ fn write_shares<W: Write>(
                 steps,
             } => {
                 write_steps(*steps, out)?;
-                write!(out, "  command {function:02X} at byte {at}")?;
+                let command = CommandText {
+                    at: *at,
+                    function: *function,
+                };
+                write!(out, "  {command}")?;
                 end_line(*steps, out)?;
             }
             Share::MayHide(event) => write_raised(source, breakdown, "may raise", event, out)?,

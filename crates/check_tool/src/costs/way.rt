@@ -3,7 +3,7 @@
 
 use crate::costs::parts::{end_line, write_event, write_macro, write_steps};
 use check_costs::{Breakdown, MacroCost, Share};
-use check_text::CheckedPool;
+use check_text::{CheckedPool, CommandText};
 use std::io::{self, Write};
 use vt_objects::ObjectId;
 
@@ -58,7 +58,11 @@ fn write_command<W: Write>(
     write!(out, "  ")?;
     write_macro(source, cost.id, out)?;
     if let Some(Share::Command { at, function, .. }) = cost.shares.get(command) {
-        write!(out, ", command {function:02X} at byte {at}")?;
+        let command = CommandText {
+            at: *at,
+            function: *function,
+        };
+        write!(out, ", {command}")?;
     }
     end_line(cost.steps, out)
 }

@@ -1,0 +1,44 @@
+//! Objects of JSON with plain members.
+
+ghost use Rattle.std.specs.Prelude.{◌≡◌, IfOk, codes};
+ghost use Rattle.serde_json.specs.Data as trees;
+ghost use Rattle.serde_json.specs.View.{view};
+ghost use Rattle.check_json.specs.Members.{cell_data, with_cells};
+
+use serde_json::{Map, Value};
+use std::alloc::{AllocError, Global};
+
+/// The value of a plain member.
+#[derive(Clone, Copy)]
+pub enum Cell<'a> {
+    Number(u64),
+    Text(&'a str),
+}
+
+impl Cell<'_> {
+    fn value(&self, alloc: Global) -> Result<Value, AllocError>
+        ensures { IfOk result (λ v. view v ≡ cell_data self.now) }
+    {
+        match self {
+            Cell::Number(number) => Ok(Value::from(*number)),
+            Cell::Text(text) => Ok(Value::String(String::from_str(alloc, text)?)),
+        }
+    }
+}
+
+/// A pool's object as the member `object`, and plain members by their names.
+pub(crate) fn object_with(
+    alloc: Global,
+    object: Value,
+    members: &[(&str, Cell<'_>)],
+) -> Result<Value, AllocError>
+    ensures { IfOk result (λ v. view v ≡ trees.object (with_cells (trees.member (codes "object") (view object) trees.no_members) members.now)) }
+{
+    let mut map = Map::new(alloc);
+    serde_json::put(&mut map, alloc, "object", object)?;
+    for member in members {
+        let value = member.1.value(alloc)?;
+        serde_json::put(&mut map, alloc, member.0, value)?;
+    }
+    Ok(Value::Object(map))
+}

@@ -1,0 +1,144 @@
+//! The sentences of warnings about values.
+
+use crate::checked_pool::CheckedPool;
+use crate::events::event_name;
+use check_values::{LimitedValue, Meaning, ValueWarning};
+use std::fmt;
+use vt_objects::Event;
+
+/// The sentence of a warning about a value, with the kind and the name of its object.
+#[derive(Clone, Copy, Drop)]
+pub(crate) struct ValueSentence<'a, 'b> {
+    pub(crate) source: CheckedPool<'a>,
+    pub(crate) warning: &'b ValueWarning,
+}
+
+impl fmt::Display for ValueSentence<'_, '_> {
+    fn fmt<W: fmt::Write>(&self, f: &mut fmt::Formatter<W>) -> fmt::Result {
+        write!(f, "{}: ", self.source.label(self.warning.object()))?;
+        match self.warning {
+            ValueWarning::NoMeaning { limited, .. } => write_no_meaning(f, *limited),
+            ValueWarning::EmptyRange { min, max, .. } => {
+                write!(
+                    f,
+                    "minimum {min} and maximum {max}; expected a minimum below the maximum"
+                )
+            }
+            ValueWarning::OutOfRange(it) => {
+                let name = it.field.name();
+                write!(
+                    f,
+                    "the {name} {} is not from {} to {}",
+                    it.value, it.min, it.max
+                )
+            }
+            ValueWarning::NoItem { value, items, .. } => {
+                write!(
+                    f,
+                    "the value {value} is the index of none of its {items} items; 255 is for no item"
+                )
+            }
+            ValueWarning::PictureBytes {
+                bytes,
+                expected,
+                ..
+            } => {
+                write!(
+                    f,
+                    "image data of {bytes} bytes, and its pixels take {expected}"
+                )
+            }
+            ValueWarning::HalfPair { bytes, .. } => {
+                write!(
+                    f,
+                    "its {bytes} bytes end inside a pair of a count and a byte"
+                )
+            }
+            ValueWarning::FewPoints { points, .. } => write!(
+                f,
+                "number of points {points}; expected at least 3"
+            ),
+            ValueWarning::PointOutside(it) => write!(
+                f,
+                "point {} at {},{} is outside of its area of {}x{}",
+                it.index, it.point.x, it.point.y, it.width, it.height
+            ),
+            ValueWarning::ShortVariable(it) => {
+                let variable = self.source.label(it.variable);
+                write!(
+                    f,
+                    "its texts take {} bytes, and {variable} has {}",
+                    it.expected, it.bytes
+                )
+            }
+            ValueWarning::NeverRaised { index, event, .. } => write_never_raised(f, *index, *event),
+            ValueWarning::NoActiveMask { .. } => {
+                f.write_str("no mask is active (65535); expected a Data Mask or an Alarm Mask")
+            }
+            ValueWarning::NoDesignator { .. } => {
+                f.write_str("it has no child, and the operator knows it by what its children show")
+            }
+            ValueWarning::NoLanguage(it) => write!(
+                f,
+                "the bytes of language {} are {:02X} {:02X}; expected two small letters, such as en",
+                it.index, it.language.first, it.language.second
+            ),
+            ValueWarning::InputThere { index, id, .. } => {
+                let child = self.source.label(*id);
+                write!(
+                    f,
+                    "child {index}, {child}, is an input or a button, which no operator can reach there"
+                )
+            }
+            ValueWarning::NoCode { .. } => {
+                f.write_str("key code 0, which means none; expected 1 to 255")
+            }
+            ValueWarning::SameColour { font, colour, .. } => {
+                let font = self.source.label(*font);
+                write!(
+                    f,
+                    "its background and {font} have the colour {colour}, so its text is not seen"
+                )
+            }
+        }
+    }
+}
+
+fn write_no_meaning<W: fmt::Write>(
+    f: &mut fmt::Formatter<W>,
+    limited: LimitedValue,
+) -> fmt::Result {
+    let LimitedValue {
+        field,
+        value,
+        meaning,
+    } = limited;
+    let name = field.name();
+    match meaning {
+        Meaning::UpTo(most) => write!(f, "{name} {value}; expected 0 to {most}"),
+        Meaning::FontTypes => write!(
+            f,
+            "{name} {value}; expected 0, 1, 2, 4, 5, 7, or a type of the terminal's maker from 240 on"
+        ),
+    }
+}
+
+fn write_never_raised<W: fmt::Write>(
+    f: &mut fmt::Formatter<W>,
+    index: usize,
+    event: u8,
+) -> fmt::Result {
+    match Event::from_number(event) {
+        Some(_) => {
+            let name = event_name(event);
+            write!(
+                f,
+                "macro entry {index} is for {name}, which an object of its kind never has"
+            )
+        }
+        None => write!(
+            f,
+            "macro entry {index} is for event {event}, and no event has this number"
+        ),
+    }
+}
