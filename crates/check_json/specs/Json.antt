@@ -229,11 +229,11 @@ value_details_of source (values.NoLanguage it) =
     object (member (codes "first") (number_data it.language.first) (member (codes "index") (number_data it.index)
     (member (codes "object") (object_data source it.id) (member (codes "second") (number_data it.language.second) no_members))))
 value_details_of source (values.InputThere parent index id) =
-    object (member (codes "index") (number_data index) (member (codes "input") (number_data id)
+    object (member (codes "index") (number_data index) (member (codes "input_id") (number_data id)
     (member (codes "object") (object_data source parent) no_members)))
 value_details_of source (values.NoCode id) = object_details (object_data source id)
 value_details_of source (values.SameColour id font colour) =
-    object (member (codes "colour") (number_data colour) (member (codes "font") (number_data font)
+    object (member (codes "colour") (number_data colour) (member (codes "font_id") (number_data font)
     (member (codes "object") (object_data source id) no_members)))
 
 -- ---- the details of an item

@@ -100,7 +100,7 @@ pub(crate) fn value_warning_details(
             object,
             &[
                 ("index", Cell::Number(*index as u64)),
-                ("input", Cell::Number(u64::from(id.raw()))),
+                ("input_id", Cell::Number(u64::from(id.raw()))),
             ],
         ),
         ValueWarning::SameColour { font, colour, .. } => object_with(
@@ -108,7 +108,7 @@ pub(crate) fn value_warning_details(
             object,
             &[
                 ("colour", Cell::Number(u64::from(*colour))),
-                ("font", Cell::Number(u64::from(font.raw()))),
+                ("font_id", Cell::Number(u64::from(font.raw()))),
             ],
         ),
         ValueWarning::NoActiveMask { .. }

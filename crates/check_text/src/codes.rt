@@ -26,7 +26,7 @@ impl Code {
     }
 }
 
-/// Whether a word is a code or the name of one, in capital or small letters.
+/// Whether a word is the code of an error or a warning, or the name of one, in capital or small letters.
 pub fn is_code(word: &str) -> bool {
     CODES.iter().any(|(code, name)| is_either(word, code, name))
 }
@@ -35,14 +35,13 @@ fn is_either(word: &str, code: &str, name: &str) -> bool {
     word.eq_ignore_ascii_case(code) || word.eq_ignore_ascii_case(name)
 }
 
-/// All codes, with their names.
-const CODES: [(&str, &str); 44] = [
+/// The codes of errors and warnings, with their names.
+const CODES: [(&str, &str); 40] = [
     ("P01", "Truncated"),
     ("P02", "UnknownType"),
     ("P03", "LeftOutType"),
     ("P04", "Scale"),
     ("P05", "Decimals"),
-    ("P06", "OutOfMemory"),
     ("P07", "NullId"),
     ("R01", "NoWorkingSet"),
     ("R02", "TwoWorkingSets"),
@@ -78,9 +77,6 @@ const CODES: [(&str, &str); 44] = [
     ("W20", "InputThere"),
     ("W21", "NoCode"),
     ("W22", "SameColour"),
-    ("N01", "Unread"),
-    ("N02", "UnknownTriggers"),
-    ("N03", "UnknownCosts"),
 ];
 
 fn code_named(code: &'static str, name: &'static str) -> Code

@@ -14,12 +14,14 @@ pub(crate) enum NameLine<'a> {
 impl<'a> NameLine<'a> {
     /// Reads a line.
     pub(crate) fn read(line: &'a str) -> NameLine<'a> {
-        let line = line.trim();
+        let line = line.trim_start_matches('\u{FEFF}').trim();
         match line.strip_prefix('#') {
             Some(directive) => read_directive(directive),
             None if is_comment(line) => NameLine::Other,
             None => match line.split_once(',') {
-                Some((id, names)) if is_number(id.trim()) => read_pair(id.trim(), names),
+                Some((id, names)) if is_number(id.trim()) && !starts_with_digit(names) => {
+                    read_pair(id.trim(), names)
+                }
                 _ => read_constant(line),
             },
         }
@@ -51,6 +53,10 @@ fn read_directive(line: &str) -> NameLine<'_> {
     let Some(rest) = line.trim_start().strip_prefix("define") else {
         return NameLine::Other;
     };
+    if !rest.starts_with([' ', '\t']) {
+        return NameLine::Other;
+    }
+    let rest = without_comment(rest);
     let Some(name) = rest.split_ascii_whitespace().next() else {
         return NameLine::Other;
     };
@@ -58,7 +64,7 @@ fn read_directive(line: &str) -> NameLine<'_> {
         return NameLine::Other;
     };
     let value = value.trim();
-    if !is_identifier(name) || value.is_empty() || is_comment(value) {
+    if !is_identifier(name) || value.is_empty() {
         return NameLine::Other;
     }
     match number_in(value).and_then(read_id) {
@@ -67,15 +73,14 @@ fn read_directive(line: &str) -> NameLine<'_> {
     }
 }
 
-/// The number of a definition: what is in parentheses, or the first word.
+/// The number of a definition, without parentheses and casts around it: the first word of what is left.
 fn number_in(value: &str) -> Option<&str> {
-    match value.strip_prefix('(') {
-        Some(rest) => {
-            let (number, _) = rest.trim_start_matches('(').split_once(')')?;
-            Some(number.trim())
-        }
-        None => value.split_ascii_whitespace().next(),
-    }
+    let value = value.trim_end_matches([')', ' ', '\t']);
+    let value = match value.rsplit_once(['(', ')']) {
+        Some((_, number)) => number,
+        None => value,
+    };
+    value.split_ascii_whitespace().next()
 }
 
 /// Reads a member of an enum, such as `NAME = ID,`, or a typed constant, such as `const uint16_t NAME = ID;` or `const uint16_t NAME{ID};`.
@@ -123,17 +128,23 @@ fn without_comment(line: &str) -> &str {
     }
 }
 
+/// Whether a text begins with a digit, as the next number of a list does.
+fn starts_with_digit(text: &str) -> bool {
+    text.trim_start().starts_with(|c: char| c.is_ascii_digit())
+}
+
 /// Whether a word is a name in C.
 fn is_identifier(word: &str) -> bool {
-    let is_number = word.starts_with(|c: char| c.is_ascii_digit());
-    !is_number && !word.is_empty() && word.chars().all(|c| c == '_' || c.is_alphanumeric())
+    !starts_with_digit(word)
+        && !word.is_empty()
+        && word.chars().all(|c| c == '_' || c.is_alphanumeric())
 }
 
 /// Whether a word is a number of any size, decimal, or hex after `0x`.
 fn is_number(word: &str) -> bool {
     match hex_digits(word) {
         Some(digits) => digits.bytes().all(|byte| byte.is_ascii_hexdigit()),
-        None => word.bytes().all(|byte| byte.is_ascii_digit()),
+        None => !word.is_empty() && word.bytes().all(|byte| byte.is_ascii_digit()),
     }
 }
 

@@ -19,10 +19,7 @@ impl fmt::Display for ValueSentence<'_, '_> {
         match self.warning {
             ValueWarning::NoMeaning { limited, .. } => write_no_meaning(f, *limited),
             ValueWarning::EmptyRange { min, max, .. } => {
-                write!(
-                    f,
-                    "minimum {min} and maximum {max}; expected a minimum below the maximum"
-                )
+                write!(f, "the maximum {max} is not above the minimum {min}")
             }
             ValueWarning::OutOfRange(it) => {
                 let name = it.field.name();
@@ -35,7 +32,7 @@ impl fmt::Display for ValueSentence<'_, '_> {
             ValueWarning::NoItem { value, items, .. } => {
                 write!(
                     f,
-                    "the value {value} is the index of none of its {items} items; 255 is for no item"
+                    "value {value}; expected an index below {items}, or 255 for no item"
                 )
             }
             ValueWarning::PictureBytes {
@@ -45,7 +42,7 @@ impl fmt::Display for ValueSentence<'_, '_> {
             } => {
                 write!(
                     f,
-                    "image data of {bytes} bytes, and its pixels take {expected}"
+                    "image data of {bytes} bytes; expected {expected} for its pixels"
                 )
             }
             ValueWarning::HalfPair { bytes, .. } => {
@@ -67,16 +64,18 @@ impl fmt::Display for ValueSentence<'_, '_> {
                 let variable = self.source.label(it.variable);
                 write!(
                     f,
-                    "its texts take {} bytes, and {variable} has {}",
-                    it.expected, it.bytes
+                    "{variable} has {} bytes; expected at least {}, the length of its texts",
+                    it.bytes, it.expected
                 )
             }
             ValueWarning::NeverRaised { index, event, .. } => write_never_raised(f, *index, *event),
             ValueWarning::NoActiveMask { .. } => {
-                f.write_str("no mask is active (65535); expected a Data Mask or an Alarm Mask")
+                f.write_str(
+                    "active mask 65535, which is none; expected a Data Mask or an Alarm Mask",
+                )
             }
             ValueWarning::NoDesignator { .. } => {
-                f.write_str("it has no child, and the operator knows it by what its children show")
+                f.write_str("no child; expected a designator, by which the operator knows it")
             }
             ValueWarning::NoLanguage(it) => write!(
                 f,
@@ -87,17 +86,19 @@ impl fmt::Display for ValueSentence<'_, '_> {
                 let child = self.source.label(*id);
                 write!(
                     f,
-                    "child {index}, {child}, is an input or a button, which no operator can reach there"
+                    "child {index}, {child}, is an input or a button, which is not allowed there"
                 )
             }
             ValueWarning::NoCode { .. } => {
-                f.write_str("key code 0, which means none; expected 1 to 255")
+                f.write_str(
+                    "key code 0, which is for the terminal's own key for alarms; expected 1 to 255",
+                )
             }
             ValueWarning::SameColour { font, colour, .. } => {
                 let font = self.source.label(*font);
                 write!(
                     f,
-                    "its background and {font} have the colour {colour}, so its text is not seen"
+                    "its text cannot be seen: its background and {font} have the colour {colour}"
                 )
             }
         }
@@ -133,12 +134,12 @@ fn write_never_raised<W: fmt::Write>(
             let name = event_name(event);
             write!(
                 f,
-                "macro entry {index} is for {name}, which an object of its kind never has"
+                "macro entry {index} lists {name}, an event that an object of its kind never has"
             )
         }
         None => write!(
             f,
-            "macro entry {index} is for event {event}, and no event has this number"
+            "macro entry {index} lists event {event}, which does not exist"
         ),
     }
 }

@@ -1,5 +1,5 @@
 -- The events that objects of each kind can have (ISO 11783-6; docs/PROFILE.md, "Warnings").
-use Rattle.std.specs.Prelude.{ℕ, Bool, false, ◌==◌, if◌then◌else◌, List, [], ◌∷◌, Option, Some, None}
+use Rattle.std.specs.Prelude.{ℕ, Bool, false, ◌==◌, ◌||◌, ◌&&◌, if◌then◌else◌, List, [], ◌∷◌, Option, Some, None}
 use Rattle.std.specs.List.{list_any}
 use Rattle.vt_commands.specs.declared.event.Event.{Event}
 use Rattle.vt_commands.specs.declared.event.Event.TheVariants as events
@@ -53,13 +53,17 @@ kinds_with events.KeyPress = 5 ∷ 6 ∷ []
 kinds_with events.KeyRelease = 5 ∷ 6 ∷ []
 kinds_with events.ChildPosition = parents
 
+-- events of later versions: of a touched Data Mask, and any event of an extended macro entry
+abbrev pub is_later : Kind → ℕ → Bool
+is_later kind event = event == 255 || (event == 27 || event == 28) && kind_number kind == 1
+
 abbrev pub is_kind_with : Kind → Option Event → Bool
 is_kind_with kind None = false
 is_kind_with kind (Some event) = list_any (λ number. number == kind_number kind) (kinds_with event)
 
 -- whether objects of a kind can have the event with a number
 abbrev pub can_have : Kind → ℕ → Bool
-can_have kind event = is_kind_with kind (event_at event)
+can_have kind event = is_later kind event || is_kind_with kind (event_at event)
 
 -- an entry for an event that a kind never has
 abbrev pub unless_raised : ℕ → Kind → ℕ → MacroEntry → List ValueWarning

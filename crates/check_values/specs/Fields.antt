@@ -1,5 +1,5 @@
 -- The fields of which only some numbers have a meaning (ISO 11783-6; docs/PROFILE.md, "Warnings").
-use Rattle.std.specs.Prelude.{ℕ, Bool, nat_le, ◌||◌, ◌==◌, if◌then◌else◌, List, [], ◌∷◌}
+use Rattle.std.specs.Prelude.{ℕ, Bool, nat_le, nat_lt, ◌||◌, ◌==◌, if◌then◌else◌, List, [], ◌∷◌}
 use Rattle.std.specs.List.{flat_map}
 use Rattle.vt_kinds.specs.declared.object.Object.TheVariants as object
 use Rattle.vt_kinds.specs.Records.{Seen}
@@ -18,6 +18,10 @@ up_to field value most = record { field = field; value = value; meaning = meanin
 -- the type of a font: the code pages of the standard, and those of a maker of terminals
 abbrev pub font_type : ℕ → LimitedValue
 font_type value = record { field = fields.FontType; value = value; meaning = meanings.FontTypes }
+
+-- Bit 7 of the style: the size is a height in pixels.
+abbrev pub greatest_size : ℕ → ℕ
+greatest_size style = if nat_lt style 128 then 14 else 255
 
 -- angles are in steps of two degrees
 abbrev pub angle : LimitedField → ℕ → LimitedValue
@@ -39,7 +43,7 @@ limited_values (object.Polygon o) = up_to fields.Type o.polygon_type 3 ∷ []
 limited_values (object.Meter o) = angle fields.Start o.start ∷ angle fields.End o.end ∷ []
 limited_values (object.ArchedBar o) = angle fields.Start o.start ∷ angle fields.End o.end ∷ []
 limited_values (object.Picture o) = up_to fields.Format o.format 2 ∷ []
-limited_values (object.Font o) = up_to fields.Size o.size 14 ∷ font_type o.font_type ∷ []
+limited_values (object.Font o) = up_to fields.Size o.size (greatest_size o.style) ∷ font_type o.font_type ∷ []
 limited_values (object.FillAttributes o) = up_to fields.Type o.fill_type 3 ∷ []
 limited_values (object.InputAttributes o) = up_to fields.ValidationType o.validation_type 1 ∷ []
 limited_values o = []

@@ -1,4 +1,4 @@
--- Inputs where the operator cannot reach them, and keys without a code (docs/PROFILE.md, "Warnings").
+-- Inputs where they are not allowed, and keys without a code of their own (docs/PROFILE.md, "Warnings").
 use Rattle.std.specs.Prelude.{ℕ, Bool, true, false, ◌==◌, if◌then◌else◌, List, [], ◌∷◌, Option, Some, None}
 use Rattle.std.specs.FinMap as finite
 use Rattle.vt_kinds.specs.declared.entries.Child.{Child}

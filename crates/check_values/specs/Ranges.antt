@@ -1,5 +1,5 @@
 -- Ranges, and the numbers that objects show at first (docs/PROFILE.md, "Warnings").
-use Rattle.std.specs.Prelude.{ℕ, Bool, true, false, not, nat_lt, ◌||◌, ◌&&◌, ◌==◌, if◌then◌else◌, List, [], ◌∷◌, ◌++◌, length, Option, Some, None}
+use Rattle.std.specs.Prelude.{ℕ, ◌/◌, ◌%◌, Bool, true, false, not, nat_lt, ◌||◌, ◌&&◌, ◌==◌, if◌then◌else◌, List, [], ◌∷◌, ◌++◌, length, Option, Some, None}
 use Rattle.vt_kinds.specs.declared.object.Object.TheVariants as object
 use Rattle.vt_kinds.specs.Records.{Seen}
 use Rattle.vt_shown.specs.ShownElements.{number_shown}
@@ -14,7 +14,7 @@ use Rattle.check_values.specs.declared.warning.ValueWarning.TheVariants as warni
 -- ---- ranges
 
 abbrev pub range : ℕ → ℕ → Bool → Range
-range min max is_drawn = record { min = min; max = max; is_drawn = is_drawn }
+range min max needs_two = record { min = min; max = max; needs_two = needs_two }
 
 -- the range of a meter or a bar
 abbrev pub drawn_range : ℕ → ℕ → Range
@@ -30,7 +30,7 @@ range_of o = None
 
 -- No number is in a range. A meter or a bar with one number has nothing to show.
 abbrev pub is_empty : Range → Bool
-is_empty r = nat_lt r.max r.min || r.is_drawn && r.max == r.min
+is_empty r = nat_lt r.max r.min || r.needs_two && r.max == r.min
 
 abbrev pub if_empty : ℕ → Option Range → List ValueWarning
 if_empty id None = []
@@ -50,10 +50,14 @@ value_of objects (object.LinearBar o) = number_shown (map_of objects) o.variable
 value_of objects (object.ArchedBar o) = number_shown (map_of objects) o.variable o.value
 value_of objects o = None
 
--- the target that a bar shows at first
+-- Bit 1 of the options: the bar has a line at its target.
+abbrev pub if_target_line : ℕ → Option ℕ → Option ℕ
+if_target_line options target = if options / 2 % 2 == 1 then target else None
+
+-- the target that a bar shows at first, if it has a line there
 abbrev pub target_of : Objects → Seen → Option ℕ
-target_of objects (object.LinearBar o) = number_shown (map_of objects) o.target_variable o.target
-target_of objects (object.ArchedBar o) = number_shown (map_of objects) o.target_variable o.target
+target_of objects (object.LinearBar o) = if_target_line o.options (number_shown (map_of objects) o.target_variable o.target)
+target_of objects (object.ArchedBar o) = if_target_line o.options (number_shown (map_of objects) o.target_variable o.target)
 target_of objects o = None
 
 abbrev pub number_outside : ℕ → RangedField → ℕ → Range → OutOfRange

@@ -56,10 +56,28 @@ fn can_have(kind: Kind, event: u8) -> bool
     ensures { result ≡ spec.can_have kind event }
 {
     match Event::from_number(event) {
-        None => false,
-        Some(event) => kinds_with(event).contains(&kind.number()),
+        None => is_later(kind, event),
+        Some(known) => is_later(kind, event) || kinds_with(known).contains(&kind.number()),
     }
 }
+
+/// Whether objects of a kind have an event of a later version: that of a touched Data Mask, or any event of an extended macro entry.
+fn is_later(kind: Kind, event: u8) -> bool
+    ensures { result ≡ spec.is_later kind event }
+{
+    event == EXTENDED || (event == TOUCHED || event == UNTOUCHED) && kind.number() == DATA_MASK
+}
+
+/// The event of an entry that goes on in the next one, with an ID of two bytes.
+const EXTENDED: u8 = 255;
+
+/// The events of a Data Mask that is touched, and touched no more.
+const TOUCHED: u8 = 27;
+
+const UNTOUCHED: u8 = 28;
+
+/// The number of the kind Data Mask.
+const DATA_MASK: u8 = 1;
 
 /// The numbers of the kinds whose objects can have an event (docs/PROFILE.md, "Warnings").
 fn kinds_with(event: Event) -> &'static [u8]

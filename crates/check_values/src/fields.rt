@@ -92,7 +92,7 @@ fn limited_values(object: &Object<Vec<u8>>) -> Limited
         ),
         Object::Picture(o) => one(up_to(LimitedField::Format, o.format, 2)),
         Object::Font(o) => two(
-            up_to(LimitedField::Size, o.size, 14),
+            up_to(LimitedField::Size, o.size, greatest_size(o.style)),
             LimitedValue {
                 field: LimitedField::FontType,
                 value: o.font_type,
@@ -116,6 +116,13 @@ fn limited_values(object: &Object<Vec<u8>>) -> Limited
         | Object::ObjectPointer(_)
         | Object::Macro(_) => ArrayVec::new(),
     }
+}
+
+/// The greatest size of a font. With bit 7 of the style it is a height in pixels.
+fn greatest_size(style: u8) -> u8
+    ensures { result ≡ spec.greatest_size style }
+{
+    if style < 128 { 14 } else { 255 }
 }
 
 /// A field whose numbers up to `most` have a meaning.

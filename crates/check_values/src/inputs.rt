@@ -1,4 +1,4 @@
-//! Inputs where the operator cannot reach them, and keys without a code.
+//! Inputs where they are not allowed, and keys without a code of their own.
 
 ghost use Rattle.std.specs.Prelude.{◌≡◌, ◌++◌, OnOk};
 ghost use Rattle.vt_kinds.specs.Records.{seen};

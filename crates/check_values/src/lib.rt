@@ -1,4 +1,4 @@
-//! Values of a pool that a terminal cannot show, enter or raise, though it accepts the pool.
+//! Values of a pool that are likely mistakes, though a terminal accepts the pool.
 //!
 //! - `value_warnings` finds each `ValueWarning` about the objects of a pool, which need not be an accepted one: numbers without a meaning,
 //!   ranges, the bytes of pictures, the points of polygons, lengths of texts, events of macro entries, and what a Working Set lacks.

@@ -1,6 +1,6 @@
 //! Ranges, and the numbers that objects show at first.
 
-ghost use Rattle.std.specs.Prelude.{◌≡◌, ◌++◌, Option, OnOk};
+ghost use Rattle.std.specs.Prelude.{◌≡◌, ◌==◌, ◌/◌, ◌%◌, ◌++◌, OnOk};
 ghost use Rattle.vt_kinds.specs.Records.{seen};
 ghost use Rattle.vt_stores.specs.Stores.{map_of};
 ghost use Rattle.check_values.specs.Ranges as spec;
@@ -21,7 +21,7 @@ pub struct Range {
     /// The greatest number.
     pub max: u32,
     /// Whether a range of one number is empty: a meter or a bar then has nothing to show.
-    pub is_drawn: bool,
+    pub needs_two: bool,
 }
 
 impl Range {
@@ -29,7 +29,7 @@ impl Range {
     fn is_empty(self) -> bool
         ensures { result ≡ spec.is_empty self }
     {
-        self.max < self.min || self.is_drawn && self.max == self.min
+        self.max < self.min || self.needs_two && self.max == self.min
     }
 }
 
@@ -41,7 +41,7 @@ fn range_of(object: &Object<Vec<u8>>) -> Option<Range>
         Object::InputNumber(o) => Some(Range {
             min: o.min,
             max: o.max,
-            is_drawn: false,
+            needs_two: false,
         }),
         Object::Meter(o) => Some(drawn_range(o.min, o.max)),
         Object::LinearBar(o) => Some(drawn_range(o.min, o.max)),
@@ -57,7 +57,7 @@ fn drawn_range(min: u16, max: u16) -> Range
     Range {
         min: u32::from(min),
         max: u32::from(max),
-        is_drawn: true,
+        needs_two: true,
     }
 }
 
@@ -139,13 +139,24 @@ fn value_of(objects: &SortedStore, object: &Object<Vec<u8>>) -> Option<u32>
     }
 }
 
-/// The target that a bar shows at first. `None` if its variable is missing, and for other objects.
+/// Whether a bar has a line at its target: bit 1 of its options.
+fn has_target_line(options: u8) -> bool
+    ensures { result ≡ (options / 2 % 2 == 1) }
+{
+    options / 2 % 2 == 1
+}
+
+/// The target that a bar shows at first. `None` if it has no line there or its variable is missing, and for other objects.
 fn target_of(objects: &SortedStore, object: &Object<Vec<u8>>) -> Option<u32>
     ensures { result ≡ spec.target_of objects.now (seen object.now) }
 {
     match object {
-        Object::LinearBar(o) => number_shown(objects, o.target_variable, u32::from(o.target)),
-        Object::ArchedBar(o) => number_shown(objects, o.target_variable, u32::from(o.target)),
+        Object::LinearBar(o) if has_target_line(o.options) => {
+            number_shown(objects, o.target_variable, u32::from(o.target))
+        }
+        Object::ArchedBar(o) if has_target_line(o.options) => {
+            number_shown(objects, o.target_variable, u32::from(o.target))
+        }
         _ => None,
     }
 }

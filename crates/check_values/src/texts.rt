@@ -37,10 +37,7 @@ pub(crate) fn put_short_variables(
     Ok(())
 }
 
-/// The weight of bit 0 of the options of a field: its background is transparent.
-const IS_TRANSPARENT: u8 = 1;
-
-/// Appends a field whose font has the colour of its background.
+/// Appends a field whose font has the colour of its background. An Output String of spaces, without a variable, is a coloured area.
 pub(crate) fn put_same_colours(
     objects: &SortedStore,
     id: ObjectId,
@@ -52,7 +49,12 @@ pub(crate) fn put_same_colours(
     match object {
         Object::InputString(o) => put_if_same(objects, id, o.font, o.colour, o.options, found),
         Object::InputNumber(o) => put_if_same(objects, id, o.font, o.colour, o.options, found),
-        Object::OutputString(o) => put_if_same(objects, id, o.font, o.colour, o.options, found),
+        Object::OutputString(o) => {
+            if o.variable.is_null() && !has_characters(o.text.as_slice()) {
+                return Ok(());
+            }
+            put_if_same(objects, id, o.font, o.colour, o.options, found)
+        }
         Object::OutputNumber(o) => put_if_same(objects, id, o.font, o.colour, o.options, found),
         _ => Ok(()),
     }
@@ -70,10 +72,24 @@ fn put_if_same(
     ensures { OnOk result (found.new.items ≡ found.old.items ++ spec.if_same id font colour options (object_at objects.now font)) }
 {
     match objects.get(font) {
-        Some(Object::Font(o)) if o.colour == colour && options % 2 != IS_TRANSPARENT => {
+        Some(Object::Font(o)) if o.colour == colour && is_opaque(options, o.style) => {
             found.push(ValueWarning::SameColour { id, font, colour })?;
         }
         _ => {}
     }
     Ok(())
+}
+
+/// Whether a background is opaque: without bit 0 of the options, or with an inverted font, bit 4 of its style.
+fn is_opaque(options: u8, style: u8) -> bool
+    ensures { result ≡ spec.is_opaque options style }
+{
+    options % 2 == 0 || style / 16 % 2 == 1
+}
+
+/// Whether a text has a character that is no space.
+fn has_characters(text: &[u8]) -> bool
+    ensures { result ≡ spec.has_characters text.now }
+{
+    text.iter().any(|c| *c != b' ')
 }

@@ -153,8 +153,7 @@ pub struct NoLanguage {
     pub language: Language,
 }
 
-/// A value of an object for which a terminal does not refuse a pool, and which it cannot show, enter or raise (docs/PROFILE.md,
-/// "Warnings").
+/// A value of an object that is likely a mistake, and for which a terminal does not refuse a pool (docs/PROFILE.md, "Warnings").
 #[derive(Clone, Copy, PartialEq, Eq)]
 pub enum ValueWarning {
     /// A field has a number without a meaning.
@@ -214,7 +213,7 @@ pub enum ValueWarning {
     },
     /// A language code is not two small letters.
     NoLanguage(NoLanguage),
-    /// An Alarm Mask or a Key has an input or a button, which no operator can reach there.
+    /// An Alarm Mask or a Key has an input or a button among its children, which is not allowed there.
     InputThere {
         parent: ObjectId,
         /// The index of the child in the object's list.
@@ -222,7 +221,7 @@ pub enum ValueWarning {
         /// The child, or the value of the pointer that is the child.
         id: ObjectId,
     },
-    /// A Key or a Button has the code 0, which means none.
+    /// A Key or a Button has the code 0, which belongs to the terminal's own key for alarms.
     NoCode {
         id: ObjectId,
     },
