@@ -73,14 +73,13 @@ fn read_directive(line: &str) -> NameLine<'_> {
     }
 }
 
-/// The number of a definition, without parentheses and casts around it: the first word of what is left.
+/// The number of a definition: its first word, or the only word in parentheses or behind a cast.
 fn number_in(value: &str) -> Option<&str> {
     let value = value.trim_end_matches([')', ' ', '\t']);
-    let value = match value.rsplit_once(['(', ')']) {
-        Some((_, number)) => number,
-        None => value,
-    };
-    value.split_ascii_whitespace().next()
+    match value.rsplit_once(['(', ')']) {
+        Some((_, number)) => Some(number.trim()),
+        None => value.split_ascii_whitespace().next(),
+    }
 }
 
 /// Reads a member of an enum, such as `NAME = ID,`, or a typed constant, such as `const uint16_t NAME = ID;` or `const uint16_t NAME{ID};`.
