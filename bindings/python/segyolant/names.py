@@ -8,8 +8,8 @@ ID = r'(?P<id>0[xX][0-9A-Fa-f]+|[0-9]+)'
 NUMBER = ID + '[uUlL]*'
 NAME = r'(?P<name>[^\W\d]\w*)'
 COMMENT = re.compile('//|/[*]|[*]')
-PAIR = re.compile(ID + r'\s*,\s*(?P<name>[^,]+?)\s*(,.*)?')
-DEFINE = re.compile(r'#\s*define\s+' + NAME + r'\s+(' + NUMBER + r'(\s.*)?|\(+\s*' + NUMBER.replace('id>', 'id_inside>') + r'\s*\).*)')
+PAIR = re.compile(ID + r'\s*,\s*(?P<name>[^\s\d,][^,]*?)\s*(,.*)?')
+DEFINE = re.compile(r'#\s*define\s+' + NAME + r'\s+(?P<value>.*)')
 MEMBER = re.compile(NAME + r'\s*[={]\s*' + NUMBER + r'[\s,}]*')
 CONSTANT = re.compile(r'(.*\s)?const(expr)?\s(.*[^:\s]\s+)?' + NAME + r'\s*[={]\s*' + NUMBER + r'[\s,;}]*')
 
@@ -31,18 +31,23 @@ def names_of(path: str | os.PathLike[str]) -> dict[str, int]:
 
 def _name_in(line: bytes) -> tuple[str, int] | None:
     try:
-        text = line.decode('utf-8').strip()
+        text = line.decode('utf-8').lstrip('\ufeff').strip()
     except UnicodeDecodeError:
         text = line.decode('latin-1').strip()
     if COMMENT.match(text):
         return None
     code = re.split('//|/[*]', text)[0].strip()
-    found = PAIR.fullmatch(text) or DEFINE.fullmatch(text) or MEMBER.fullmatch(code) or CONSTANT.fullmatch(code)
-    if not found:
-        return None
-    parts = found.groupdict()
-    identifier = _id_of(parts['id'] or parts['id_inside'])
-    return (parts['name'], identifier) if identifier is not None else None
+    defined = DEFINE.fullmatch(code)
+    number = re.fullmatch(NUMBER, _number_in(defined['value'])) if defined else None
+    found = number or PAIR.fullmatch(text) or MEMBER.fullmatch(code) or CONSTANT.fullmatch(code)
+    identifier = _id_of(found['id']) if found else None
+    return ((defined or found)['name'], identifier) if identifier is not None else None
+
+
+def _number_in(value: str) -> str:
+    """The number of a definition: its first word, or the only word in parentheses or behind a cast."""
+    parts = re.split('[()]', value.rstrip(') \t'))
+    return parts[-1].strip() if len(parts) > 1 else (value.split() or [''])[0]
 
 
 def _id_of(word: str) -> int | None:

@@ -23,6 +23,13 @@ class Names(unittest.TestCase):
         text = b'#define a (1)\n#define b ( 0x2u ) // b\n#define c 3UL\n#define d (1 << 3)\n#define e 70000\n'
         self.assertEqual(names_in(text), {'a': 1, 'b': 2, 'c': 3})
 
+    def test_casts_and_comments_without_a_blank(self) -> None:
+        text = b'\xef\xbb\xbf1,first\n#define a (uint16_t)2\n#define b ((uint16_t)3)\n#define c UINT16_C(4)\n#define d 5/* */\n#define e 6//\n#definex 7\n'
+        self.assertEqual(names_in(text), {'first': 1, 'a': 2, 'b': 3, 'c': 4, 'd': 5, 'e': 6})
+
+    def test_a_list_of_bytes_names_nothing(self) -> None:
+        self.assertEqual(names_in(b'uint8_t pool[] = {\n  8, 9, 10,\n  0x0C, 0x0D,\n};\n'), {})
+
     def test_members_and_constants(self) -> None:
         text = b'enum {\n a = 1,\n b = 0x2 /* b */,\n c = 3\n};\nstatic const uint16_t d = 4;\nconstexpr int e{5};\nint f = 6;\nf = 6;\npub const g: u16 = 7;\n'
         self.assertEqual(names_in(text), {'a': 1, 'b': 2, 'c': 3, 'd': 4, 'e': 5})
