@@ -6,9 +6,11 @@ import tempfile
 
 from testing import pools
 
-# The first warning of a pool, in colours.
+# The warnings of a pool, in colours.
 COLOURED = ('warned.iop:24: \x1b[1;33mwarning[W01 Replaced]\x1b[0m Container 100 is replaced by the record at 34\n'
-            'warned.iop: 0 errors, 1 warning, 3 objects\n')
+            'warned.iop:0: \x1b[1;33mwarning[W18 NoDesignator]\x1b[0m Working Set 0: no child; expected a designator, by which the operator '
+            'knows it\n'
+            'warned.iop: 0 errors, 2 warnings, 3 objects\n')
 # A Working Set 0, its Data Mask 1000, and in it the Container 100, whose record comes twice.
 WARNED = '@0 00 00 01 @1000 00 00 00  @1000 01 00 @65535 01 00 @100 @10 @5\n' + 2 * '@100 03 @50 @20 00 00 00\n'
 # Why no cost is known, in colours.

@@ -6,11 +6,11 @@ from tests.support import EXAMPLES, example
 
 
 class Checks(unittest.TestCase):
-    def test_a_good_pool(self) -> None:
-        self.assertEqual(check(example('pool.iop')), [])
+    def test_an_accepted_pool(self) -> None:
+        self.assertEqual([(each.code, each.severity) for each in check(example('pool.iop'))], [('W18', 'warning')])
 
     def test_a_finding(self) -> None:
-        (finding,) = check(example('refusal-03-missing.iop'))
+        (finding,) = [each for each in check(example('refusal-03-missing.iop')) if each.severity == 'error']
         self.assertEqual((finding.code, finding.name, finding.severity), ('R03', 'Missing', 'error'))
         self.assertEqual(finding.details['names']['id'], 100)
         self.assertIn(f'{finding.offset}: error[R03 Missing] Data Mask 1000: ', str(finding))
