@@ -8,7 +8,7 @@ ID = r'(?P<id>0[xX][0-9A-Fa-f]+|[0-9]+)'
 NUMBER = ID + '[uUlL]*'
 NAME = r'(?P<name>[^\W\d]\w*)'
 COMMENT = re.compile('//|/[*]|[*]')
-PAIR = re.compile(ID + r'\s*,\s*(?P<name>[^\s\d,][^,]*?)\s*(,.*)?')
+PAIR = re.compile(ID + r'\s*,\s*(?P<name>(?!(\d+|0[xX][0-9A-Fa-f]+)\s*(,|$))[^\s,][^,]*?)\s*(,.*)?')
 DEFINE = re.compile(r'#\s*define\s+' + NAME + r'\s+(?P<value>.*)')
 MEMBER = re.compile(NAME + r'\s*[={]\s*' + NUMBER + r'[\s,}]*')
 CONSTANT = re.compile(r'(.*\s)?const(expr)?\s(.*[^:\s]\s+)?' + NAME + r'\s*[={]\s*' + NUMBER + r'[\s,;}]*')

@@ -35,7 +35,7 @@ class Names(unittest.TestCase):
         self.assertEqual(names_in(text), {'a': 1, 'b': 2, 'c': 3, 'd': 4, 'e': 5})
 
     def test_pairs(self) -> None:
-        self.assertEqual(names_in(b'1000,work mask\n0x3E9 , fold\nid,name\n70000,big\n5,\n7\n'), {'work mask': 1000, 'fold': 1001})
+        self.assertEqual(names_in(b'1000,work mask\n0x3E9 , fold\n1002,2nd mask\nid,name\n70000,big\n5,\n7\n'), {'work mask': 1000, 'fold': 1001, '2nd mask': 1002})
 
     def test_a_later_line_is_taken(self) -> None:
         self.assertEqual(names_in(b'#define a 1\n#define a 2\n'), {'a': 2})

@@ -19,9 +19,7 @@ impl<'a> NameLine<'a> {
             Some(directive) => read_directive(directive),
             None if is_comment(line) => NameLine::Other,
             None => match line.split_once(',') {
-                Some((id, names)) if is_number(id.trim()) && !starts_with_digit(names) => {
-                    read_pair(id.trim(), names)
-                }
+                Some((id, names)) if is_number(id.trim()) => read_pair(id.trim(), names),
                 _ => read_constant(line),
             },
         }
@@ -39,7 +37,8 @@ fn read_pair<'a>(id: &str, names: &'a str) -> NameLine<'a> {
         Some((name, _)) => name.trim(),
         None => names.trim(),
     };
-    if name.is_empty() {
+    // Numbers in a row are a list of bytes.
+    if name.is_empty() || is_number(name) {
         return NameLine::Other;
     }
     match read_id(id) {
@@ -127,14 +126,9 @@ fn without_comment(line: &str) -> &str {
     }
 }
 
-/// Whether a text begins with a digit, as the next number of a list does.
-fn starts_with_digit(text: &str) -> bool {
-    text.trim_start().starts_with(|c: char| c.is_ascii_digit())
-}
-
 /// Whether a word is a name in C.
 fn is_identifier(word: &str) -> bool {
-    !starts_with_digit(word)
+    !word.starts_with(|c: char| c.is_ascii_digit())
         && !word.is_empty()
         && word.chars().all(|c| c == '_' || c.is_alphanumeric())
 }
