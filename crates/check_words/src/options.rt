@@ -163,7 +163,7 @@ fn check_options<'a>(
 fn codes_of<'a>(
     alloc: Global,
     matches: &ArgMatches<'a>,
-    option: &'static str,
+    option: &'a str,
 ) -> Result<Vec<&'a str>, UsageError<WrongOption<'a>>> {
     let codes = all_of(alloc, matches, option)?;
     match codes.iter().find(|word| !is_code(word)) {

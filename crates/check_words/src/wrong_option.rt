@@ -11,7 +11,7 @@ pub enum WrongOption<'a> {
     /// The value of `--key-size` is no width and height.
     KeySize(&'a str),
     /// The value of `--select` or `--ignore` is neither a code nor a name.
-    Code { option: &'static str, word: &'a str },
+    Code { option: &'a str, word: &'a str },
     /// The value of `--mask` is neither an ID nor `all`.
     Mask(&'a str),
     /// All masks are requested, but not into a folder.
