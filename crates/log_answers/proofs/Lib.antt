@@ -1,3 +1,4 @@
+mod ComparedMessages
 mod Ended
 mod InputsSent
 mod Matching

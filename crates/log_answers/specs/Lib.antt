@@ -5,5 +5,6 @@ pub mod OpenQuestions
 pub mod Tellings
 pub mod Conversations
 pub mod Matches
+pub mod Compared
 pub mod Comparisons
 pub mod Laws
