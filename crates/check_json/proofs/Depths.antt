@@ -82,6 +82,7 @@ value_depth source (values.NoLanguage it) = simp label_depth (omega arith)
 value_depth source (values.InputThere parent index id) = simp label_depth (omega arith)
 value_depth source (values.NoCode id) = simp label_depth (omega arith)
 value_depth source (values.SameColour id font colour) = simp label_depth (omega arith)
+value_depth source (values.SameCode id index key code) = simp label_depth (omega arith)
 
 pub details_depth : (source : CheckedPool) (item : Item) → depth (details_of source item) ≤ 3
 details_depth source (items.Finding finding) = finding_depth source finding.now

@@ -235,6 +235,9 @@ value_details_of source (values.NoCode id) = object_details (object_data source 
 value_details_of source (values.SameColour id font colour) =
     object (member (codes "colour") (number_data colour) (member (codes "font_id") (number_data font)
     (member (codes "object") (object_data source id) no_members)))
+value_details_of source (values.SameCode id index key code) =
+    object (member (codes "code") (number_data code) (member (codes "index") (number_data index)
+    (member (codes "key_id") (number_data key) (member (codes "object") (object_data source id) no_members))))
 
 -- ---- the details of an item
 

@@ -111,6 +111,17 @@ pub(crate) fn value_warning_details(
                 ("font_id", Cell::Number(u64::from(font.raw()))),
             ],
         ),
+        ValueWarning::SameCode {
+            index, key, code, ..
+        } => object_with(
+            alloc,
+            object,
+            &[
+                ("code", Cell::Number(u64::from(*code))),
+                ("index", Cell::Number(*index as u64)),
+                ("key_id", Cell::Number(u64::from(key.raw()))),
+            ],
+        ),
         ValueWarning::NoActiveMask { .. }
         | ValueWarning::NoDesignator { .. }
         | ValueWarning::NoCode { .. } => { object_with(alloc, object, &[]) }

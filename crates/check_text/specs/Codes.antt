@@ -69,6 +69,7 @@ value_code (values.NoLanguage it) = (codes "W19", codes "NoLanguage")
 value_code (values.InputThere parent index id) = (codes "W20", codes "InputThere")
 value_code (values.NoCode id) = (codes "W21", codes "NoCode")
 value_code (values.SameColour id font colour) = (codes "W22", codes "SameColour")
+value_code (values.SameCode id index key code) = (codes "W23", codes "SameCode")
 
 abbrev pub note_code : Note → Text × Text
 note_code (notes.Unread at) = (codes "N01", codes "Unread")

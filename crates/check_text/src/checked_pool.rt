@@ -26,6 +26,8 @@ pub struct CheckedPool<'a> {
     pub path: &'a str,
     /// The pool.
     pub inspection: &'a Inspection,
+    /// The bytes of the pool.
+    pub bytes: &'a [u8],
     /// The names of objects.
     pub names: &'a Names,
 }
@@ -51,6 +53,36 @@ impl<'a> CheckedPool<'a> {
             kind: Some(replaced.kind),
             name: self.names.get(replaced.id),
         }
+    }
+
+    /// The object whose record begins at an index of the pool's bytes, with its kind in that record and its name. `None` if none begins
+    /// there.
+    pub(crate) fn label_of_record(&self, at: usize) -> Option<Label<'a>> {
+        let Some([low, high, ..]) = self.bytes.get(at..) else {
+            return None;
+        };
+        let id = ObjectId::from_raw(u16::from_le_bytes([*low, *high]));
+        if let Some(record) = self.inspection.record(id)
+            && record.at == at
+        {
+            return Some(self.label(id));
+        }
+        let replaced = self.inspection.replaced.as_slice();
+        let next = replaced.partition_point(|replaced| replaced.at < at);
+        let replaced = replaced.get(next)?;
+        (replaced.at == at).then_some(self.replaced_label(replaced))
+    }
+
+    /// The index at which the last record before another begins. `None` if none is before it.
+    pub(crate) fn record_before(&self, at: usize) -> Option<usize> {
+        let Inspection {
+            records,
+            replaced,
+            ..
+        } = self.inspection;
+        let in_force = records.iter().map(|record| record.at);
+        let replaced = replaced.iter().map(|record| record.at);
+        in_force.chain(replaced).filter(|begin| *begin < at).max()
     }
 
     /// The message of an item of this pool.
@@ -115,7 +147,7 @@ pub(crate) fn kind_at(objects: &SortedStore, id: ObjectId) -> Option<Kind>
 }
 
 /// The object that a warning is about.
-fn warning_object(warning: &Warning) -> ObjectId
+pub fn warning_object(warning: &Warning) -> ObjectId
     ensures { result ≡ object_of warning.now }
 {
     match warning {

@@ -36,7 +36,7 @@ fn is_either(word: &str, code: &str, name: &str) -> bool {
 }
 
 /// The codes of errors and warnings, with their names.
-const CODES: [(&str, &str); 40] = [
+const CODES: [(&str, &str); 41] = [
     ("P01", "Truncated"),
     ("P02", "UnknownType"),
     ("P03", "LeftOutType"),
@@ -77,6 +77,7 @@ const CODES: [(&str, &str); 40] = [
     ("W20", "InputThere"),
     ("W21", "NoCode"),
     ("W22", "SameColour"),
+    ("W23", "SameCode"),
 ];
 
 fn code_named(code: &'static str, name: &'static str) -> Code
@@ -166,6 +167,7 @@ fn value_code(warning: &ValueWarning) -> Code
         ValueWarning::InputThere { .. } => code_named("W20", "InputThere"),
         ValueWarning::NoCode { .. } => code_named("W21", "NoCode"),
         ValueWarning::SameColour { .. } => code_named("W22", "SameColour"),
+        ValueWarning::SameCode { .. } => code_named("W23", "SameCode"),
     }
 }
 

@@ -8,7 +8,8 @@
 //! - `items_of` returns the errors and warnings of a pool in the order of their lines, without warnings that cannot be judged, and
 //!   `summary_of` their counts. `Totals` are those of several pools.
 //!
-//! It finds nothing itself: findings are those of check_inspect, and warnings those of check_needs. Lines of JSON are in check_json.
+//! It finds nothing itself: findings are those of check_inspect, and warnings those of check_needs and check_values. Lines of JSON are in
+//! check_json.
 //!
 //! Come here to ask what a line of `segyolant check` says, and which lines there are. docs/POOLS.md has the codes.
 #![tactic(auto)]
@@ -19,6 +20,7 @@ mod codes;
 mod colour;
 mod command_text;
 mod events;
+mod fault_sentences;
 mod github;
 mod item;
 mod items;
@@ -31,10 +33,12 @@ mod sentences;
 mod spot;
 mod summary;
 mod totals;
+mod types;
 mod value_sentences;
+mod variables;
 mod warning_sentences;
 
-pub use checked_pool::CheckedPool;
+pub use checked_pool::{CheckedPool, warning_object};
 pub use circles::circle_in;
 pub use codes::{Code, code_of, is_code};
 pub use colour::ColouredLine;
@@ -44,7 +48,7 @@ pub use github::GithubLine;
 pub use item::Item;
 pub use items::items_of;
 pub use label::Label;
-pub use message::{ItemLine, Severity};
+pub use message::{ItemLine, Severity, severity_of};
 pub use names::{LinesWithoutId, Names, NamesRead};
 pub use spot::SpotText;
 pub use summary::{Summary, summary_of};

@@ -32,7 +32,7 @@ impl Severity {
 }
 
 /// The severity of an item.
-pub(crate) fn severity_of(item: Item<'_>) -> Severity
+pub fn severity_of(item: Item<'_>) -> Severity
     ensures { result ≡ severity_of item.entry }
 {
     match item {

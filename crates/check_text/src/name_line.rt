@@ -1,5 +1,8 @@
 //! The lines of files of names.
 
+/// The first characters of the operators of C between two operands.
+const OPERATORS: [char; 12] = ['+', '-', '*', '/', '%', '<', '>', '&', '|', '^', '?', '='];
+
 /// What a line of a file of names says.
 #[derive(Clone, Copy, Drop)]
 pub(crate) enum NameLine<'a> {
@@ -66,18 +69,24 @@ fn read_directive(line: &str) -> NameLine<'_> {
     if !is_identifier(name) || value.is_empty() {
         return NameLine::Other;
     }
-    match number_in(value).and_then(read_id) {
+    match number_in(value).and_then(read_constant_id) {
         Some(id) => NameLine::Name { id, name },
         None => NameLine::NoId,
     }
 }
 
-/// The number of a definition: its first word, or the only word in parentheses or behind a cast.
+/// The number of a definition: its first word, or the only word in parentheses or behind a cast. `None` if an operator follows the first
+/// word.
 fn number_in(value: &str) -> Option<&str> {
     let value = value.trim_end_matches([')', ' ', '\t']);
-    match value.rsplit_once(['(', ')']) {
-        Some((_, number)) => Some(number.trim()),
-        None => value.split_ascii_whitespace().next(),
+    if let Some((_, number)) = value.rsplit_once(['(', ')']) {
+        return Some(number.trim());
+    }
+    let mut words = value.split_ascii_whitespace();
+    let number = words.next()?;
+    match words.next() {
+        Some(word) if word.starts_with(OPERATORS) => None,
+        Some(_) | None => Some(number),
     }
 }
 
@@ -105,7 +114,7 @@ fn constant_in(code: &str) -> Option<(u16, &str)> {
         return None;
     }
     let value = value.trim_end_matches([';', ',', '}', ' ', '\t']);
-    Some((read_id(value.trim())?, name))
+    Some((read_constant_id(value.trim())?, name))
 }
 
 /// Whether the words before a name are those of a constant in C. Words that end in a colon are those of a constant in another language.
@@ -147,6 +156,15 @@ fn read_id(word: &str) -> Option<u16> {
     match hex_digits(number) {
         Some(digits) => u16::from_str_radix(digits, 16).ok(),
         None => number.parse::<u16>().ok(),
+    }
+}
+
+/// Reads an ID in C. There a number that begins with 0 is octal.
+fn read_constant_id(word: &str) -> Option<u16> {
+    let number = word.trim_end_matches(['u', 'U', 'l', 'L']);
+    match number.strip_prefix('0') {
+        Some(digits) if is_number(digits) => u16::from_str_radix(digits, 8).ok(),
+        Some(_) | None => read_id(word),
     }
 }
 

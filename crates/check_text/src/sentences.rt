@@ -4,6 +4,7 @@ use crate::checked_pool::CheckedPool;
 use crate::circles::circle_in;
 use crate::command_text::CommandText;
 use crate::events::event_name;
+use crate::fault_sentences::FaultSentence;
 use crate::item::Item;
 use crate::kinds_text::KindsText;
 use crate::label::Label;
@@ -13,7 +14,6 @@ use crate::warning_sentences::WarningSentence;
 use check_inspect::{Finding, Note, ReferenceAt, Spot};
 use std::fmt;
 use vt_objects::ObjectId;
-use vt_pool::PoolFault;
 use vt_verify::TERMINAL_LIMITS;
 
 /// The sentence of an item, with the kinds and names of its objects.
@@ -61,7 +61,11 @@ pub(crate) struct FindingSentence<'a, 'b> {
 impl fmt::Display for FindingSentence<'_, '_> {
     fn fmt<W: fmt::Write>(&self, f: &mut fmt::Formatter<W>) -> fmt::Result {
         match self.finding {
-            Finding::Record(fault) => f.write_str(fault_sentence(*fault)),
+            Finding::Record(fault) => {
+                let source = self.source;
+                let fault = *fault;
+                write!(f, "{}", FaultSentence { source, fault })
+            }
             Finding::NoWorkingSet => f.write_str("no object is a Working Set"),
             Finding::TwoWorkingSets { id } => {
                 write!(f, "{}: one Working Set too many", self.source.label(*id))
@@ -119,20 +123,6 @@ fn note_sentence(note: Note) -> &'static str {
         Note::UnknownCosts => {
             "macros trigger each other in a circle, so costs are not known (R12 OverBudget not judged)"
         }
-    }
-}
-
-fn fault_sentence(fault: PoolFault) -> &'static str {
-    match fault {
-        PoolFault::Truncated { .. } => "the bytes end inside this record",
-        PoolFault::UnknownType { .. } => "VT version 3 has no object of this type",
-        PoolFault::LeftOutType { .. } => {
-            "an auxiliary function or input, which this terminal does not have"
-        }
-        PoolFault::Scale { .. } => "the scale is none of 1, 0.1, 0.01 and 0.001",
-        PoolFault::Decimals { .. } => "the number of decimals is above 7",
-        PoolFault::OutOfMemory { .. } => "the memory for this record was refused",
-        PoolFault::NullId { .. } => "the record has the ID 65535, which means no object",
     }
 }
 

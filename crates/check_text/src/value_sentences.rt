@@ -2,9 +2,10 @@
 
 use crate::checked_pool::CheckedPool;
 use crate::events::event_name;
-use check_values::{LimitedValue, Meaning, ValueWarning};
+use crate::variables::variable_of;
+use check_values::{LimitedValue, Meaning, RangedField, ValueWarning};
 use std::fmt;
-use vt_objects::Event;
+use vt_objects::{Event, ObjectId, Store};
 
 /// The sentence of a warning about a value, with the kind and the name of its object.
 #[derive(Clone, Copy, Drop)]
@@ -22,18 +23,14 @@ impl fmt::Display for ValueSentence<'_, '_> {
                 write!(f, "the maximum {max} is not above the minimum {min}")
             }
             ValueWarning::OutOfRange(it) => {
-                let name = it.field.name();
-                write!(
-                    f,
-                    "the {name} {} is not from {} to {}",
-                    it.value, it.min, it.max
-                )
+                write!(f, "the {} {}", it.field.name(), it.value)?;
+                self.write_variable(f, it.id, it.field)?;
+                write!(f, " is not from {} to {}", it.min, it.max)
             }
-            ValueWarning::NoItem { value, items, .. } => {
-                write!(
-                    f,
-                    "value {value}; expected an index below {items}, or 255 for no item"
-                )
+            ValueWarning::NoItem { id, value, items } => {
+                write!(f, "value {value}")?;
+                self.write_variable(f, *id, RangedField::Value)?;
+                write!(f, "; expected an index below {items}, or 255 for no item")
             }
             ValueWarning::PictureBytes {
                 bytes,
@@ -94,6 +91,15 @@ impl fmt::Display for ValueSentence<'_, '_> {
                     "key code 0, which is for the terminal's own key for alarms; expected 1 to 255",
                 )
             }
+            ValueWarning::SameCode {
+                index, key, code, ..
+            } => {
+                let key = self.source.label(*key);
+                write!(
+                    f,
+                    "key {index}, {key}, has the code {code} of an earlier key; expected one of its own"
+                )
+            }
             ValueWarning::SameColour { font, colour, .. } => {
                 let font = self.source.label(*font);
                 write!(
@@ -102,6 +108,25 @@ impl fmt::Display for ValueSentence<'_, '_> {
                 )
             }
         }
+    }
+}
+
+impl ValueSentence<'_, '_> {
+    /// Writes the variable from which an object takes a number, if it does.
+    fn write_variable<W: fmt::Write>(
+        &self,
+        f: &mut fmt::Formatter<W>,
+        id: ObjectId,
+        field: RangedField,
+    ) -> fmt::Result {
+        let Some(object) = self.source.inspection.objects.get(id) else {
+            return Ok(());
+        };
+        let variable = variable_of(object, field);
+        if variable.is_null() {
+            return Ok(());
+        }
+        write!(f, " of {}", self.source.label(variable))
     }
 }
 

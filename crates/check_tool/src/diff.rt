@@ -35,11 +35,13 @@ pub(crate) fn run_diff<F: Open, W: Write, E: Write>(
     let before = CheckedPool {
         path: options.old,
         inspection: &old,
+        bytes: old_bytes.as_slice(),
         names: &names,
     };
     let after = CheckedPool {
         path: options.new,
         inspection: &new,
+        bytes: new_bytes.as_slice(),
         names: &names,
     };
     for difference in found.iter() {

@@ -32,6 +32,7 @@ pub(crate) fn run_needs<F: Open, W: Write, E: Write>(
     let source = CheckedPool {
         path: options.pool,
         inspection: &inspection,
+        bytes: bytes.as_slice(),
         names: &names,
     };
     let needs = needs_of(&inspection.objects);

@@ -31,6 +31,7 @@ pub(crate) fn run_why<F: Open, W: Write, E: Write>(
     let source = CheckedPool {
         path: options.pool,
         inspection: &inspection,
+        bytes: bytes.as_slice(),
         names: &names,
     };
     let is_judged = is_read(&inspection, options.pool, errors);

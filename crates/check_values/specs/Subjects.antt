@@ -21,3 +21,4 @@ object_of (warnings.NoLanguage it) = it.id
 object_of (warnings.InputThere parent index id) = parent
 object_of (warnings.NoCode id) = id
 object_of (warnings.SameColour id font colour) = id
+object_of (warnings.SameCode id index key code) = id

@@ -8,7 +8,7 @@ use Rattle.check_values.specs.declared.rules.ValueRule.TheVariants as rules
 use Rattle.check_values.specs.declared.warning.ValueWarning.{ValueWarning}
 use Rattle.check_values.specs.Entries.{never_raised}
 use Rattle.check_values.specs.Fields.{without_meaning}
-use Rattle.check_values.specs.Inputs.{inputs_there, no_codes}
+use Rattle.check_values.specs.Inputs.{inputs_there, no_codes, same_codes}
 use Rattle.check_values.specs.Pictures.{picture_bytes}
 use Rattle.check_values.specs.Polygons.{few_points, points_outside}
 use Rattle.check_values.specs.Ranges.{empty_ranges, out_of_range, no_items}
@@ -32,6 +32,7 @@ found_at rules.NoLanguage objects e = no_languages e.0 e.1
 found_at rules.InputThere objects e = inputs_there objects e.0 e.1
 found_at rules.NoCode objects e = no_codes e.0 e.1
 found_at rules.SameColour objects e = same_colours objects e.0 e.1
+found_at rules.SameCode objects e = same_codes objects e.0 e.1
 
 -- what a rule finds, by rising ID
 abbrev pub found : ValueRule → Objects → List ValueWarning
@@ -42,7 +43,7 @@ abbrev pub every_rule : List ValueRule
 every_rule =
     rules.NoMeaning ∷ rules.EmptyRange ∷ rules.OutOfRange ∷ rules.NoItem ∷ rules.Pictures ∷ rules.FewPoints ∷ rules.PointsOutside
     ∷ rules.ShortVariable ∷ rules.NeverRaised ∷ rules.NoActiveMask ∷ rules.NoDesignator ∷ rules.NoLanguage
-    ∷ rules.InputThere ∷ rules.NoCode ∷ rules.SameColour ∷ []
+    ∷ rules.InputThere ∷ rules.NoCode ∷ rules.SameColour ∷ rules.SameCode ∷ []
 
 -- what some rules find, one after the other
 abbrev pub found_by : List ValueRule → Objects → List ValueWarning

@@ -1,6 +1,6 @@
 //! Inputs where they are not allowed, and keys without a code of their own.
 
-ghost use Rattle.std.specs.Prelude.{◌≡◌, ◌++◌, OnOk};
+ghost use Rattle.std.specs.Prelude.{◌≡◌, ◌++◌, not, ◌&&◌, ◌==◌, take, OnOk};
 ghost use Rattle.vt_kinds.specs.Records.{seen};
 ghost use Rattle.check_values.specs.Inputs as spec;
 ghost use Rattle.check_values.specs.Listed.{each_from};
@@ -90,4 +90,90 @@ pub(crate) fn put_no_codes(
         found.push(ValueWarning::NoCode { id })?;
     }
     Ok(())
+}
+
+/// Appends the keys of a Soft Key Mask that have the code of an earlier one. The code 0 is told by itself.
+pub(crate) fn put_same_codes(
+    objects: &SortedStore,
+    id: ObjectId,
+    object: &Object<Vec<u8>>,
+    found: &mut Vec<ValueWarning>,
+) -> Result<(), AllocError>
+    ensures { OnOk result (found.new.items ≡ found.old.items ++ spec.same_codes objects.now id (seen object.now)) }
+{
+    let Object::SoftKeyMask(o) = object else {
+        return Ok(());
+    };
+    put_taken(objects, id, o.keys.as_slice(), found)
+}
+
+fn put_taken(
+    objects: &SortedStore,
+    mask: ObjectId,
+    keys: &[ObjectId],
+    found: &mut Vec<ValueWarning>,
+) -> Result<(), AllocError>
+    ensures { OnOk result (found.new.items ≡ found.old.items ++ each_from (spec.if_taken objects.now mask keys.now) 0 keys.now) }
+{
+    for (index, key) in keys.iter().enumerate() {
+        put_if_taken(objects, mask, keys, index, *key, found)?;
+    }
+    Ok(())
+}
+
+/// Appends a key if it has the code of an earlier one.
+fn put_if_taken(
+    objects: &SortedStore,
+    mask: ObjectId,
+    keys: &[ObjectId],
+    index: usize,
+    key: ObjectId,
+    found: &mut Vec<ValueWarning>,
+) -> Result<(), AllocError>
+    ensures { OnOk result (found.new.items ≡ found.old.items ++ spec.if_taken objects.now mask keys.now index key) }
+{
+    let Some(code) = code_at(objects, key) else {
+        return Ok(());
+    };
+    if code != 0 && is_taken(objects, keys, index, key, code) {
+        found.push(ValueWarning::SameCode {
+            id: mask,
+            index,
+            key,
+            code,
+        })?;
+    }
+    Ok(())
+}
+
+/// Whether another one of so many first keys has a code.
+fn is_taken(
+    objects: &SortedStore,
+    keys: &[ObjectId],
+    count: usize,
+    key: ObjectId,
+    code: u8,
+) -> bool
+    ensures { result ≡ spec.is_taken objects.now key code (take count keys.now) }
+{
+    keys.iter()
+        .take(count)
+        .any(|other| is_other_with(objects, key, code, *other))
+}
+
+/// Whether a key is another one than a first, and has a code.
+fn is_other_with(objects: &SortedStore, key: ObjectId, code: u8, other: ObjectId) -> bool
+    ensures { result ≡ (not (other == key) && spec.has_code code (spec.code_at objects.now other)) }
+{
+    other.raw() != key.raw() && code_at(objects, other) == Some(code)
+}
+
+/// The code of a Key, itself or by a pointer. `None` for another object.
+fn code_at(objects: &SortedStore, id: ObjectId) -> Option<u8>
+    ensures { result ≡ spec.code_at objects.now id }
+{
+    match resolve(objects, id) {
+        Some((_, Object::Key(key))) => Some(key.key_code),
+        Some(_) | None => None,
+    }
 }

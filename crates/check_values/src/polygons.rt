@@ -20,12 +20,12 @@ pub(crate) fn put_few_points(
 ) -> Result<(), AllocError>
     ensures { OnOk result (found.new.items ≡ found.old.items ++ spec.few_points id (seen object.now)) }
 {
-    match object {
-        Object::Polygon(o) if o.points.len() < LEAST_POINTS => {
-            let points = o.points.len();
-            found.push(ValueWarning::FewPoints { id, points })?;
-        }
-        _ => {}
+    let Object::Polygon(o) = object else {
+        return Ok(());
+    };
+    let points = o.points.len();
+    if points < LEAST_POINTS {
+        found.push(ValueWarning::FewPoints { id, points })?;
     }
     Ok(())
 }
@@ -38,10 +38,10 @@ pub(crate) fn put_points_outside(
 ) -> Result<(), AllocError>
     ensures { OnOk result (found.new.items ≡ found.old.items ++ spec.points_outside id (seen object.now)) }
 {
-    match object {
-        Object::Polygon(o) => put_outside(id, o.width, o.height, o.points.as_slice(), found),
-        _ => Ok(()),
-    }
+    let Object::Polygon(o) = object else {
+        return Ok(());
+    };
+    put_outside(id, o.width, o.height, o.points.as_slice(), found)
 }
 
 fn put_outside(

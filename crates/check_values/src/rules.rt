@@ -6,7 +6,7 @@ ghost use Rattle.check_values.specs.ValueWarnings as spec;
 
 use crate::entries::put_never_raised;
 use crate::fields::put_without_meaning;
-use crate::inputs::{put_inputs_there, put_no_codes};
+use crate::inputs::{put_inputs_there, put_no_codes, put_same_codes};
 use crate::pictures::put_pictures;
 use crate::polygons::{put_few_points, put_points_outside};
 use crate::ranges::{put_empty_ranges, put_no_items, put_out_of_range};
@@ -34,6 +34,7 @@ pub enum ValueRule {
     InputThere,
     NoCode,
     SameColour,
+    SameCode,
 }
 
 /// All warnings about the values of the objects of a pool, in the order of the rules, and for each rule by rising ID (docs/PROFILE.md,
@@ -47,7 +48,7 @@ pub fn value_warnings(alloc: Global, objects: &SortedStore) -> Result<Vec<ValueW
 }
 
 /// The rules in the order of their codes.
-const RULES: [ValueRule; 15] = [
+const RULES: [ValueRule; 16] = [
     ValueRule::NoMeaning,
     ValueRule::EmptyRange,
     ValueRule::OutOfRange,
@@ -63,6 +64,7 @@ const RULES: [ValueRule; 15] = [
     ValueRule::InputThere,
     ValueRule::NoCode,
     ValueRule::SameColour,
+    ValueRule::SameCode,
 ];
 
 /// Appends what some rules find.
@@ -119,5 +121,6 @@ fn put_found_at(
         ValueRule::InputThere => put_inputs_there(objects, id, object, found),
         ValueRule::NoCode => put_no_codes(id, object, found),
         ValueRule::SameColour => put_same_colours(objects, id, object, found),
+        ValueRule::SameCode => put_same_codes(objects, id, object, found),
     }
 }

@@ -231,6 +231,14 @@ pub enum ValueWarning {
         font: ObjectId,
         colour: u8,
     },
+    /// A key of a Soft Key Mask has the code of an earlier one.
+    SameCode {
+        id: ObjectId,
+        /// The index of the key in the object's list.
+        index: usize,
+        key: ObjectId,
+        code: u8,
+    },
 }
 
 impl ValueWarning {
@@ -249,7 +257,8 @@ impl ValueWarning {
             | ValueWarning::NoActiveMask { id }
             | ValueWarning::NoDesignator { id }
             | ValueWarning::NoCode { id }
-            | ValueWarning::SameColour { id, .. } => *id,
+            | ValueWarning::SameColour { id, .. }
+            | ValueWarning::SameCode { id, .. } => *id,
             ValueWarning::InputThere { parent, .. } => *parent,
             ValueWarning::OutOfRange(it) => it.id,
             ValueWarning::PointOutside(it) => it.id,

@@ -17,11 +17,11 @@ pub(crate) fn put_no_active_mask(
 ) -> Result<(), AllocError>
     ensures { OnOk result (found.new.items ≡ found.old.items ++ spec.no_active_mask id (seen object.now)) }
 {
-    match object {
-        Object::WorkingSet(o) if o.active_mask.is_null() => {
-            found.push(ValueWarning::NoActiveMask { id })?;
-        }
-        _ => {}
+    let Object::WorkingSet(o) = object else {
+        return Ok(());
+    };
+    if o.active_mask.is_null() {
+        found.push(ValueWarning::NoActiveMask { id })?;
     }
     Ok(())
 }
@@ -34,11 +34,11 @@ pub(crate) fn put_no_designator(
 ) -> Result<(), AllocError>
     ensures { OnOk result (found.new.items ≡ found.old.items ++ spec.no_designator id (seen object.now)) }
 {
-    match object {
-        Object::WorkingSet(o) if o.children.len() == 0 => {
-            found.push(ValueWarning::NoDesignator { id })?;
-        }
-        _ => {}
+    let Object::WorkingSet(o) = object else {
+        return Ok(());
+    };
+    if o.children.len() == 0 {
+        found.push(ValueWarning::NoDesignator { id })?;
     }
     Ok(())
 }
@@ -51,10 +51,10 @@ pub(crate) fn put_no_languages(
 ) -> Result<(), AllocError>
     ensures { OnOk result (found.new.items ≡ found.old.items ++ spec.no_languages id (seen object.now)) }
 {
-    match object {
-        Object::WorkingSet(o) => put_codes(id, o.languages.as_slice(), found),
-        _ => Ok(()),
-    }
+    let Object::WorkingSet(o) = object else {
+        return Ok(());
+    };
+    put_codes(id, o.languages.as_slice(), found)
 }
 
 fn put_codes(

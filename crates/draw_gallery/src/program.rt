@@ -45,6 +45,7 @@ pub fn run_draw<F: Open + Save, W: Write, E: Write>(
     let source = CheckedPool {
         path: path_of(options.origin),
         inspection: &inspection,
+        bytes: bytes.as_slice(),
         names: &names,
     };
     draw_source(alloc, &source, options, files, out, errors)

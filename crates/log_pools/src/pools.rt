@@ -293,6 +293,7 @@ impl Report<'_> {
         let source = CheckedPool {
             path,
             inspection: &inspection,
+            bytes,
             names: self.names,
         };
         for finding in inspection.findings.iter() {
