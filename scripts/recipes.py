@@ -44,6 +44,8 @@ EXAMPLES = {
 
 # Files that no recipe has to name, and why.
 APART = {
+    'crates/check_tool/src/check/config.rt': 'its select is an option',
+    'crates/check_words/src/check.rt': 'its select is an option',
     'crates/vt_terminal/proofs/*/Proof.antt': 'scripts/export_proofs.py writes them',
     'scripts/recipes.py': 'it has the words of all examples',
     'scripts/testing/consoles.py': 'its pool may have any refusal',

@@ -1,25 +1,31 @@
 //! The subcommand `check`.
 
-use crate::program::{Style, put_message};
+mod base;
+mod chosen;
+mod config;
+mod junit;
+mod known;
+mod lines;
+mod sarif;
+mod settings;
+
+use crate::check::base::Base;
+use crate::check::chosen::Chosen;
+use crate::check::config::ConfigFile;
+use crate::check::junit::Junit;
+use crate::check::known::Known;
+use crate::check::lines::Lines;
+use crate::check::sarif::put_document;
+use crate::check::settings::Settings;
+use crate::program::Style;
 use check_inspect::inspect;
-use check_json::{item_json, summary_json, totals_json};
 use check_needs::warnings;
-use check_text::{
-    CheckedPool, Code, GithubLine, Item, Names, Summary, Totals, code_of, items_of, summary_of,
-};
+use check_text::{CheckedPool, Item, Names, Severity, Summary, Totals, items_of, summary_of};
 use check_values::value_warnings;
 use check_words::{CheckOptions, Format};
 use std::alloc::{AllocError, Global};
 use std::io::{self, Write};
 use vt_cli::{Open, Status, read_names, read_pool_file};
-
-/// The form of the lines.
-#[derive(Clone, Copy, PartialEq, Eq)]
-enum Lines {
-    Text(Style),
-    Json,
-    Github,
-}
 
 /// Checks each pool in turn, and prints the counts of all of them if there are several files. A file that cannot be read is named, and
 /// the others are checked all the same.
@@ -34,33 +40,41 @@ pub(crate) fn run_check<F: Open, W: Write, E: Write>(
     let Some(names) = read_names(alloc, options.names.as_slice(), files, errors)? else {
         return Ok(Status::NotJudged);
     };
+    let mut known = Known::new(alloc);
+    if let Some(path) = options.baseline {
+        match Known::read(alloc, path, files, errors)? {
+            Some(read) => known = read,
+            None => return Ok(Status::NotJudged),
+        }
+    }
+    let mut base = Vec::new(alloc);
+    if let Some(path) = options.base {
+        match read_pool_file(alloc, path, files, errors)? {
+            Some(read) => base = read,
+            None => return Ok(Status::NotJudged),
+        }
+    }
     let check = Check {
         alloc,
         options,
-        lines: lines_of(options.format, look),
+        base: Base {
+            path: options.base.unwrap_or(""),
+            bytes: base.as_slice(),
+        },
+        lines: Lines::new(options.format, look),
         names: &names,
     };
-    let mut status = Status::Clean;
-    let mut totals = Totals::new();
-    for path in options.pools.iter() {
-        let found = match read_pool_file(alloc, path, files, errors)? {
-            Some(bytes) => check.pool(path, bytes.as_slice(), &mut totals, out)?,
-            None => Status::NotJudged,
-        };
-        status = status.and(found);
-    }
-    if options.pools.len() > 1 {
-        put_totals(alloc, totals, check.lines, out)?;
-    }
-    Ok(status)
-}
-
-/// The form of the lines: those for people have the look of the output.
-fn lines_of(format: Format, look: Style) -> Lines {
-    match format {
-        Format::Text => Lines::Text(look),
-        Format::Json => Lines::Json,
-        Format::Github => Lines::Github,
+    match options.format {
+        Format::Text | Format::Json | Format::Github => {
+            check.all(&mut known, files, out, errors)
+        }
+        Format::Sarif => {
+            let mut results = Vec::new(alloc);
+            let status = check.all(&mut known, files, &mut results, errors)?;
+            put_document(alloc, results.as_slice(), out)?;
+            Ok(status)
+        }
+        Format::Junit => check.test_all(&mut known, files, out, errors),
     }
 }
 
@@ -69,116 +83,183 @@ fn lines_of(format: Format, look: Style) -> Lines {
 struct Check<'a> {
     alloc: Global,
     options: &'a CheckOptions<'a>,
+    /// The pool on top of which the pools are uploaded.
+    base: Base<'a>,
     lines: Lines,
+    /// The names of the files that the command line gives.
     names: &'a Names,
 }
 
+/// The findings of a pool that are told.
+#[derive(Drop)]
+struct Told<'a> {
+    items: Vec<Item<'a>>,
+    /// How many of them are errors.
+    errors: usize,
+    /// How many more are known from an earlier check.
+    known: usize,
+}
+
 impl Check<'_> {
-    /// Prints every finding and warning of a pool, and the counts, which are added to `totals`.
+    /// Checks each pool, and prints the counts of all if there are several.
+    fn all<F: Open, W: Write, E: Write>(
+        &self,
+        known: &mut Known,
+        files: &mut F,
+        out: &mut W,
+        errors: &mut E,
+    ) -> io::Result<Status> {
+        let mut status = Status::Clean;
+        let mut totals = Totals::new();
+        for path in self.options.pools.iter() {
+            let found = self.file(path, known, &mut totals, files, out, errors)?;
+            status = status.and(found);
+        }
+        if self.options.pools.len() > 1 {
+            self.lines.put_totals(self.alloc, totals, out)?;
+        }
+        Ok(status)
+    }
+
+    /// Checks each pool, and writes a report of JUnit with a test for each.
+    fn test_all<F: Open, W: Write, E: Write>(
+        &self,
+        known: &mut Known,
+        files: &mut F,
+        out: &mut W,
+        errors: &mut E,
+    ) -> io::Result<Status> {
+        let mut status = Status::Clean;
+        let mut totals = Totals::new();
+        let mut report = Junit::new(self.alloc);
+        for path in self.options.pools.iter() {
+            let mut lines = Vec::new(self.alloc);
+            let mut told = Vec::new(self.alloc);
+            let found = self.file(path, known, &mut totals, files, &mut lines, &mut told);
+            let _ = errors.write_all(&told);
+            let found = found?;
+            report.put_case(path, found, &lines, &told)?;
+            status = status.and(found);
+        }
+        report.write(out)?;
+        Ok(status)
+    }
+
+    /// Checks the pool in a file with its settings. `known` are the known findings that the command line gives. The counts are added to
+    /// `totals`. If a file cannot be read or is faulty, `errors` receives the reason.
+    fn file<F: Open, W: Write, E: Write>(
+        &self,
+        path: &str,
+        known: &mut Known,
+        totals: &mut Totals,
+        files: &mut F,
+        out: &mut W,
+        errors: &mut E,
+    ) -> io::Result<Status> {
+        let Check { alloc, options, .. } = *self;
+        let mut file = ConfigFile::empty(alloc);
+        if !options.is_isolated {
+            match ConfigFile::read(alloc, options.config, path, files, errors)? {
+                Some(read) => file = read,
+                None => return Ok(Status::NotJudged),
+            }
+        }
+        let Some(config) = file.settings(alloc, files.name(), errors)? else {
+            return Ok(Status::NotJudged);
+        };
+        let settings = Settings::new(alloc, options, &config)?;
+        let Some(bytes) = read_pool_file(alloc, path, files, errors)? else {
+            return Ok(Status::NotJudged);
+        };
+        let Some(names) = settings.names_beside(alloc, file.path(), files, errors)? else {
+            return Ok(Status::NotJudged);
+        };
+        let names = names.as_ref().unwrap_or(self.names);
+        let Some(own) = settings.known_beside(alloc, file.path(), files, errors)? else {
+            return Ok(Status::NotJudged);
+        };
+        let Some(mut own) = own else {
+            return self.pool(path, &bytes, &settings, names, known, totals, out);
+        };
+        self.pool(path, &bytes, &settings, names, &mut own, totals, out)
+    }
+
+    /// Prints every finding and warning of a pool that is told, and the counts, which are added to `totals`.
     fn pool<W: Write>(
         &self,
         path: &str,
         bytes: &[u8],
+        settings: &Settings<'_>,
+        names: &Names,
+        known: &mut Known,
         totals: &mut Totals,
         out: &mut W,
     ) -> io::Result<Status> {
         let Check {
             alloc,
             options,
+            base,
             lines,
-            names,
+            ..
         } = *self;
-        let inspection = inspect(alloc, bytes)?;
-        let warnings = warnings(alloc, &inspection.objects, options.sizes)?;
+        let bytes = base.with(alloc, bytes)?;
+        let inspection = inspect(alloc, bytes.as_slice())?;
+        let warnings = warnings(alloc, &inspection.objects, settings.sizes)?;
         let values = value_warnings(alloc, &inspection.objects)?;
         let source = CheckedPool {
             path,
             inspection: &inspection,
+            bytes: bytes.as_slice(),
             names,
         };
         let items = items_of(alloc, &inspection, warnings.as_slice(), values.as_slice())?;
-        let items = selected(alloc, items.as_slice(), options)?;
-        let most = options.most.map_or(items.len(), |most| most as usize);
-        for item in items.iter().take(most) {
-            put_item(alloc, &source, *item, lines, out)?;
+        let told = self.told(&source, items.as_slice(), &settings.chosen, known)?;
+        let most = options.most.map_or(told.items.len(), |most| most as usize);
+        for item in told.items.iter().take(most) {
+            let severity = settings.chosen.severity(&source, *item);
+            lines.put_item(alloc, &source, base, *item, severity, out)?;
         }
         for note in inspection.notes.iter() {
-            put_item(alloc, &source, Item::Note(*note), lines, out)?;
+            let note = Item::Note(*note);
+            lines.put_item(alloc, &source, base, note, Severity::Note, out)?;
         }
-        let summary = summary_of(&source, items.as_slice(), most);
-        put_summary(alloc, summary, lines, out)?;
+        let summary = Summary {
+            errors: told.errors,
+            warnings: told.items.len().saturating_sub(told.errors),
+            ..summary_of(&source, told.items.as_slice(), most)
+        };
+        lines.put_summary(alloc, summary, told.known, out)?;
         totals.add(&summary);
-        Ok(status_of(&summary, options.denies_warnings))
+        Ok(status_of(&summary, settings.chosen.denies_warnings))
     }
-}
 
-/// The items of the codes that the options select.
-fn selected<'a>(
-    alloc: Global,
-    items: &[Item<'a>],
-    options: &CheckOptions<'_>,
-) -> Result<Vec<Item<'a>>, AllocError> {
-    let mut selected = Vec::new(alloc);
-    for item in items {
-        if is_selected(&code_of(*item), options) {
-            selected.push(*item)?;
+    /// The items that are told: those that are chosen and not known. An object of the base that the pool replaces is not told.
+    fn told<'a>(
+        &self,
+        source: &CheckedPool<'_>,
+        items: &[Item<'a>],
+        chosen: &Chosen<'_>,
+        known: &mut Known,
+    ) -> Result<Told<'a>, AllocError> {
+        let mut told = Told {
+            items: Vec::new(self.alloc),
+            errors: 0,
+            known: 0,
+        };
+        for item in items {
+            if self.base.is_replaced(*item) || !chosen.is_told(source, *item) {
+                continue;
+            }
+            if !known.is_empty() && known.take(&source.message(self.alloc, *item)?)? {
+                told.known = told.known.saturating_add(1);
+                continue;
+            }
+            if chosen.severity(source, *item) == Severity::Error {
+                told.errors = told.errors.saturating_add(1);
+            }
+            told.items.push(*item)?;
         }
-    }
-    Ok(selected)
-}
-
-/// Whether the options select a code: all are selected, or it is, and it is not ignored.
-fn is_selected(code: &Code, options: &CheckOptions<'_>) -> bool {
-    let CheckOptions { select, ignore, .. } = options;
-    (select.is_empty() || select.iter().any(|word| code.is_called(word)))
-        && !ignore.iter().any(|word| code.is_called(word))
-}
-
-fn put_item<W: Write>(
-    alloc: Global,
-    source: &CheckedPool<'_>,
-    item: Item<'_>,
-    lines: Lines,
-    out: &mut W,
-) -> io::Result<()> {
-    let message = source.message(alloc, item)?;
-    match lines {
-        Lines::Text(look) => put_message(&message, look, out),
-        Lines::Json => {
-            let line = item_json(alloc, source, &message, item)?;
-            writeln!(out, "{line}")
-        }
-        Lines::Github => writeln!(out, "{}", GithubLine { message: &message }),
-    }
-}
-
-fn put_summary<W: Write>(
-    alloc: Global,
-    summary: Summary<'_>,
-    lines: Lines,
-    out: &mut W,
-) -> io::Result<()> {
-    match lines {
-        Lines::Json => {
-            let line = summary_json(alloc, summary)?;
-            writeln!(out, "{line}")
-        }
-        Lines::Text(_) | Lines::Github => writeln!(out, "{summary}"),
-    }
-}
-
-fn put_totals<W: Write>(
-    alloc: Global,
-    totals: Totals,
-    lines: Lines,
-    out: &mut W,
-) -> io::Result<()> {
-    match lines {
-        Lines::Json => {
-            let line = totals_json(alloc, totals)?;
-            writeln!(out, "{line}")
-        }
-        Lines::Text(_) | Lines::Github => writeln!(out, "{totals}"),
+        Ok(told)
     }
 }
 

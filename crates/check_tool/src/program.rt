@@ -3,6 +3,7 @@
 use crate::check::run_check;
 use crate::diff::run_diff;
 use crate::needs::run_needs;
+use crate::rule::run_rule;
 use crate::why::run_why;
 use check_inspect::{Inspection, Note};
 use check_text::{ColouredLine, ItemLine};
@@ -39,6 +40,7 @@ pub fn run<S: AsStr, F: Open + Save, W: Write, E: Write>(
     };
     let status = match &options {
         Options::Check(options) => run_check(alloc, options, look, files, out, errors)?,
+        Options::Rule(word) => run_rule(*word, out, errors)?,
         Options::Why(options) => run_why(alloc, options, look, files, out, errors)?,
         Options::Needs(options) => run_needs(alloc, options, files, out, errors)?,
         Options::Diff(options) => run_diff(alloc, options, files, out, errors)?,

@@ -3,10 +3,7 @@
 use vt_cli::{Allowed, Argument, Form};
 
 /// The formats of output.
-const FORMATS: &[&str] = &["text", "json", "github"];
-
-/// What may be denied.
-const DENIED: &[&str] = &["warnings"];
+const FORMATS: &[&str] = &["text", "json", "github", "sarif", "junit"];
 
 pub(crate) const POOLS: Argument<'static> = Argument {
     name: "POOL",
@@ -45,6 +42,13 @@ pub(crate) const EVENT: Argument<'static> = Argument {
     form: Form::NamedPositional("ID:EVENT"),
 };
 
+/// The code that is explained.
+pub(crate) const CODE: Argument<'static> = Argument {
+    name: "CODE",
+    help: "The code or the name, such as R04 or WrongKind; left out for a line about each",
+    form: Form::OptionalPositional,
+};
+
 pub(crate) const NAMES: Argument<'static> = Argument {
     name: "names",
     help: "A file of names: lines ID,NAME or #define NAME ID; may be given again",
@@ -53,7 +57,7 @@ pub(crate) const NAMES: Argument<'static> = Argument {
 
 pub(crate) const FORMAT: Argument<'static> = Argument {
     name: "format",
-    help: "Lines for people, lines of JSON, or a GitHub workflow's commands [default: text]",
+    help: "Lines for people, lines of JSON, a GitHub workflow's commands, SARIF, or the XML of JUnit [default: text]",
     form: Form::Setting("FORMAT", Allowed::OneOf(FORMATS)),
 };
 
@@ -65,20 +69,50 @@ pub(crate) const MOST: Argument<'static> = Argument {
 
 pub(crate) const DENY: Argument<'static> = Argument {
     name: "deny",
-    help: "End with status 1 at a warning too",
-    form: Form::Setting("WHAT", Allowed::OneOf(DENIED)),
+    help: "What is an error: warnings for all of them, or CODE as for --select; may be given again",
+    form: Form::RepeatedSetting("WHAT"),
+};
+
+pub(crate) const WARN: Argument<'static> = Argument {
+    name: "warn",
+    help: "What is only a warning: CODE as for --select; may be given again",
+    form: Form::RepeatedSetting("CODE"),
 };
 
 pub(crate) const SELECT: Argument<'static> = Argument {
     name: "select",
-    help: "Only what has this code or name, such as R03 or Missing; may be given again",
+    help: "Only what has this code or name, of this object or both: R03, Missing, Missing[325], [325]; may be given again",
     form: Form::RepeatedSetting("CODE"),
 };
 
 pub(crate) const IGNORE: Argument<'static> = Argument {
     name: "ignore",
-    help: "Not what has this code or name, such as W02 or Unused; may be given again",
+    help: "Not what has this code or name, of this object or both: W02, Unused, Unused[box], [box]; may be given again",
     form: Form::RepeatedSetting("CODE"),
+};
+
+pub(crate) const BASELINE: Argument<'static> = Argument {
+    name: "baseline",
+    help: "Not what stands in this file, which an earlier check wrote with --format json; - is the standard input",
+    form: Form::Setting("FILE", Allowed::Any),
+};
+
+pub(crate) const ON: Argument<'static> = Argument {
+    name: "on",
+    help: "The file of the pool on top of which the others are uploaded, such as those of languages; - is the standard input",
+    form: Form::Setting("BASE", Allowed::Any),
+};
+
+pub(crate) const CONFIG: Argument<'static> = Argument {
+    name: "config",
+    help: "The file of settings [default: segyolant.toml in the folder of the pool, if it is there]",
+    form: Form::Setting("FILE", Allowed::Any),
+};
+
+pub(crate) const ISOLATED: Argument<'static> = Argument {
+    name: "isolated",
+    help: "Read no file of settings",
+    form: Form::Flag,
 };
 
 pub(crate) const SIZE: Argument<'static> = Argument {

@@ -9,11 +9,15 @@
 #![tactic(auto)]
 
 mod arguments;
+mod check;
+mod choice;
 mod draw;
 mod options;
 mod subcommands;
 mod wrong_option;
 
+pub use check::{ALL_WARNINGS, CheckOptions, Format, is_choice};
+pub use choice::Choice;
 pub use draw::{DrawOptions, Drawing, Origin};
-pub use options::{CheckOptions, DiffOptions, Format, NeedsOptions, Options, WhyOptions};
+pub use options::{DiffOptions, NeedsOptions, Options, WhyOptions, area};
 pub use wrong_option::WrongOption;

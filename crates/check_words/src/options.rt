@@ -1,10 +1,10 @@
 //! The options that a command line gives.
 
+use crate::check::{CheckOptions, check_options};
 use crate::draw::{DrawOptions, area_of, draw_options};
 use crate::subcommands::SEGYOLANT;
 use crate::wrong_option::WrongOption;
 use check_needs::{Area, Sizes, TERMINAL_SIZES};
-use check_text::is_code;
 use clap::ArgMatches;
 use std::alloc::{AllocError, Global};
 use std::convert::AsStr;
@@ -16,6 +16,8 @@ use vt_objects::{Event, ObjectId};
 pub enum Options<'a> {
     /// `check`.
     Check(CheckOptions<'a>),
+    /// `rule`, with the code or the name that is explained, or `None` for all.
+    Rule(Option<&'a str>),
     /// `why`.
     Why(WhyOptions<'a>),
     /// `needs`.
@@ -24,38 +26,6 @@ pub enum Options<'a> {
     Diff(DiffOptions<'a>),
     /// `draw`.
     Draw(DrawOptions<'a>),
-}
-
-/// The form of the output.
-#[derive(Clone, Copy, PartialEq, Eq)]
-pub enum Format {
-    /// Lines for people.
-    Text,
-    /// Lines of JSON.
-    Json,
-    /// A GitHub workflow's commands.
-    Github,
-}
-
-/// The options of `check`.
-#[derive(Drop)]
-pub struct CheckOptions<'a> {
-    /// The files of the pools.
-    pub pools: Vec<&'a str>,
-    /// The files of names.
-    pub names: Vec<&'a str>,
-    /// The form of the output.
-    pub format: Format,
-    /// The most lines with errors and warnings for a pool, or `None` for all.
-    pub most: Option<u32>,
-    /// Whether a run with a warning ends with status 1.
-    pub denies_warnings: bool,
-    /// The codes or names of what is told, or none for all.
-    pub select: Vec<&'a str>,
-    /// The codes or names of what is not told.
-    pub ignore: Vec<&'a str>,
-    /// The sizes of the terminal.
-    pub sizes: Sizes,
 }
 
 /// The options of `why`.
@@ -94,10 +64,13 @@ pub struct DiffOptions<'a> {
 }
 
 /// The subcommands, and where to read about them.
-const SUBCOMMANDS: &str = "check, why, needs, diff or draw; segyolant --help says what each does";
+const SUBCOMMANDS: &str =
+    "check, rule, why, needs, diff or draw; segyolant --help says what each does";
 
 /// The arguments that are paths of files to read.
-const FILES: &[&str] = &["POOL", "OLD", "NEW", "state", "names"];
+const FILES: &[&str] = &[
+    "POOL", "OLD", "NEW", "state", "names", "baseline", "on", "config",
+];
 
 impl<'a> Options<'a> {
     /// Reads the words of a command line, of which the first is the program's name.
@@ -124,6 +97,7 @@ impl<'a> Options<'a> {
         matches: &ArgMatches<'a>,
     ) -> Result<Options<'a>, UsageError<WrongOption<'a>>> {
         Ok(match name {
+            "rule" => Options::Rule(matches.get_str("CODE")),
             "why" => Options::Why(why_options(alloc, matches)?),
             "needs" => Options::Needs(needs_options(alloc, matches)?),
             "diff" => Options::Diff(diff_options(alloc, matches)?),
@@ -132,43 +106,6 @@ impl<'a> Options<'a> {
             // clap takes no other name; its contract does not say so.
             _ => return Err(UsageError::NoSubcommand(SUBCOMMANDS)),
         })
-    }
-}
-
-fn check_options<'a>(
-    alloc: Global,
-    matches: &ArgMatches<'a>,
-) -> Result<CheckOptions<'a>, UsageError<WrongOption<'a>>> {
-    let format = match matches.get_str("format") {
-        Some("json") => Format::Json,
-        Some("github") => Format::Github,
-        _ => Format::Text,
-    };
-    Ok(CheckOptions {
-        pools: all_of(alloc, matches, "POOL")?,
-        names: all_of(alloc, matches, "names")?,
-        format,
-        most: matches.get_one::<u32>("most"),
-        denies_warnings: matches.contains_id("deny"),
-        select: codes_of(alloc, matches, "select")?,
-        ignore: codes_of(alloc, matches, "ignore")?,
-        sizes: Sizes {
-            key: area_of(matches, "key-size", TERMINAL_SIZES.key).map_err(WrongOption::KeySize)?,
-            ..sizes_of(matches)?
-        },
-    })
-}
-
-/// The codes and names that an option gives.
-fn codes_of<'a>(
-    alloc: Global,
-    matches: &ArgMatches<'a>,
-    option: &'a str,
-) -> Result<Vec<&'a str>, UsageError<WrongOption<'a>>> {
-    let codes = all_of(alloc, matches, option)?;
-    match codes.iter().find(|word| !is_code(word)) {
-        Some(word) => Err(UsageError::Wrong(WrongOption::Code { option, word })),
-        None => Ok(codes),
     }
 }
 
@@ -222,7 +159,7 @@ fn needs_options<'a>(
 }
 
 /// The area of a text such as `480x480`. Neither side is 0.
-pub(crate) fn area(text: &str) -> Option<Area> {
+pub fn area(text: &str) -> Option<Area> {
     let (width, height) = text.split_once('x')?;
     let width = width.parse::<u16>().ok()?;
     let height = height.parse::<u16>().ok()?;

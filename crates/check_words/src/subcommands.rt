@@ -1,8 +1,8 @@
 //! The command line of the program, for `clap`.
 
 use crate::arguments::{
-    DENY, DRAWN_POOL, EVENT, FORMAT, IGNORE, KEY_SIZE, KEYS, MASK, MOST, NAMES, NEW, OLD, OUT,
-    OWNER, POOL, POOLS, SELECT, SIZE, STATE,
+    BASELINE, CODE, CONFIG, DENY, DRAWN_POOL, EVENT, FORMAT, IGNORE, ISOLATED, KEY_SIZE, KEYS,
+    MASK, MOST, NAMES, NEW, OLD, ON, OUT, OWNER, POOL, POOLS, SELECT, SIZE, STATE, WARN,
 };
 use vt_cli::{CommandLine, Subcommand};
 
@@ -13,6 +13,7 @@ Status: 0 nothing found, 1 something found, 2 not judged or not drawn (command l
   segyolant check my.iop                                every fault, and warnings
   segyolant check my.iop --names my.h --format github   the same, by names, for a workflow
   segyolant check *.iop --format json --most 100        lines of JSON, at most 100 errors and warnings a pool
+  segyolant rule R04                                    what a code means, and the cure
   segyolant why my.iop 2002:24 --names my.h             what the event 24 of the object 2002 can cost, and why
   segyolant needs my.iop --size 240x240 --keys 6        whether the pool fits a terminal
   segyolant diff old.iop new.iop                        what is removed, changed and added
@@ -29,8 +30,18 @@ A line for each finding, FILE:OFFSET: SEVERITY[CODE NAME] SENTENCE:
   my.iop:598: error[R03 Missing] Output Number 341 `tank_value`: font names object 104, which is not there
 
   segyolant check my.iop --deny warnings --ignore Unused
+  segyolant check my.iop --deny W10 --warn Scale --ignore 'Unused[325]'
+  segyolant check my.iop --format json > known.json    later, with --baseline known.json, only what is new is told
   segyolant check my.iop --size 240x240 --keys 6
+  segyolant check german.iop --on my.iop
   cat my.iop | segyolant check -";
+
+/// The text of help after the options of `rule`.
+const AFTER_RULE: &str = "\
+Without a code, a line for each.
+
+  segyolant rule R04
+  segyolant rule WrongKind";
 
 /// The text of help after the options of `why`.
 const AFTER_WHY: &str = "\
@@ -56,7 +67,7 @@ pub(crate) const SEGYOLANT: CommandLine<'static> = CommandLine {
     name: "segyolant",
     about: "Checks object pools for makers of ISOBUS implements: every fault at once, with its place and its cause",
     after_help: AFTER_HELP,
-    subcommands: &[CHECK, WHY, NEEDS, DIFF, DRAW],
+    subcommands: &[CHECK, RULE, WHY, NEEDS, DIFF, DRAW],
 };
 
 const CHECK: Subcommand<'static> = Subcommand {
@@ -64,8 +75,16 @@ const CHECK: Subcommand<'static> = Subcommand {
     about: "Prints every fault of object pools, and warnings",
     after_help: Some(AFTER_CHECK),
     arguments: &[
-        POOLS, NAMES, FORMAT, MOST, DENY, SELECT, IGNORE, SIZE, KEY_SIZE, KEYS,
+        POOLS, NAMES, ON, FORMAT, MOST, SELECT, IGNORE, DENY, WARN, BASELINE, SIZE, KEY_SIZE, KEYS,
+        CONFIG, ISOLATED,
     ],
+};
+
+const RULE: Subcommand<'static> = Subcommand {
+    name: "rule",
+    about: "Explains a code of check: its cause, its cure and an example",
+    after_help: Some(AFTER_RULE),
+    arguments: &[CODE],
 };
 
 const WHY: Subcommand<'static> = Subcommand {

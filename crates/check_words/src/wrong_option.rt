@@ -10,7 +10,7 @@ pub enum WrongOption<'a> {
     Size(&'a str),
     /// The value of `--key-size` is no width and height.
     KeySize(&'a str),
-    /// The value of `--select` or `--ignore` is neither a code nor a name.
+    /// The value of an option that chooses findings is neither a code nor a name, nor an object in brackets.
     Code { option: &'a str, word: &'a str },
     /// The value of `--mask` is neither an ID nor `all`.
     Mask(&'a str),
@@ -39,7 +39,7 @@ impl fmt::Display for WrongOption<'_> {
             ),
             WrongOption::Code { option, word } => write!(
                 f,
-                "--{option} {word}: expected a code, such as W02, or a name, such as Unused; docs/POOLS.md lists them"
+                "--{option} {word}: expected a code or a name, such as W02 or Unused, an object, such as [325], or both, such as Unused[325]; segyolant rule lists the codes"
             ),
             WrongOption::Mask(value) => write!(
                 f,

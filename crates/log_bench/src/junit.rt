@@ -4,9 +4,9 @@ use crate::bench::Bench;
 use crate::entries::Entry;
 use crate::outcome::Outcome;
 use crate::report::Differing;
-use crate::xml::{attribute_of, text_of};
 use std::alloc::Global;
 use std::io::{self, Error, ErrorKind, Write};
+use vt_cli::xml::{attribute_of, text_of};
 use vt_cli::{Open, Save, Status};
 
 /// The front of a document.

@@ -12,6 +12,5 @@ mod junit;
 mod outcome;
 mod report;
 mod test;
-mod xml;
 
 pub use test::run_test;

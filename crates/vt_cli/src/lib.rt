@@ -9,6 +9,7 @@
 //!   it there, `overwrite_file` writes into it, and `make_folder` makes a folder. If one fails, it writes the name of the `Program`, the
 //!   path and the reason. `tell_replaced` says how many files were replaced.
 //! - A `JsonLine` is an object of JSON that is built from `Cell`s or member by member, and written as a line. `put_line` does so at once.
+//! - `xml` escapes texts for XML.
 //! - `words_of` collects the words of the process, and `exit_code` ends it: with them, `main` of a program is a page.
 //!
 //! It has no subcommand and no option of one program: those are in check_words and log_words. vt_replay uses `Files` and
@@ -29,6 +30,7 @@ mod start_set;
 mod status;
 mod values;
 mod writing;
+pub mod xml;
 
 pub use argument::{Allowed, Argument, Form};
 pub use cell::Cell;

@@ -6,7 +6,7 @@ use std::fmt::{self, Write};
 const FORBIDDEN: &str = "\u{FFFD}";
 
 /// A text as the value of an attribute, without its quotes.
-pub(crate) fn attribute_of(text: &str) -> Escaped<'_> {
+pub fn attribute_of(text: &str) -> Escaped<'_> {
     Escaped {
         text,
         is_attribute: true,
@@ -14,7 +14,7 @@ pub(crate) fn attribute_of(text: &str) -> Escaped<'_> {
 }
 
 /// A text between tags.
-pub(crate) fn text_of(text: &str) -> Escaped<'_> {
+pub fn text_of(text: &str) -> Escaped<'_> {
     Escaped {
         text,
         is_attribute: false,
@@ -23,7 +23,7 @@ pub(crate) fn text_of(text: &str) -> Escaped<'_> {
 
 /// A text in which the characters of marks are escaped, and those that XML 1.0 forbids replaced.
 #[derive(Clone, Copy, Drop)]
-pub(crate) struct Escaped<'a> {
+pub struct Escaped<'a> {
     text: &'a str,
     /// Whether newlines and tabs are escaped too, which a reader of an attribute takes as spaces.
     is_attribute: bool,
