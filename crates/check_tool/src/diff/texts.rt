@@ -7,7 +7,7 @@ use crate::diff::sides::Sides;
 use check_text::{CheckedPool, event_name};
 use std::fmt;
 use vt_frames_text::{QuotedText, ShownScale};
-use vt_objects::ObjectId;
+use vt_objects::{Event, ObjectId};
 
 /// A change of an object in words, such as `width: 100 -> 120` or `removed child 3, Container 100, at 10,5`.
 #[derive(Clone, Copy, Drop)]
@@ -81,6 +81,21 @@ impl fmt::Display for IndexText {
     }
 }
 
+/// An event by its name, or by its number if there is no such event.
+#[derive(Clone, Copy, Drop)]
+struct EventText {
+    number: u8,
+}
+
+impl fmt::Display for EventText {
+    fn fmt<W: fmt::Write>(&self, f: &mut fmt::Formatter<W>) -> fmt::Result {
+        match Event::from_number(self.number) {
+            Some(_) => f.write_str(event_name(self.number)),
+            None => write!(f, "event {}", self.number),
+        }
+    }
+}
+
 /// Writes a change of a list.
 fn write_change<W: fmt::Write>(
     f: &mut fmt::Formatter<W>,
@@ -141,7 +156,9 @@ fn write_entry<W: fmt::Write>(
             write!(f, "item {index}, {}", ShownText { source, shown })
         }
         Entry::Macro(entry) => {
-            let event = event_name(entry.event);
+            let event = EventText {
+                number: entry.event,
+            };
             let label = source.label(ObjectId::from_raw(u16::from(entry.macro_id)));
             write!(f, "macro entry {index} ({event}), {label}")
         }
