@@ -1,4 +1,4 @@
--- The equality of values, and the names of those that differ.
+-- The equality of values, and the fields whose values differ.
 use Rattle.std.proofs.Common.{◌≡◌, refl, Bool, true, false, not, ◌&&◌, ◌==◌, ℕ, List, [], ◌∷◌, ◌++◌, map, filter, ◌∙◌, ap, ap₂, int_eq, Bor, cond, if◌then◌else◌, ◌≢◌, sym, eq-eqb, Some, Result, Ok, Err, IfOk}
 use Rattle.std.proofs.lemmas.Bool.{ne_eqb}
 use Rattle.std.specs.Cmp.Lexicographic.{pointwise}
@@ -20,8 +20,10 @@ use Rattle.vt_kinds.specs.Records.{Seen, seen, kind_of, fields_of}
 use Rattle.vt_kinds.specs.Scales.{scale_number}
 use Rattle.vt_kinds.specs.Tables.{child_numbers, macro_numbers, language_numbers, id_numbers, point_numbers}
 use Rattle.check_changes.specs.FieldNames.{field_names}
-use Rattle.check_changes.specs.Names.{Name, named, name_bytes, names_unlike, not_counts}
-use Rattle.check_changes.specs.Changes.{same_numeral, same_value, without_counts, named_values, differing, changed}
+use Rattle.check_changes.specs.Names.{Name, name_bytes, not_counts}
+use Rattle.check_changes.specs.ChangedFields.{Row, change_of, field_of_row, fields_unlike}
+use Rattle.check_changes.specs.Changes.{Change, change, same_numeral, same_value, without_counts, named_values, differing, changed}
+use Rattle.check_changes.specs.declared.changes.ChangedField.{ChangedField}
 use Rattle.vt_writing.specs.Values.{value_of, field_of, counts, is_count, AreValuesOf}
 use Rattle.vt_writing.specs.declared.value.Value.{Value}
 use Rattle.vt_writing.specs.declared.value.Value.TheVariants as values
@@ -89,28 +91,26 @@ same_values (values.Points a) (values.Points b) h = same_rows point_numbers _ sa
 same_values (values.Bytes a) (values.Bytes b) h = refl
 same_values a b h = absurd (cc)
 
--- ---- the names of the values that differ
+-- ---- the fields whose values differ
 
-abbrev Row : Type 0
-Row = (Bor Name × Value) × Value
+abbrev changes_in : List Row → List Change
+changes_in rows = map change_of (map field_of_row rows)
 
-abbrev names_in : List Row → List Name
-names_in rows = name_bytes (map (λ row. row.0.0) rows)
-
-in_row : (equal : Bool) (row : Row) (rest : List Row) → names_in (cond (not equal) (row ∷ rest) rest) ≡ named row.0.0.now equal ++ names_in rest
+in_row : (equal : Bool) (row : Row) (rest : List Row)
+    → changes_in (cond (not equal) (row ∷ rest) rest) ≡ change row.0.0.now (value_of row.0.1) (value_of row.1) equal ++ changes_in rest
 in_row true row rest = refl
 in_row false row rest = refl
 
 pub in_rows : (same : Value → Value → Bool) → ((a b : Value) → field_of a ≡ field_of b → same a b ≡ same_value (value_of a) (value_of b))
     → (names : List (Bor Name)) (old new : List Value) → map field_of old ≡ map field_of new
-    → name_bytes (names_unlike same names old new) ≡ differing (name_bytes names) (map value_of old) (map value_of new)
+    → map change_of (fields_unlike same names old new) ≡ differing (name_bytes names) (map value_of old) (map value_of new)
 in_rows same each [] old new h = refl
 in_rows same each (n ∷ ns) [] new h = refl
 in_rows same each (n ∷ ns) (a ∷ old) [] h = refl
 in_rows same each (n ∷ ns) (a ∷ old) (b ∷ new) h =
     let first : field_of a ≡ field_of b = cc in
     let others : map field_of old ≡ map field_of new = cc in
-    in_row (same a b) ((n, a), b) _ ∙ ap₂ (λ equal rest. named n.now equal ++ rest) (each a b first) (in_rows same each ns old new others)
+    in_row (same a b) ((n, a), b) _ ∙ ap₂ (λ equal rest. change n.now (value_of a) (value_of b) equal ++ rest) (each a b first) (in_rows same each ns old new others)
 
 -- ---- the values but for the counts
 
@@ -148,7 +148,7 @@ of_values (v ∷ vs) =
     more_values (is_count v) v (not_counts vs) (without_counts (map field_of vs) (map value_of vs)) (of_values vs)
     ∙ in_front (field_of v) (map field_of vs) (value_of v) (map value_of vs)
 
--- ---- the names of the fields in which two objects differ
+-- ---- the fields in which two objects differ
 
 known : (k : Kind) → kind_of_type (kind_number k) ≡ Some k
 known kinds.WorkingSet = refl
@@ -161,20 +161,20 @@ kind_seen : {B : Type 0} (o : Object B) → kind_of (seen o) ≡ kind_of o
 kind_seen (objects.WorkingSet o) = refl
 kind_seen _ = refl
 
-abbrev by_kind : Seen → Seen → Bool → List Name
+abbrev by_kind : Seen → Seen → Bool → List Change
 by_kind old new of_one_kind = if of_one_kind then differing (field_names (kind_of old)) (named_values old) (named_values new) else []
 
-pub in_changed : {A E B : Type 0} (r : Result A E) (found : A → List (Bor Name)) (old new : Object B) (names : List (Bor Name)) (olds news named_olds named_news : List Value)
+pub in_changed : {A E B : Type 0} (r : Result A E) (found : A → List ChangedField) (old new : Object B) (names : List (Bor Name)) (olds news named_olds named_news : List Value)
     → kind_number (kind_of old) ≡ kind_number (kind_of new) → name_bytes names ≡ field_names (kind_of old) → AreValuesOf (seen old) olds → AreValuesOf (seen new) news
-    → named_olds ≡ not_counts olds → named_news ≡ not_counts news → IfOk r (λ a. found a ≡ names_unlike ghosts.eq names named_olds named_news)
-    → IfOk r (λ a. name_bytes (found a) ≡ changed (seen old) (seen new))
+    → named_olds ≡ not_counts olds → named_news ≡ not_counts news → IfOk r (λ a. found a ≡ fields_unlike ghosts.eq names named_olds named_news)
+    → IfOk r (λ a. map change_of (found a) ≡ changed (seen old) (seen new))
 in_changed (Err e) found old new names olds news named_olds named_news same called of_old of_new old_named new_named is = is
 in_changed (Ok a) found old new names olds news named_olds named_news same called of_old of_new old_named new_named is =
     let kinds : kind_of (seen old) ≡ kind_of (seen new) = kind_seen old ∙ one_kind _ _ same ∙ sym (kind_seen new) in
     let fields : map field_of olds ≡ map field_of news = of_old.1 ∙ ap fields_of kinds ∙ sym of_new.1 in
     let named : map field_of (not_counts olds) ≡ map field_of (not_counts news) = of_fields olds ∙ ap named_fields fields ∙ sym (of_fields news) in
     let names_seen : name_bytes names ≡ field_names (kind_of (seen old)) = called ∙ ap field_names (sym (kind_seen old)) in
-    ap name_bytes (is ∙ ap₂ (names_unlike ghosts.eq names) old_named new_named)
+    ap (map change_of) (is ∙ ap₂ (fields_unlike ghosts.eq names) old_named new_named)
     ∙ in_rows ghosts.eq same_values names (not_counts olds) (not_counts news) named
     ∙ ap (λ ns. differing ns (map value_of (not_counts olds)) (map value_of (not_counts news))) names_seen
     ∙ ap₂ (λ os ns. differing (field_names (kind_of (seen old))) os ns)

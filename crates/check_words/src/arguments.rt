@@ -5,6 +5,9 @@ use vt_cli::{Allowed, Argument, Form};
 /// The formats of output.
 const FORMATS: &[&str] = &["text", "json", "github", "sarif", "junit"];
 
+/// The formats of output that no workflow reads.
+const LINE_FORMATS: &[&str] = &["text", "json"];
+
 pub(crate) const POOLS: Argument<'static> = Argument {
     name: "POOL",
     help: "The files of the pools; - is the standard input",
@@ -38,8 +41,8 @@ pub(crate) const NEW: Argument<'static> = Argument {
 
 pub(crate) const EVENT: Argument<'static> = Argument {
     name: "EVENT",
-    help: "The object and the number of its event, 0 to 26; 0 is the run of a macro by name",
-    form: Form::NamedPositional("ID:EVENT"),
+    help: "An object and an event of it, 0 to 26 or by its name, or an object alone [default: all events]",
+    form: Form::NamedPositional("OBJECT:EVENT"),
 };
 
 /// The code that is explained.
@@ -59,6 +62,20 @@ pub(crate) const FORMAT: Argument<'static> = Argument {
     name: "format",
     help: "Lines for people, lines of JSON, a GitHub workflow's commands, SARIF, or the XML of JUnit [default: text]",
     form: Form::Setting("FORMAT", Allowed::OneOf(FORMATS)),
+};
+
+/// The form of lines that no workflow reads.
+pub(crate) const LINE_FORMAT: Argument<'static> = Argument {
+    name: "format",
+    help: "Lines for people, or lines of JSON [default: text]",
+    form: Form::Setting("FORMAT", Allowed::OneOf(LINE_FORMATS)),
+};
+
+/// The most events of a list.
+pub(crate) const MOST_EVENTS: Argument<'static> = Argument {
+    name: "most",
+    help: "List at most N events",
+    form: Form::Setting("N", Allowed::Number),
 };
 
 pub(crate) const MOST: Argument<'static> = Argument {

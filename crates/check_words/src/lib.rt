@@ -12,12 +12,16 @@ mod arguments;
 mod check;
 mod choice;
 mod draw;
+mod line_format;
 mod options;
 mod subcommands;
+mod why;
 mod wrong_option;
 
 pub use check::{ALL_WARNINGS, CheckOptions, Format, is_choice};
 pub use choice::Choice;
 pub use draw::{DrawOptions, Drawing, Origin};
-pub use options::{DiffOptions, NeedsOptions, Options, WhyOptions, area};
+pub use line_format::LineFormat;
+pub use options::{DiffOptions, NeedsOptions, Options, area};
+pub use why::{ObjectWord, Question, WhyOptions};
 pub use wrong_option::WrongOption;
