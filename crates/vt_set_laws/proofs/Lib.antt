@@ -4,7 +4,10 @@ pub mod ChainTestPasses
 pub mod DoneIfInOrder
 pub mod EventsOfEntries
 mod FilledTexts
+mod JudgedChanges
 mod KindsOfChanges
 mod OneFault
 pub mod OneFieldPerWrite
+mod RefusedFaults
+mod StandingTargets
 pub mod TriggeredMacrosFirst

@@ -9,6 +9,7 @@
 ghost use Rattle.vt_set_laws.specs.AttributeWrites.{AttributesAreWritten};
 ghost use Rattle.vt_set_laws.specs.CommandKinds.{KindsAreThoseOfChanges};
 ghost use Rattle.vt_set_laws.specs.CommandOrder.{OrderDecides};
+ghost use Rattle.vt_set_laws.specs.FaultsOfCommands.{FaultsAreRefusals};
 ghost use Rattle.vt_set_laws.specs.MacroOrder.{TriggeredStandBefore};
 ghost use Rattle.vt_set_laws.specs.NewValues.{NewValuesAreNew};
 ghost use Rattle.vt_set_laws.specs.PoolFaults.{FaultsAreOne};
@@ -26,6 +27,12 @@ pub fn order_decides()
 /// object of an allowed kind gets that byte only for another cause. docs/PROFILE.md, "Commands in macros".
 pub fn kinds_are_those_of_changes()
     ensures { KindsAreThoseOfChanges }
+{}
+
+/// The law that a command of a macro has a fault exactly if it is refused for one of its IDs, in a store in order. docs/PROFILE.md,
+/// "Commands in macros".
+pub fn faults_are_refusals()
+    ensures { FaultsAreRefusals }
 {}
 
 /// The law that Change Attribute writes its value, of four bytes, to the field of the attribute in the object's record,
