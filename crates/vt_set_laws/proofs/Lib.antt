@@ -3,6 +3,7 @@ mod BitsOfRefusals
 pub mod ChainTestPasses
 pub mod DoneIfInOrder
 pub mod EventsOfEntries
+mod FieldsPerCommand
 mod FilledTexts
 mod JudgedChanges
 mod KindsOfChanges

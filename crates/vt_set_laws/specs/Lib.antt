@@ -3,6 +3,7 @@ pub mod AttributeWrites
 pub mod CommandKinds
 pub mod CommandOrder
 pub mod FaultsOfCommands
+pub mod FieldWrites
 pub mod MacroOrder
 pub mod NewValues
 pub mod PoolFaults

@@ -10,6 +10,7 @@ ghost use Rattle.vt_set_laws.specs.AttributeWrites.{AttributesAreWritten};
 ghost use Rattle.vt_set_laws.specs.CommandKinds.{KindsAreThoseOfChanges};
 ghost use Rattle.vt_set_laws.specs.CommandOrder.{OrderDecides};
 ghost use Rattle.vt_set_laws.specs.FaultsOfCommands.{FaultsAreRefusals};
+ghost use Rattle.vt_set_laws.specs.FieldWrites.{FieldsAreWritten};
 ghost use Rattle.vt_set_laws.specs.MacroOrder.{TriggeredStandBefore};
 ghost use Rattle.vt_set_laws.specs.NewValues.{NewValuesAreNew};
 ghost use Rattle.vt_set_laws.specs.PoolFaults.{FaultsAreOne};
@@ -41,6 +42,14 @@ pub fn attributes_are_written()
     ensures { AttributesAreWritten }
 {
     vt_effects::laws::changes_keep();
+}
+
+/// The law that a command that only writes fields, as Change Size, writes each of its numbers to the field of its name in the
+/// object's record, and to no other field. docs/PROFILE.md, "Commands: all rows".
+pub fn fields_are_written()
+    ensures { FieldsAreWritten }
+{
+    vt_objects::laws::attributes_are_fields();
 }
 
 /// The law that the events of a new value, On Entry of New Value and On Change Value, are raised exactly if the
