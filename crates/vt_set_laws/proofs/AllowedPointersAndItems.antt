@@ -44,7 +44,7 @@ value_at : (m : ObjectMap) (s : Slot) (o : Seen) → finite.get m s.id ≡ Some 
 value_at m s o at named is = second_of (is_one_of s.kinds (Some (kind_of o))) (value_fits m s (pointer_value (Some o))) (in_order_at m s o at named is)
 
 -- an existing object's ID is not NULL
-not_null : (m : ObjectMap) (id : ℕ) (o : Seen) → finite.get m null_id ≡ None → finite.get m id ≡ Some o → id ≡ null_id → ⊥
+pub not_null : (m : ObjectMap) (id : ℕ) (o : Seen) → finite.get m null_id ≡ None → finite.get m id ≡ Some o → id ≡ null_id → ⊥
 not_null m id o null at is =
     let never : None ≡ Some o = sym null ∙ ap (finite.get m) (sym is) ∙ at in
     absurd cc

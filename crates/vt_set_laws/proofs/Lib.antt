@@ -3,8 +3,12 @@ mod BitsOfRefusals
 pub mod ChainTestPasses
 pub mod DoneIfInOrder
 pub mod EventsOfEntries
+mod FieldsPerCommand
 mod FilledTexts
+mod JudgedChanges
 mod KindsOfChanges
 mod OneFault
 pub mod OneFieldPerWrite
+mod RefusedFaults
+mod StandingTargets
 pub mod TriggeredMacrosFirst

@@ -2,6 +2,8 @@
 pub mod AttributeWrites
 pub mod CommandKinds
 pub mod CommandOrder
+pub mod FaultsOfCommands
+pub mod FieldWrites
 pub mod MacroOrder
 pub mod NewValues
 pub mod PoolFaults

@@ -9,6 +9,8 @@
 ghost use Rattle.vt_set_laws.specs.AttributeWrites.{AttributesAreWritten};
 ghost use Rattle.vt_set_laws.specs.CommandKinds.{KindsAreThoseOfChanges};
 ghost use Rattle.vt_set_laws.specs.CommandOrder.{OrderDecides};
+ghost use Rattle.vt_set_laws.specs.FaultsOfCommands.{FaultsAreRefusals};
+ghost use Rattle.vt_set_laws.specs.FieldWrites.{FieldsAreWritten};
 ghost use Rattle.vt_set_laws.specs.MacroOrder.{TriggeredStandBefore};
 ghost use Rattle.vt_set_laws.specs.NewValues.{NewValuesAreNew};
 ghost use Rattle.vt_set_laws.specs.PoolFaults.{FaultsAreOne};
@@ -28,12 +30,26 @@ pub fn kinds_are_those_of_changes()
     ensures { KindsAreThoseOfChanges }
 {}
 
+/// The law that a command of a macro has a fault exactly if it is refused for one of its IDs, in a store in order. docs/PROFILE.md,
+/// "Commands in macros".
+pub fn faults_are_refusals()
+    ensures { FaultsAreRefusals }
+{}
+
 /// The law that Change Attribute writes its value, of four bytes, to the field of the attribute in the object's record,
 /// and to no other field. docs/PROFILE.md, "Attribute numbers".
 pub fn attributes_are_written()
     ensures { AttributesAreWritten }
 {
     vt_effects::laws::changes_keep();
+}
+
+/// The law that a command that only writes fields, as Change Size, writes each of its numbers to the field of its name in the
+/// object's record, and to no other field. docs/PROFILE.md, "Commands: all rows".
+pub fn fields_are_written()
+    ensures { FieldsAreWritten }
+{
+    vt_objects::laws::attributes_are_fields();
 }
 
 /// The law that the events of a new value, On Entry of New Value and On Change Value, are raised exactly if the
