@@ -112,7 +112,10 @@ pub(crate) fn value_warning_details(
             ],
         ),
         ValueWarning::SameCode {
-            index, key, code, ..
+            index,
+            key,
+            code,
+            ..
         } => object_with(
             alloc,
             object,

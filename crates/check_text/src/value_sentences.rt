@@ -92,7 +92,10 @@ impl fmt::Display for ValueSentence<'_, '_> {
                 )
             }
             ValueWarning::SameCode {
-                index, key, code, ..
+                index,
+                key,
+                code,
+                ..
             } => {
                 let key = self.source.label(*key);
                 write!(

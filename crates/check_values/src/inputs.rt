@@ -147,13 +147,7 @@ fn put_if_taken(
 }
 
 /// Whether another one of so many first keys has a code.
-fn is_taken(
-    objects: &SortedStore,
-    keys: &[ObjectId],
-    count: usize,
-    key: ObjectId,
-    code: u8,
-) -> bool
+fn is_taken(objects: &SortedStore, keys: &[ObjectId], count: usize, key: ObjectId, code: u8) -> bool
     ensures { result ≡ spec.is_taken objects.now key code (take count keys.now) }
 {
     keys.iter()
