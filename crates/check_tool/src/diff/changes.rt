@@ -2,7 +2,7 @@
 
 use crate::diff::entry::entries_of;
 use crate::diff::entry_changes::{EntryChange, entry_changes};
-use check_changes::{ChangedField, Value, changed_fields};
+use check_changes::{Value, changed_fields};
 use std::alloc::{AllocError, Global};
 use vt_objects::{Kind, Object, ObjectId, Scale};
 
@@ -58,8 +58,9 @@ pub(crate) fn changes_of<'a>(
 ) -> Result<Vec<Change<'a>>, AllocError> {
     let mut changes = Vec::new(alloc);
     let fields = changed_fields(alloc, old, new)?;
-    for field in fields.iter() {
-        put_changes(alloc, old.kind(), *field, &mut changes)?;
+    let values = fields.old.iter().zip(fields.new.iter());
+    for (field, (before, after)) in fields.names.iter().zip(values) {
+        put_changes(alloc, old.kind(), field, before, after, &mut changes)?;
     }
     Ok(changes)
 }
@@ -68,14 +69,15 @@ pub(crate) fn changes_of<'a>(
 fn put_changes<'a>(
     alloc: Global,
     kind: Kind,
-    changed: ChangedField<'a>,
+    field: &'static str,
+    before: &Value<'a>,
+    after: &Value<'a>,
     changes: &mut Vec<Change<'a>>,
 ) -> Result<(), AllocError> {
-    let field = changed.name;
-    if let Some(old) = shown(kind, field, changed.old)
-        && let Some(new) = shown(kind, field, changed.new)
+    if let Some(old) = shown(kind, field, before)
+        && let Some(new) = shown(kind, field, after)
     {
-        let at = hidden_difference(changed.old, changed.new, new);
+        let at = hidden_difference(before, after, new);
         changes.push(Change::Value {
             field,
             old,
@@ -84,8 +86,8 @@ fn put_changes<'a>(
         })?;
         return Ok(());
     }
-    let old = entries_of(alloc, changed.old)?;
-    let new = entries_of(alloc, changed.new)?;
+    let old = entries_of(alloc, before)?;
+    let new = entries_of(alloc, after)?;
     let entries = entry_changes(alloc, old.as_slice(), new.as_slice())?;
     for change in entries.iter() {
         changes.push(Change::Entry {
@@ -97,16 +99,16 @@ fn put_changes<'a>(
 }
 
 /// The value of a field as it is shown. `None` for a list and for a count.
-fn shown<'a>(kind: Kind, field: &str, value: Value<'a>) -> Option<Shown<'a>> {
+fn shown<'a>(kind: Kind, field: &str, value: &Value<'a>) -> Option<Shown<'a>> {
     match value {
-        Value::Byte(number) => Some(Shown::Number(i64::from(number))),
+        Value::Byte(number) => Some(Shown::Number(i64::from(*number))),
         Value::Word(number) if is_reference(kind, field) => {
-            Some(Shown::Object(ObjectId::from_raw(number)))
+            Some(Shown::Object(ObjectId::from_raw(*number)))
         }
-        Value::Word(number) => Some(Shown::Number(i64::from(number))),
-        Value::Long(number) => Some(Shown::Number(i64::from(number))),
-        Value::SignedLong(number) => Some(Shown::Number(i64::from(number))),
-        Value::Scale(scale) => Some(Shown::Scale(scale)),
+        Value::Word(number) => Some(Shown::Number(i64::from(*number))),
+        Value::Long(number) => Some(Shown::Number(i64::from(*number))),
+        Value::SignedLong(number) => Some(Shown::Number(i64::from(*number))),
+        Value::Scale(scale) => Some(Shown::Scale(*scale)),
         Value::Decimals(decimals) => Some(Shown::Number(i64::from(decimals.count()))),
         Value::Bytes(text) if field == TEXT => Some(Shown::Text(text)),
         // A Vec has at most 2^63 bytes.
@@ -131,7 +133,7 @@ fn is_reference(kind: Kind, field: &str) -> bool {
 }
 
 /// The index of the first byte that differs, unless the shown values differ too.
-fn hidden_difference(old: Value<'_>, new: Value<'_>, shown: Shown<'_>) -> Option<usize> {
+fn hidden_difference(old: &Value<'_>, new: &Value<'_>, shown: Shown<'_>) -> Option<usize> {
     let (Value::Bytes(old), Value::Bytes(new)) = (old, new) else {
         return None;
     };

@@ -23,7 +23,7 @@ pub(crate) struct Placed {
 }
 
 /// The entries of a list; none for a value that is no list.
-pub(crate) fn entries_of(alloc: Global, value: Value<'_>) -> Result<Vec<Entry>, AllocError> {
+pub(crate) fn entries_of(alloc: Global, value: &Value<'_>) -> Result<Vec<Entry>, AllocError> {
     match value {
         Value::Children(list) => list.iter().map(|it| Entry::Child(*it)).collect(alloc),
         Value::Keys(list) => list.iter().map(|it| Entry::Key(*it)).collect(alloc),
