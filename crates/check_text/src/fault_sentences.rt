@@ -5,6 +5,7 @@ use crate::label::Label;
 use crate::types::type_name;
 use byteorder::{ByteOrder, LittleEndian};
 use std::fmt;
+use std::num::f32_from_bits_with_nan;
 use vt_objects::{Kind, ObjectId};
 use vt_pool::PoolFault;
 
@@ -91,7 +92,7 @@ impl FaultSentence<'_> {
         let Some([b0, b1, b2, b3, ..]) = self.source.bytes.get(at..) else {
             return f.write_str("the scale is none of 1, 0.1, 0.01 and 0.001");
         };
-        let scale = number_of(LittleEndian::read_u32(&[*b0, *b1, *b2, *b3]));
+        let scale = f32_from_bits_with_nan(LittleEndian::read_u32(&[*b0, *b1, *b2, *b3]));
         write!(f, "the scale {scale} is none of 1, 0.1, 0.01 and 0.001")?;
         match nearest_scale(scale) {
             Some(nearest) => write!(f, "; the nearest is {nearest}"),
@@ -130,15 +131,6 @@ fn has_counts(kind: Option<Kind>) -> bool {
         kind,
         Some(Kind::NumberVariable | Kind::ObjectPointer) | None
     )
-}
-
-/// The number with the bits of a 32-bit float, of which some are no number.
-fn number_of(bits: u32) -> f32 {
-    if bits % 0x8000_0000 > 0x7F80_0000 {
-        0.0 / 0.0
-    } else {
-        f32::from_bits(bits)
-    }
 }
 
 /// The scale of this terminal that is nearest to another, by their ratio. `None` for what is no positive number.
