@@ -27,7 +27,8 @@ OTHERS = r"\b(?:calloc|reallocarray|aligned_alloc|posix_memalign|memalign|p?vall
 PROGRAMS = {
     "vt_replay": (1, (["seeder.log"], ["hide.log", "--pool", "pool.iop", "--owner", "80"], ["pool.iop", "--report"])),
     "segyolant": (2, (["check", "many-faults.iop"], ["why", "pool.iop", "1000:3"], ["needs", "pool.iop", "--size", "60x25"],
-                      ["diff", "pool.iop", "refusal-03-missing.iop"], ["draw", "kinds.iop"],
+                      ["diff", "pool.iop", "refusal-03-missing.iop"], ["diff", "pool.iop", "refusal-05-too-deep.iop", "--format", "json"],
+                      ["draw", "kinds.iop"],
                       ["draw", "pool.iop", "--state", "hide.log", "--owner", "80"])),
     "segyolant_log": (2, (["pools", "seeder.log"], ["operator", "seeder.log"], ["trace", "seeder.log"], ["compare", "seeder.log"],
                           ["trace", "seeder.log", "--object", "400"], ["compare", "cab.log", "--only", "to=80"],

@@ -1,5 +1,5 @@
--- The equality of values, and the names of those that differ.
-use Rattle.std.proofs.Common.{◌≡◌, refl, Bool, true, false, not, ◌&&◌, ◌==◌, ℕ, List, [], ◌∷◌, ◌++◌, map, filter, ◌∙◌, ap, ap₂, int_eq, Bor, cond, if◌then◌else◌, ◌≢◌, sym, eq-eqb, Some, Result, Ok, Err, IfOk}
+-- The equality of values, and the fields whose values differ.
+use Rattle.std.proofs.Common.{◌≡◌, refl, Bool, true, false, not, ◌&&◌, ◌==◌, ℕ, List, [], ◌∷◌, ◌++◌, map, filter, ◌∙◌, ap, ap₂, int_eq, Bor, cond, if◌then◌else◌, ◌≢◌, sym, eq-eqb, Some}
 use Rattle.std.proofs.lemmas.Bool.{ne_eqb}
 use Rattle.std.specs.Cmp.Lexicographic.{pointwise}
 use Rattle.vt_kinds.specs.declared.scale.Scale.{Scale}
@@ -20,8 +20,9 @@ use Rattle.vt_kinds.specs.Records.{Seen, seen, kind_of, fields_of}
 use Rattle.vt_kinds.specs.Scales.{scale_number}
 use Rattle.vt_kinds.specs.Tables.{child_numbers, macro_numbers, language_numbers, id_numbers, point_numbers}
 use Rattle.check_changes.specs.FieldNames.{field_names}
-use Rattle.check_changes.specs.Names.{Name, named, name_bytes, names_unlike, not_counts}
-use Rattle.check_changes.specs.Changes.{same_numeral, same_value, without_counts, named_values, differing, changed}
+use Rattle.check_changes.specs.Names.{Name, name_bytes, not_counts}
+use Rattle.check_changes.specs.ChangedFields.{Row, rows_unlike}
+use Rattle.check_changes.specs.Changes.{Change, change, same_numeral, same_value, without_counts, named_values, differing, changed}
 use Rattle.vt_writing.specs.Values.{value_of, field_of, counts, is_count, AreValuesOf}
 use Rattle.vt_writing.specs.declared.value.Value.{Value}
 use Rattle.vt_writing.specs.declared.value.Value.TheVariants as values
@@ -89,28 +90,37 @@ same_values (values.Points a) (values.Points b) h = same_rows point_numbers _ sa
 same_values (values.Bytes a) (values.Bytes b) h = refl
 same_values a b h = absurd (cc)
 
--- ---- the names of the values that differ
+-- ---- the fields whose values differ
 
-abbrev Row : Type 0
-Row = (Bor Name × Value) × Value
+pub map_twice : {X Y Z : Type 0} (f : Y → Z) (g : X → Y) (xs : List X) → map f (map g xs) ≡ map (λ x. f (g x)) xs
+map_twice f g [] = refl
+map_twice f g (x ∷ xs) = ap (λ rest. f (g x) ∷ rest) (map_twice f g xs)
 
-abbrev names_in : List Row → List Name
-names_in rows = name_bytes (map (λ row. row.0.0) rows)
+abbrev change_of : Row Value → Change
+change_of row = record { name = row.0.0.now; old = value_of row.0.1; new = value_of row.1 }
 
-in_row : (equal : Bool) (row : Row) (rest : List Row) → names_in (cond (not equal) (row ∷ rest) rest) ≡ named row.0.0.now equal ++ names_in rest
-in_row true row rest = refl
-in_row false row rest = refl
+-- a part of each row is that part of its change
+abbrev pub IsPart : {X : Type 0} → (Row Value → X) → (Change → X) → Type 0
+IsPart part of = (row : Row Value) → part row ≡ of (change_of row)
 
-pub in_rows : (same : Value → Value → Bool) → ((a b : Value) → field_of a ≡ field_of b → same a b ≡ same_value (value_of a) (value_of b))
+in_row : {X : Type 0} (part : Row Value → X) (of : Change → X) → IsPart part of → (equal : Bool) (row : Row Value) (rest : List (Row Value)) (more : List Change)
+    → map part rest ≡ map of more → map part (cond (not equal) (row ∷ rest) rest) ≡ map of (change row.0.0.now (value_of row.0.1) (value_of row.1) equal ++ more)
+in_row part of each true row rest more same = same
+in_row part of each false row rest more same = ap₂ (λ x xs. x ∷ xs) (each row) same
+
+in_rows : {X : Type 0} (part : Row Value → X) (of : Change → X) → IsPart part of
+    → (same : Value → Value → Bool) → ((a b : Value) → field_of a ≡ field_of b → same a b ≡ same_value (value_of a) (value_of b))
     → (names : List (Bor Name)) (old new : List Value) → map field_of old ≡ map field_of new
-    → name_bytes (names_unlike same names old new) ≡ differing (name_bytes names) (map value_of old) (map value_of new)
-in_rows same each [] old new h = refl
-in_rows same each (n ∷ ns) [] new h = refl
-in_rows same each (n ∷ ns) (a ∷ old) [] h = refl
-in_rows same each (n ∷ ns) (a ∷ old) (b ∷ new) h =
+    → map part (rows_unlike same names old new) ≡ map of (differing (name_bytes names) (map value_of old) (map value_of new))
+in_rows part of each same equals [] old new h = refl
+in_rows part of each same equals (n ∷ ns) [] new h = refl
+in_rows part of each same equals (n ∷ ns) (a ∷ old) [] h = refl
+in_rows part of each same equals (n ∷ ns) (a ∷ old) (b ∷ new) h =
     let first : field_of a ≡ field_of b = cc in
     let others : map field_of old ≡ map field_of new = cc in
-    in_row (same a b) ((n, a), b) _ ∙ ap₂ (λ equal rest. named n.now equal ++ rest) (each a b first) (in_rows same each ns old new others)
+    let more = differing (name_bytes ns) (map value_of old) (map value_of new) in
+    in_row part of each (same a b) ((n, a), b) (rows_unlike same ns old new) more (in_rows part of each same equals ns old new others)
+    ∙ ap (λ equal. map of (change n.now (value_of a) (value_of b) equal ++ more)) (equals a b first)
 
 -- ---- the values but for the counts
 
@@ -148,7 +158,7 @@ of_values (v ∷ vs) =
     more_values (is_count v) v (not_counts vs) (without_counts (map field_of vs) (map value_of vs)) (of_values vs)
     ∙ in_front (field_of v) (map field_of vs) (value_of v) (map value_of vs)
 
--- ---- the names of the fields in which two objects differ
+-- ---- the fields in which two objects differ
 
 known : (k : Kind) → kind_of_type (kind_number k) ≡ Some k
 known kinds.WorkingSet = refl
@@ -161,25 +171,26 @@ kind_seen : {B : Type 0} (o : Object B) → kind_of (seen o) ≡ kind_of o
 kind_seen (objects.WorkingSet o) = refl
 kind_seen _ = refl
 
-abbrev by_kind : Seen → Seen → Bool → List Name
+abbrev by_kind : Seen → Seen → Bool → List Change
 by_kind old new of_one_kind = if of_one_kind then differing (field_names (kind_of old)) (named_values old) (named_values new) else []
 
-pub in_changed : {A E B : Type 0} (r : Result A E) (found : A → List (Bor Name)) (old new : Object B) (names : List (Bor Name)) (olds news named_olds named_news : List Value)
+pub in_changed : {X B : Type 0} (found : List X) (part : Row Value → X) (of : Change → X) → IsPart part of
+    → (old new : Object B) (names : List (Bor Name)) (olds news named_olds named_news : List Value)
     → kind_number (kind_of old) ≡ kind_number (kind_of new) → name_bytes names ≡ field_names (kind_of old) → AreValuesOf (seen old) olds → AreValuesOf (seen new) news
-    → named_olds ≡ not_counts olds → named_news ≡ not_counts news → IfOk r (λ a. found a ≡ names_unlike ghosts.eq names named_olds named_news)
-    → IfOk r (λ a. name_bytes (found a) ≡ changed (seen old) (seen new))
-in_changed (Err e) found old new names olds news named_olds named_news same called of_old of_new old_named new_named is = is
-in_changed (Ok a) found old new names olds news named_olds named_news same called of_old of_new old_named new_named is =
+    → named_olds ≡ not_counts olds → named_news ≡ not_counts news → found ≡ map part (rows_unlike ghosts.eq names named_olds named_news)
+    → found ≡ map of (changed (seen old) (seen new))
+in_changed found part of each old new names olds news named_olds named_news same called of_old of_new old_named new_named is =
     let kinds : kind_of (seen old) ≡ kind_of (seen new) = kind_seen old ∙ one_kind _ _ same ∙ sym (kind_seen new) in
     let fields : map field_of olds ≡ map field_of news = of_old.1 ∙ ap fields_of kinds ∙ sym of_new.1 in
     let named : map field_of (not_counts olds) ≡ map field_of (not_counts news) = of_fields olds ∙ ap named_fields fields ∙ sym (of_fields news) in
     let names_seen : name_bytes names ≡ field_names (kind_of (seen old)) = called ∙ ap field_names (sym (kind_seen old)) in
-    ap name_bytes (is ∙ ap₂ (names_unlike ghosts.eq names) old_named new_named)
-    ∙ in_rows ghosts.eq same_values names (not_counts olds) (not_counts news) named
-    ∙ ap (λ ns. differing ns (map value_of (not_counts olds)) (map value_of (not_counts news))) names_seen
+    is ∙ ap₂ (λ os ns. map part (rows_unlike ghosts.eq names os ns)) old_named new_named
+    ∙ in_rows part of each ghosts.eq same_values names (not_counts olds) (not_counts news) named
+    ∙ ap (map of)
+    (ap (λ ns. differing ns (map value_of (not_counts olds)) (map value_of (not_counts news))) names_seen
     ∙ ap₂ (λ os ns. differing (field_names (kind_of (seen old))) os ns)
     (of_values olds ∙ ap₂ without_counts of_old.1 of_old.0) (of_values news ∙ ap₂ without_counts of_new.1 of_new.0)
-    ∙ sym (ap (by_kind (seen old) (seen new)) (eq-eqb _ _ (ap kind_number kinds)))
+    ∙ sym (ap (by_kind (seen old) (seen new)) (eq-eqb _ _ (ap kind_number kinds))))
 
 pub unlike : {B : Type 0} (old new : Object B) → kind_number (kind_of old) ≢ kind_number (kind_of new) → [] ≡ changed (seen old) (seen new)
 unlike old new other =

@@ -10,8 +10,8 @@ use Rattle.vt_kinds.specs.Kinds.{kind_number}
 use Rattle.vt_kinds.specs.Layout.{RecordField, Count, Rows, Bytes, Counted, Objects, Macros, Others, Numeral, natural, integer, Value, number, rows, bytes, fields_spelling}
 use Rattle.vt_kinds.specs.Records.{Seen, kind_of, fields_of, values_of, record_of}
 use Rattle.check_changes.specs.FieldNames.{field_names}
-use Rattle.check_changes.specs.Names.{Name, named}
-use Rattle.check_changes.specs.Changes.{same_numeral, same_value, named_values, differing, changed}
+use Rattle.check_changes.specs.Names.{Name}
+use Rattle.check_changes.specs.Changes.{Change, change, same_numeral, same_value, named_values, differing, changed}
 
 -- ---- equal values
 
@@ -62,7 +62,7 @@ own_value (bytes a) = each_own (λ x y. x == y) (λ x. eq-eqb x x refl) a
 none_of_own : (names : List Name) (vs : List Value) → differing names vs vs ≡ []
 none_of_own [] vs = refl
 none_of_own (n ∷ ns) [] = refl
-none_of_own (n ∷ ns) (v ∷ vs) = ap (λ s. named n s ++ differing ns vs vs) (own_value v) ∙ none_of_own ns vs
+none_of_own (n ∷ ns) (v ∷ vs) = ap (λ s. change n v v s ++ differing ns vs vs) (own_value v) ∙ none_of_own ns vs
 
 pub own_unchanged : (o : Seen) → changed o o ≡ []
 own_unchanged o =
@@ -77,10 +77,10 @@ AllNamed [] [] = Unit {0}
 AllNamed (n ∷ ns) (v ∷ vs) = AllNamed ns vs
 AllNamed _ _ = ⊥
 
-some_name : (name : Name) (rest : List Name) → name ∷ rest ≡ [] → ⊥
-some_name name rest h = subst (λ l. has_one l) h tt
+some_change : (first : Change) (rest : List Change) → first ∷ rest ≡ [] → ⊥
+some_change first rest h = subst (λ l. has_one l) h tt
   where
-    has_one : List Name → Type 0
+    has_one : List Change → Type 0
     has_one [] = ⊥
     has_one (_ ∷ _) = Unit {0}
 
@@ -93,8 +93,8 @@ none_differ (n ∷ ns) (a ∷ old) [] p q h = absurd q
 none_differ (n ∷ ns) (a ∷ old) (b ∷ new) p q h = by (none_differ ns old new p q) (same_value a b) refl
   where
     by : (differing ns old new ≡ [] → old ≡ new) → (same : Bool) → same_value a b ≡ same → a ∷ old ≡ b ∷ new
-    by rest true is = ap₂ (λ v vs. v ∷ vs) (equal_values a b is) (rest (ap (λ s. named n s ++ differing ns old new) (sym is) ∙ h))
-    by rest false is = absurd (some_name n (differing ns old new) (ap (λ s. named n s ++ differing ns old new) (sym is) ∙ h))
+    by rest true is = ap₂ (λ v vs. v ∷ vs) (equal_values a b is) (rest (ap (λ s. change n a b s ++ differing ns old new) (sym is) ∙ h))
+    by rest false is = absurd (some_change (record { name = n; old = a; new = b }) (differing ns old new) (ap (λ s. change n a b s ++ differing ns old new) (sym is) ∙ h))
 
 all_named : (o : Seen) → AllNamed (field_names (kind_of o)) (named_values o)
 all_named (objects.WorkingSet o) = tt

@@ -7,7 +7,7 @@ use Rattle.vt_kinds.specs.Kinds.{kind_number}
 use Rattle.vt_kinds.specs.Layout.{RecordField, Count, Numeral, natural, integer, Value, number, rows, bytes}
 use Rattle.vt_kinds.specs.Records.{Seen, kind_of, fields_of, values_of}
 use Rattle.check_changes.specs.FieldNames.{field_names}
-use Rattle.check_changes.specs.Names.{Name, named}
+use Rattle.check_changes.specs.Names.{Name}
 
 -- two numbers are equal
 abbrev pub same_numeral : Numeral → Numeral → Bool
@@ -32,13 +32,23 @@ without_counts _ _ = []
 abbrev pub named_values : Seen → List Value
 named_values o = without_counts (fields_of (kind_of o)) (values_of o)
 
--- the names of the values that differ
-abbrev pub differing : List Name → List Value → List Value → List Name
-differing (name ∷ names) (a ∷ old) (b ∷ new) = named name (same_value a b) ++ differing names old new
+-- a field by its name, with its old and its new value
+pub record Change : Type 0 where
+  pub name : Name
+  pub old : Value
+  pub new : Value
+
+-- the change of a field, unless its values are equal
+abbrev pub change : Name → Value → Value → Bool → List Change
+change name old new equal = if equal then [] else record { name = name; old = old; new = new } ∷ []
+
+-- the fields whose values differ
+abbrev pub differing : List Name → List Value → List Value → List Change
+differing (name ∷ names) (a ∷ old) (b ∷ new) = change name a b (same_value a b) ++ differing names old new
 differing _ _ _ = []
 
--- the names of the fields in which two objects differ; objects of different kinds share no field
-abbrev pub changed : Seen → Seen → List Name
+-- the fields in which two objects differ; objects of different kinds share no field
+abbrev pub changed : Seen → Seen → List Change
 changed old new =
     if kind_number (kind_of old) == kind_number (kind_of new)
     then differing (field_names (kind_of old)) (named_values old) (named_values new)

@@ -60,8 +60,8 @@ pub(crate) fn totals_value(alloc: Global, totals: Totals) -> Result<Value, Alloc
     })
 }
 
-/// An object by its ID, with its kind and its name if they are known.
-pub(crate) fn label_value(alloc: Global, label: Label<'_>) -> Result<Value, AllocError>
+/// An object by its ID, with its kind and its name if they are known, or `null` in place of either.
+pub fn label_value(alloc: Global, label: Label<'_>) -> Result<Value, AllocError>
     ensures { IfOk result (λ v. view v ≡ json_of.label_data (label_seen label.entry)) }
 {
     let id = u64::from(label.id.raw());

@@ -92,8 +92,8 @@ fn are_equal(
     Ok(first.as_slice() == second.as_slice())
 }
 
-/// The record of an object under the ID 0.
-fn record_of(alloc: Global, object: &Object<Vec<u8>>) -> Result<Vec<u8>, AllocError>
+/// The record of an object under the ID 0, by which objects of two IDs can be compared.
+pub fn record_of(alloc: Global, object: &Object<Vec<u8>>) -> Result<Vec<u8>, AllocError>
     ensures { IfOk result (λ bytes. bytes.items ≡ record_of 0 (seen object.now)) }
 {
     let mut record = Vec::new(alloc);

@@ -3,7 +3,7 @@
 //! - `warnings` finds each `Warning` about the objects of a pool, which need not be an accepted one.
 //! - `needs_of` finds what a pool `Needs` of a terminal, and `lacks` finds each `Lack`: something of which a terminal has less.
 //! - `dearest_event` and `longest_chain` find the event with the most steps and the longest chain of inclusions of an accepted pool;
-//!   `compare` finds each `PoolDifference` of two pools by their IDs.
+//!   `compare` finds each `PoolDifference` of two pools by their IDs, and `record_of` is the record by which objects are compared.
 //! - `cell` is the area of a character of a font, and `extent_of` the area that an object takes.
 //! - `Sizes` are the sizes of a terminal; `TERMINAL_SIZES` are those of this one.
 //!
@@ -25,7 +25,7 @@ mod sizes;
 mod text_fields;
 mod warning;
 
-pub use differences::{PoolDifference, compare};
+pub use differences::{PoolDifference, compare, record_of};
 pub use elements::{Extent, extent_of};
 pub use fonts::cell;
 pub use loads::{Dearest, dearest_event, longest_chain};

@@ -1,15 +1,27 @@
 //! The subcommand `diff`.
 
+mod changes;
+mod comparison;
+mod entry;
+mod entry_changes;
+mod json;
+mod lines;
+mod order;
+mod partners;
+mod sides;
+mod texts;
+
+use crate::diff::comparison::differences;
+use crate::diff::json::write_difference_json;
+use crate::diff::lines::write_difference;
+use crate::diff::sides::Sides;
 use crate::program::is_read;
-use check_changes::changed_fields;
 use check_inspect::{Finding, Inspection, inspect};
-use check_needs::{PoolDifference, compare};
 use check_text::CheckedPool;
-use check_words::DiffOptions;
+use check_words::{DiffOptions, LineFormat};
 use std::alloc::Global;
 use std::io::{self, Write};
 use vt_cli::{Open, Status, read_names, read_pool_file};
-use vt_objects::{ObjectId, Store};
 
 /// Prints the differences of two pools, up to the first bytes that cannot be read.
 pub(crate) fn run_diff<F: Open, W: Write, E: Write>(
@@ -31,28 +43,48 @@ pub(crate) fn run_diff<F: Open, W: Write, E: Write>(
     let old = inspect(alloc, old_bytes.as_slice())?;
     let new = inspect(alloc, new_bytes.as_slice())?;
     let is_judged = is_exact(&old, options.old, errors) & is_exact(&new, options.new, errors);
-    let found = compare(alloc, &old.objects, &new.objects)?;
-    let before = CheckedPool {
-        path: options.old,
-        inspection: &old,
-        names: &names,
+    let sides = Sides {
+        old: CheckedPool {
+            path: options.old,
+            inspection: &old,
+            names: &names,
+        },
+        new: CheckedPool {
+            path: options.new,
+            inspection: &new,
+            names: &names,
+        },
     };
-    let after = CheckedPool {
-        path: options.new,
-        inspection: &new,
-        names: &names,
-    };
-    for difference in found.iter() {
-        put_difference(alloc, &before, &after, *difference, out)?;
-    }
+    let is_different = write_differences(alloc, &sides, options.format, out)?;
     if !is_judged {
         return Ok(Status::NotJudged);
     }
-    Ok(if found.is_empty() {
-        Status::Clean
-    } else {
+    Ok(if is_different {
         Status::Found
+    } else {
+        Status::Clean
     })
+}
+
+/// Writes the differences of two pools, and returns whether there are any.
+fn write_differences<W: Write>(
+    alloc: Global,
+    sides: &Sides<'_>,
+    format: LineFormat,
+    out: &mut W,
+) -> io::Result<bool> {
+    let found = differences(
+        alloc,
+        &sides.old.inspection.objects,
+        &sides.new.inspection.objects,
+    )?;
+    for difference in found.iter() {
+        match format {
+            LineFormat::Text => write_difference(alloc, sides, *difference, out)?,
+            LineFormat::Json => write_difference_json(alloc, sides, *difference, out)?,
+        }
+    }
+    Ok(!found.is_empty())
 }
 
 /// Whether each value that was read from a pool is that of its bytes. If not, `errors` receives the reason.
@@ -73,45 +105,4 @@ fn is_exact<E: Write>(inspection: &Inspection, path: &str, errors: &mut E) -> bo
 /// Whether a finding is the fault of a record.
 fn is_of_record(finding: &Finding) -> bool {
     matches!(finding, Finding::Record(_))
-}
-
-fn put_difference<W: Write>(
-    alloc: Global,
-    before: &CheckedPool<'_>,
-    after: &CheckedPool<'_>,
-    difference: PoolDifference,
-    out: &mut W,
-) -> io::Result<()> {
-    match difference {
-        PoolDifference::Removed { id } => writeln!(out, "removed {}", before.label(id)),
-        PoolDifference::OtherKind { id } => writeln!(
-            out,
-            "other kind {}, was {}",
-            after.label(id),
-            before.label(id)
-        ),
-        PoolDifference::Changed { id } => put_changed(alloc, before, after, id, out),
-        PoolDifference::Added { id } => writeln!(out, "added {}", after.label(id)),
-    }
-}
-
-/// Prints an object of both pools, with the names of the fields in which it differs.
-fn put_changed<W: Write>(
-    alloc: Global,
-    before: &CheckedPool<'_>,
-    after: &CheckedPool<'_>,
-    id: ObjectId,
-    out: &mut W,
-) -> io::Result<()> {
-    write!(out, "changed {}", after.label(id))?;
-    if let Some(old) = before.inspection.objects.get(id)
-        && let Some(new) = after.inspection.objects.get(id)
-    {
-        let names = changed_fields(alloc, old, new)?;
-        for (index, name) in names.iter().enumerate() {
-            let mark = if index == 0 { ": " } else { ", " };
-            write!(out, "{mark}{name}")?;
-        }
-    }
-    writeln!(out)
 }

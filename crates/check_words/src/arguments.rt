@@ -5,6 +5,9 @@ use vt_cli::{Allowed, Argument, Form};
 /// The formats of output.
 const FORMATS: &[&str] = &["text", "json", "github"];
 
+/// The formats of output that no workflow reads.
+const LINE_FORMATS: &[&str] = &["text", "json"];
+
 /// What may be denied.
 const DENIED: &[&str] = &["warnings"];
 
@@ -55,6 +58,13 @@ pub(crate) const FORMAT: Argument<'static> = Argument {
     name: "format",
     help: "Lines for people, lines of JSON, or a GitHub workflow's commands [default: text]",
     form: Form::Setting("FORMAT", Allowed::OneOf(FORMATS)),
+};
+
+/// The form of lines that no workflow reads.
+pub(crate) const LINE_FORMAT: Argument<'static> = Argument {
+    name: "format",
+    help: "Lines for people, or lines of JSON [default: text]",
+    form: Form::Setting("FORMAT", Allowed::OneOf(LINE_FORMATS)),
 };
 
 pub(crate) const MOST: Argument<'static> = Argument {

@@ -10,10 +10,12 @@
 
 mod arguments;
 mod draw;
+mod line_format;
 mod options;
 mod subcommands;
 mod wrong_option;
 
 pub use draw::{DrawOptions, Drawing, Origin};
+pub use line_format::LineFormat;
 pub use options::{CheckOptions, DiffOptions, Format, NeedsOptions, Options, WhyOptions};
 pub use wrong_option::WrongOption;

@@ -1,6 +1,7 @@
 //! The options that a command line gives.
 
 use crate::draw::{DrawOptions, area_of, draw_options};
+use crate::line_format::{LineFormat, line_format_of};
 use crate::subcommands::SEGYOLANT;
 use crate::wrong_option::WrongOption;
 use check_needs::{Area, Sizes, TERMINAL_SIZES};
@@ -91,6 +92,8 @@ pub struct DiffOptions<'a> {
     pub new: &'a str,
     /// The files of names.
     pub names: Vec<&'a str>,
+    /// The form of the output.
+    pub format: LineFormat,
 }
 
 /// The subcommands, and where to read about them.
@@ -237,5 +240,6 @@ fn diff_options<'a>(
         old: matches.get_str("OLD").unwrap_or(""),
         new: matches.get_str("NEW").unwrap_or(""),
         names: all_of(alloc, matches, "names")?,
+        format: line_format_of(matches),
     })
 }

@@ -1,8 +1,8 @@
 //! The command line of the program, for `clap`.
 
 use crate::arguments::{
-    DENY, DRAWN_POOL, EVENT, FORMAT, IGNORE, KEY_SIZE, KEYS, MASK, MOST, NAMES, NEW, OLD, OUT,
-    OWNER, POOL, POOLS, SELECT, SIZE, STATE,
+    DENY, DRAWN_POOL, EVENT, FORMAT, IGNORE, KEY_SIZE, KEYS, LINE_FORMAT, MASK, MOST, NAMES, NEW,
+    OLD, OUT, OWNER, POOL, POOLS, SELECT, SIZE, STATE,
 };
 use vt_cli::{CommandLine, Subcommand};
 
@@ -84,9 +84,9 @@ const NEEDS: Subcommand<'static> = Subcommand {
 
 const DIFF: Subcommand<'static> = Subcommand {
     name: "diff",
-    about: "Compares two object pools by the IDs of their objects",
+    about: "Compares two object pools by the IDs of their objects, field by field",
     after_help: None,
-    arguments: &[OLD, NEW, NAMES],
+    arguments: &[OLD, NEW, NAMES, LINE_FORMAT],
 };
 
 const DRAW: Subcommand<'static> = Subcommand {
