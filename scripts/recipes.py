@@ -46,6 +46,7 @@ EXAMPLES = {
 APART = {
     'crates/vt_terminal/proofs/*/Proof.antt': 'scripts/export_proofs.py writes them',
     'scripts/recipes.py': 'it has the words of all examples',
+    'crates/check_words/src/options.rt': 'its "select" chooses codes; a subcommand names it',
     'scripts/testing/consoles.py': 'its pool may have any refusal',
     'bindings/python/build/*': 'a build leaves them',
     'bindings/rust/target/*': 'a build leaves them',

@@ -1,18 +1,35 @@
 //! The subcommand `why`.
 
+mod json;
+mod list;
+mod object;
+
 use crate::costs::lines::write_breakdown;
 use crate::costs::parts::is_over;
 use crate::program::{Style, is_read, put_message};
-use check_costs::break_down;
+use crate::why::json::write_breakdown_json;
+use crate::why::list::write_list;
+use crate::why::object::object_of;
+use check_costs::{break_down, event_costs};
 use check_inspect::{Finding, inspect};
+use check_json::item_json;
 use check_text::{CheckedPool, Item};
-use check_words::WhyOptions;
+use check_words::{LineFormat, Question, WhyOptions};
 use std::alloc::Global;
 use std::io::{self, Write};
 use vt_cli::{Open, Status, read_names, read_pool_file};
-use vt_objects::{ObjectId, Store};
+use vt_objects::ObjectId;
 
-/// Prints what an event of a pool can cost, and why.
+/// What is told about costs.
+#[derive(Clone, Copy)]
+enum Answer {
+    /// No cost is known.
+    Unknown,
+    /// The costs are told, and the greatest is this one.
+    Told(u64),
+}
+
+/// Prints what an event of a pool can cost, and why, or which events cost a step.
 pub(crate) fn run_why<F: Open, W: Write, E: Write>(
     alloc: Global,
     options: &WhyOptions<'_>,
@@ -34,43 +51,81 @@ pub(crate) fn run_why<F: Open, W: Write, E: Write>(
         names: &names,
     };
     let is_judged = is_read(&inspection, options.pool, errors);
-    if !is_there(&source, options.id, errors) {
-        return Ok(Status::NotJudged);
-    }
-    let found = break_down(alloc, &inspection.objects, options.id, options.event)?;
-    let Some(breakdown) = found else {
-        put_unknown(alloc, &source, look, out)?;
+    let Some(answer) = write_answer(alloc, options, &source, out, errors)? else {
         return Ok(Status::NotJudged);
     };
-    write_breakdown(&source, &breakdown, out)?;
-    if !is_judged {
-        return Ok(Status::NotJudged);
+    match answer {
+        Answer::Unknown => {
+            put_unknown(alloc, &source, options.format, look, out)?;
+            Ok(Status::NotJudged)
+        }
+        Answer::Told(_) if !is_judged => Ok(Status::NotJudged),
+        Answer::Told(steps) if is_over(steps) => Ok(Status::Found),
+        Answer::Told(_) => Ok(Status::Clean),
     }
-    Ok(if is_over(breakdown.event.steps) {
-        Status::Found
-    } else {
-        Status::Clean
-    })
 }
 
-/// Whether an object is in the pool. If not, `errors` receives the reason.
-fn is_there<E: Write>(source: &CheckedPool<'_>, id: ObjectId, errors: &mut E) -> bool {
-    let is_there = source.inspection.objects.get(id).is_some();
-    if !is_there {
-        let _ = writeln!(
-            errors,
-            "segyolant: {}: {} is not there; ID:EVENT begins with the ID of an object of the pool",
-            source.path,
-            source.label(id)
-        );
+/// Writes the answer to the question of the options. `None` if the object is not there: then `errors` receives the reason.
+fn write_answer<W: Write, E: Write>(
+    alloc: Global,
+    options: &WhyOptions<'_>,
+    source: &CheckedPool<'_>,
+    out: &mut W,
+    errors: &mut E,
+) -> io::Result<Option<Answer>> {
+    let answer = match &options.question {
+        Question::Pool => tell_list(alloc, options, source, None, out)?,
+        Question::Object(word) => match object_of(source, word, errors) {
+            Some(id) => tell_list(alloc, options, source, Some(id), out)?,
+            None => return Ok(None),
+        },
+        Question::Event(word, event) => match object_of(source, word, errors) {
+            Some(id) => tell_event(alloc, options.format, source, id, *event, out)?,
+            None => return Ok(None),
+        },
+    };
+    Ok(Some(answer))
+}
+
+/// Writes the events that cost a step, of an object or of all.
+fn tell_list<W: Write>(
+    alloc: Global,
+    options: &WhyOptions<'_>,
+    source: &CheckedPool<'_>,
+    object: Option<ObjectId>,
+    out: &mut W,
+) -> io::Result<Answer> {
+    let Some(costs) = event_costs(alloc, &source.inspection.objects)? else {
+        return Ok(Answer::Unknown);
+    };
+    let steps = write_list(alloc, options, source, costs.as_slice(), object, out)?;
+    Ok(Answer::Told(steps))
+}
+
+/// Writes why an event costs what it costs.
+fn tell_event<W: Write>(
+    alloc: Global,
+    format: LineFormat,
+    source: &CheckedPool<'_>,
+    id: ObjectId,
+    event: u8,
+    out: &mut W,
+) -> io::Result<Answer> {
+    let Some(breakdown) = break_down(alloc, &source.inspection.objects, id, event)? else {
+        return Ok(Answer::Unknown);
+    };
+    match format {
+        LineFormat::Text => write_breakdown(source, &breakdown, out)?,
+        LineFormat::Json => write_breakdown_json(alloc, source, &breakdown, out)?,
     }
-    is_there
+    Ok(Answer::Told(breakdown.event.steps))
 }
 
 /// Prints why no costs are known: macros that end inside a command, or circles of macros.
 fn put_unknown<W: Write>(
     alloc: Global,
     source: &CheckedPool<'_>,
+    format: LineFormat,
     look: Style,
     out: &mut W,
 ) -> io::Result<()> {
@@ -79,13 +134,30 @@ fn put_unknown<W: Write>(
             finding,
             Finding::MacroBytes { .. } | Finding::MacroCircle { .. }
         ) {
-            let message = source.message(alloc, Item::Finding(finding))?;
-            put_message(&message, look, out)?;
+            put_item(alloc, source, Item::Finding(finding), format, look, out)?;
         }
     }
     for note in source.inspection.notes.iter() {
-        let message = source.message(alloc, Item::Note(*note))?;
-        put_message(&message, look, out)?;
+        put_item(alloc, source, Item::Note(*note), format, look, out)?;
     }
     Ok(())
+}
+
+/// Prints a finding or a note as `check` does.
+fn put_item<W: Write>(
+    alloc: Global,
+    source: &CheckedPool<'_>,
+    item: Item<'_>,
+    format: LineFormat,
+    look: Style,
+    out: &mut W,
+) -> io::Result<()> {
+    let message = source.message(alloc, item)?;
+    match format {
+        LineFormat::Text => put_message(&message, look, out),
+        LineFormat::Json => {
+            let line = item_json(alloc, source, &message, item)?;
+            writeln!(out, "{line}")
+        }
+    }
 }

@@ -44,8 +44,8 @@ pub(crate) const NEW: Argument<'static> = Argument {
 
 pub(crate) const EVENT: Argument<'static> = Argument {
     name: "EVENT",
-    help: "The object and the number of its event, 0 to 26; 0 is the run of a macro by name",
-    form: Form::NamedPositional("ID:EVENT"),
+    help: "An object and an event of it, 0 to 26 or by its name, or an object alone [default: all events]",
+    form: Form::NamedPositional("OBJECT:EVENT"),
 };
 
 pub(crate) const NAMES: Argument<'static> = Argument {
@@ -65,6 +65,13 @@ pub(crate) const LINE_FORMAT: Argument<'static> = Argument {
     name: "format",
     help: "Lines for people, or lines of JSON [default: text]",
     form: Form::Setting("FORMAT", Allowed::OneOf(LINE_FORMATS)),
+};
+
+/// The most events of a list.
+pub(crate) const MOST_EVENTS: Argument<'static> = Argument {
+    name: "most",
+    help: "List at most N events",
+    form: Form::Setting("N", Allowed::Number),
 };
 
 pub(crate) const MOST: Argument<'static> = Argument {

@@ -13,9 +13,11 @@ mod draw;
 mod line_format;
 mod options;
 mod subcommands;
+mod why;
 mod wrong_option;
 
 pub use draw::{DrawOptions, Drawing, Origin};
 pub use line_format::LineFormat;
-pub use options::{CheckOptions, DiffOptions, Format, NeedsOptions, Options, WhyOptions};
+pub use options::{CheckOptions, DiffOptions, Format, NeedsOptions, Options};
+pub use why::{ObjectWord, Question, WhyOptions};
 pub use wrong_option::WrongOption;

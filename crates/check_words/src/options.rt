@@ -3,6 +3,7 @@
 use crate::draw::{DrawOptions, area_of, draw_options};
 use crate::line_format::{LineFormat, line_format_of};
 use crate::subcommands::SEGYOLANT;
+use crate::why::{WhyOptions, why_options};
 use crate::wrong_option::WrongOption;
 use check_needs::{Area, Sizes, TERMINAL_SIZES};
 use check_text::is_code;
@@ -10,7 +11,6 @@ use clap::ArgMatches;
 use std::alloc::{AllocError, Global};
 use std::convert::AsStr;
 use vt_cli::{UsageError, all_of, inputs_in};
-use vt_objects::{Event, ObjectId};
 
 /// The options that a command line gives, by its subcommand.
 #[derive(Drop)]
@@ -57,19 +57,6 @@ pub struct CheckOptions<'a> {
     pub ignore: Vec<&'a str>,
     /// The sizes of the terminal.
     pub sizes: Sizes,
-}
-
-/// The options of `why`.
-#[derive(Drop)]
-pub struct WhyOptions<'a> {
-    /// The file of the pool.
-    pub pool: &'a str,
-    /// The object of the event.
-    pub id: ObjectId,
-    /// The number of the event, at most 26.
-    pub event: u8,
-    /// The files of names.
-    pub names: Vec<&'a str>,
 }
 
 /// The options of `needs`.
@@ -184,33 +171,6 @@ fn sizes_of<'a>(matches: &ArgMatches<'a>) -> Result<Sizes, WrongOption<'a>> {
         keys,
         ..TERMINAL_SIZES
     })
-}
-
-fn why_options<'a>(
-    alloc: Global,
-    matches: &ArgMatches<'a>,
-) -> Result<WhyOptions<'a>, UsageError<WrongOption<'a>>> {
-    let word = matches.get_str("EVENT").unwrap_or("");
-    let Some((id, event)) = listing(word) else {
-        return Err(UsageError::Wrong(WrongOption::Event(word)));
-    };
-    Ok(WhyOptions {
-        pool: matches.get_str("POOL").unwrap_or(""),
-        id,
-        event,
-        names: all_of(alloc, matches, "names")?,
-    })
-}
-
-/// The object and the event of a text such as `2002:24`.
-fn listing(text: &str) -> Option<(ObjectId, u8)> {
-    let (id, event) = text.split_once(':')?;
-    let id = id.parse::<u16>().ok()?;
-    let event = event.parse::<u8>().ok()?;
-    if event > Event::LAST_NUMBER {
-        return None;
-    }
-    Some((ObjectId::from_raw(id), event))
 }
 
 fn needs_options<'a>(

@@ -1,8 +1,8 @@
 //! The command line of the program, for `clap`.
 
 use crate::arguments::{
-    DENY, DRAWN_POOL, EVENT, FORMAT, IGNORE, KEY_SIZE, KEYS, LINE_FORMAT, MASK, MOST, NAMES, NEW,
-    OLD, OUT, OWNER, POOL, POOLS, SELECT, SIZE, STATE,
+    DENY, DRAWN_POOL, EVENT, FORMAT, IGNORE, KEY_SIZE, KEYS, LINE_FORMAT, MASK, MOST, MOST_EVENTS,
+    NAMES, NEW, OLD, OUT, OWNER, POOL, POOLS, SELECT, SIZE, STATE,
 };
 use vt_cli::{CommandLine, Subcommand};
 
@@ -13,7 +13,8 @@ Status: 0 nothing found, 1 something found, 2 not judged or not drawn (command l
   segyolant check my.iop                                every fault, and warnings
   segyolant check my.iop --names my.h --format github   the same, by names, for a workflow
   segyolant check *.iop --format json --most 100        lines of JSON, at most 100 errors and warnings a pool
-  segyolant why my.iop 2002:24 --names my.h             what the event 24 of the object 2002 can cost, and why
+  segyolant why my.iop --most 5                         the five events that can cost the most steps
+  segyolant why my.iop key_fold:press --names my.h      what the press of a key can cost, and why
   segyolant needs my.iop --size 240x240 --keys 6        whether the pool fits a terminal
   segyolant diff old.iop new.iop                        what is removed, changed and added
   segyolant draw my.iop > my.svg                        the active mask with its soft keys, as SVG
@@ -34,10 +35,14 @@ A line for each finding, FILE:OFFSET: SEVERITY[CODE NAME] SENTENCE:
 
 /// The text of help after the options of `why`.
 const AFTER_WHY: &str = "\
-The event with its macros, then each macro that it can run, with its commands and the events that they raise. Each number is the
-sum of the numbers below it, plus one for a command, up to 1000000000000.
+Without an event, the events that can cost a step, the dearest first. With one, the event with its macros, then each macro that it can
+run, with its commands and the events that they raise. Each number is the sum of the numbers below it, plus one for a command, up to
+1000000000000. An object is its ID, or its name in a file of --names; the words of an event's name may be joined by - or _.
 
-  segyolant why my.iop 2002:24";
+  segyolant why my.iop
+  segyolant why my.iop 2002 --most 3
+  segyolant why my.iop 2002:24
+  segyolant why my.iop key_fold:key-press --names my.h";
 
 /// The text of help after the options of `draw`.
 const AFTER_DRAW: &str = "\
@@ -72,7 +77,7 @@ const WHY: Subcommand<'static> = Subcommand {
     name: "why",
     about: "Prints the steps that an event of an object pool can take, by macros and commands",
     after_help: Some(AFTER_WHY),
-    arguments: &[POOL, EVENT, NAMES],
+    arguments: &[POOL, EVENT, NAMES, MOST_EVENTS, LINE_FORMAT],
 };
 
 const NEEDS: Subcommand<'static> = Subcommand {

@@ -22,7 +22,7 @@ pub enum WrongOption<'a> {
     Owner(&'a str),
     /// `--owner` is given without a log, or without a pool.
     OwnerAlone,
-    /// The word for the event is not the ID of an object and the number of an event.
+    /// The word for the event is neither an object and an event nor an object alone.
     Event(&'a str),
 }
 
@@ -63,7 +63,7 @@ impl fmt::Display for WrongOption<'_> {
             ),
             WrongOption::Event(value) => write!(
                 f,
-                "{value}: expected an object's ID and an event's number, such as 2002:24; events are 0 to 26"
+                "{value}: expected an object and an event of it, such as 2002:24 or key_fold:press, or an object alone; events are 0 to 26, or their names in docs/PROFILE.md, \"Event numbers\""
             ),
         }
     }

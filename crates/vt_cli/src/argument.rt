@@ -22,7 +22,7 @@ pub enum Form<'a> {
     Positional,
     /// One value without `--`, which may be left out.
     OptionalPositional,
-    /// One value without `--`, which has to be given. The text is its name in the help.
+    /// One value without `--`, which may be left out. The text is its name in the help.
     NamedPositional(&'a str),
     /// One or more values without `--`.
     Positionals,
@@ -56,9 +56,7 @@ impl<'a> Argument<'a> {
         match self.form {
             Form::Positional => arg.action(ArgAction::Set).required(true),
             Form::OptionalPositional => arg.action(ArgAction::Set),
-            Form::NamedPositional(name) => {
-                arg.value_name(name).action(ArgAction::Set).required(true)
-            }
+            Form::NamedPositional(name) => arg.value_name(name).action(ArgAction::Set),
             Form::Positionals => arg.action(ArgAction::Append).num_args(1..).required(true),
             Form::Setting(name, allowed) => restricted(self.setting(arg, name), allowed),
             Form::RequiredSetting(name) => self.setting(arg, name).required(true),
