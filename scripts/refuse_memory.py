@@ -27,7 +27,7 @@ OTHERS = r"\b(?:calloc|reallocarray|aligned_alloc|posix_memalign|memalign|p?vall
 PROGRAMS = {
     "vt_replay": (1, (["seeder.log"], ["hide.log", "--pool", "pool.iop", "--owner", "80"], ["pool.iop", "--report"])),
     "segyolant": (2, (["check", "many-faults.iop"], ["why", "pool.iop", "1000:3"], ["needs", "pool.iop", "--size", "60x25"],
-                      ["why", "sprayer.iop", "--format", "json"],
+                      ["why", "sprayer.iop", "--format", "json"], ["needs", "sprayer.iop", "--format", "json"],
                       ["diff", "pool.iop", "refusal-03-missing.iop"], ["diff", "pool.iop", "refusal-05-too-deep.iop", "--format", "json"],
                       ["draw", "kinds.iop"],
                       ["draw", "pool.iop", "--state", "hide.log", "--owner", "80"])),

@@ -4,6 +4,7 @@ pub mod Elements
 pub mod Fonts
 pub mod Loads
 pub mod Naming
+pub mod Needers
 pub mod Needs
 pub mod TextFields
 pub mod Warnings

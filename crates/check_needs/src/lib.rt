@@ -2,6 +2,7 @@
 //!
 //! - `warnings` finds each `Warning` about the objects of a pool, which need not be an accepted one.
 //! - `needs_of` finds what a pool `Needs` of a terminal, and `lacks` finds each `Lack`: something of which a terminal has less.
+//! - `needers_of` finds the `Needers`: the objects that need the most.
 //! - `dearest_event` and `longest_chain` find the event with the most steps and the longest chain of inclusions of an accepted pool;
 //!   `compare` finds each `PoolDifference` of two pools by their IDs, and `record_of` is the record by which objects are compared.
 //! - `cell` is the area of a character of a font, and `extent_of` the area that an object takes.
@@ -19,6 +20,7 @@ mod fonts;
 mod id_set;
 mod loads;
 mod naming;
+mod needers;
 mod needs;
 mod rule;
 mod sizes;
@@ -29,6 +31,7 @@ pub use differences::{PoolDifference, compare, record_of};
 pub use elements::{Extent, extent_of};
 pub use fonts::cell;
 pub use loads::{Dearest, dearest_event, longest_chain};
+pub use needers::{Furthest, Needers, NumberOf, needers_of};
 pub use needs::{Lack, Needs, has_font, has_kind, lacks, needs_of};
 pub use rule::warnings;
 pub use sizes::{Area, Sizes, TERMINAL_SIZES};

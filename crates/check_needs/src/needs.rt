@@ -126,7 +126,7 @@ fn end(position: i16, size: u32) -> u32
     }
 }
 
-fn mask_children(object: &Object<Vec<u8>>) -> &[Child]
+pub(crate) fn mask_children(object: &Object<Vec<u8>>) -> &[Child]
     ensures { result.now ≡ spec.mask_children (seen object.now) }
 {
     match object {
@@ -136,7 +136,7 @@ fn mask_children(object: &Object<Vec<u8>>) -> &[Child]
     }
 }
 
-fn key_children(object: &Object<Vec<u8>>) -> &[Child]
+pub(crate) fn key_children(object: &Object<Vec<u8>>) -> &[Child]
     ensures { result.now ≡ spec.key_children (seen object.now) }
 {
     match object {
@@ -146,7 +146,7 @@ fn key_children(object: &Object<Vec<u8>>) -> &[Child]
 }
 
 /// The number of keys of a soft key mask; 0 for other objects.
-fn key_count(object: &Object<Vec<u8>>) -> u8
+pub(crate) fn key_count(object: &Object<Vec<u8>>) -> u8
     ensures { result ≡ spec.key_count (seen object.now) }
 {
     match object {
@@ -156,7 +156,7 @@ fn key_count(object: &Object<Vec<u8>>) -> u8
 }
 
 /// The greatest colour number of an object; 0 for an object without a colour.
-fn colour_of(object: &Object<Vec<u8>>) -> u8
+pub(crate) fn colour_of(object: &Object<Vec<u8>>) -> u8
     ensures { result ≡ spec.colour_of (seen object.now) }
 {
     match object {

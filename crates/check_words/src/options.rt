@@ -68,6 +68,8 @@ pub struct NeedsOptions<'a> {
     pub names: Vec<&'a str>,
     /// The sizes of the terminal.
     pub sizes: Sizes,
+    /// The form of the output.
+    pub format: LineFormat,
 }
 
 /// The options of `diff`.
@@ -181,6 +183,7 @@ fn needs_options<'a>(
         pool: matches.get_str("POOL").unwrap_or(""),
         names: all_of(alloc, matches, "names")?,
         sizes: sizes_of(matches)?,
+        format: line_format_of(matches),
     })
 }
 

@@ -15,7 +15,7 @@ Status: 0 nothing found, 1 something found, 2 not judged or not drawn (command l
   segyolant check *.iop --format json --most 100        lines of JSON, at most 100 errors and warnings a pool
   segyolant why my.iop --most 5                         the five events that can cost the most steps
   segyolant why my.iop key_fold:press --names my.h      what the press of a key can cost, and why
-  segyolant needs my.iop --size 240x240 --keys 6        whether the pool fits a terminal
+  segyolant needs my.iop --size 240x240 --keys 6        which objects need the most, and whether the pool fits
   segyolant diff old.iop new.iop                        what is removed, changed and added
   segyolant draw my.iop > my.svg                        the active mask with its soft keys, as SVG
   segyolant draw my.iop --out masks --names my.h        all masks, and a page of them with every fault
@@ -82,9 +82,9 @@ const WHY: Subcommand<'static> = Subcommand {
 
 const NEEDS: Subcommand<'static> = Subcommand {
     name: "needs",
-    about: "Prints what an object pool needs of a terminal, and whether a terminal has it",
+    about: "Prints what an object pool needs of a terminal, which objects need it, and whether a terminal has it",
     after_help: None,
-    arguments: &[POOL, NAMES, SIZE, KEYS],
+    arguments: &[POOL, NAMES, SIZE, KEYS, LINE_FORMAT],
 };
 
 const DIFF: Subcommand<'static> = Subcommand {
