@@ -74,14 +74,14 @@ fn write_answer<W: Write, E: Write>(
     out: &mut W,
     errors: &mut E,
 ) -> io::Result<Option<Answer>> {
-    let answer = match options.question {
+    let answer = match &options.question {
         Question::Pool => tell_list(alloc, options, source, None, out)?,
         Question::Object(word) => match object_of(source, word, errors) {
             Some(id) => tell_list(alloc, options, source, Some(id), out)?,
             None => return Ok(None),
         },
         Question::Event(word, event) => match object_of(source, word, errors) {
-            Some(id) => tell_event(alloc, options.format, source, id, event, out)?,
+            Some(id) => tell_event(alloc, options.format, source, id, *event, out)?,
             None => return Ok(None),
         },
     };

@@ -6,7 +6,7 @@ use check_text::event_name;
 use clap::ArgMatches;
 use std::alloc::Global;
 use vt_cli::{UsageError, all_of};
-use vt_objects::{Event, ObjectId};
+use vt_objects::Event;
 
 /// The options of `why`.
 #[derive(Drop)]
@@ -38,7 +38,7 @@ pub enum Question<'a> {
 #[derive(Clone, Copy, PartialEq, Eq)]
 pub enum ObjectWord<'a> {
     /// The object with this ID.
-    Id(ObjectId),
+    Id(u16),
     /// The object with this name.
     Name(&'a str),
 }
@@ -47,8 +47,8 @@ pub(crate) fn why_options<'a>(
     alloc: Global,
     matches: &ArgMatches<'a>,
 ) -> Result<WhyOptions<'a>, UsageError<WrongOption<'a>>> {
-    // The borrow checker does not cover `?` to another error at a value that holds an ID.
-    let question = match question(matches.get_str("EVENT")) {
+    // The borrow checker does not cover `?` to another error at a value that holds a text.
+    let question = match question_of(matches.get_str("EVENT")) {
         Ok(question) => question,
         Err(option) => return Err(UsageError::Wrong(option)),
     };
@@ -62,18 +62,24 @@ pub(crate) fn why_options<'a>(
 }
 
 /// The question that a word such as `2002:24`, `key_fold:press` or `2002` asks.
-fn question<'a>(word: Option<&'a str>) -> Result<Question<'a>, WrongOption<'a>> {
+fn question_of<'a>(word: Option<&'a str>) -> Result<Question<'a>, WrongOption<'a>> {
     let Some(word) = word else {
         return Ok(Question::Pool);
     };
-    let question = match word.rsplit_once(':') {
-        None => object_word(word).map(Question::Object),
-        Some((object, event)) => match (object_word(object), event_number(event)) {
-            (Some(object), Some(event)) => Some(Question::Event(object, event)),
-            _ => None,
-        },
+    let (object, event) = match word.rsplit_once(':') {
+        None => (word, None),
+        Some((object, event)) => (object, Some(event)),
     };
-    question.ok_or(WrongOption::Event(word))
+    let Some(object) = object_word(object) else {
+        return Err(WrongOption::Event(word));
+    };
+    let Some(event) = event else {
+        return Ok(Question::Object(object));
+    };
+    match event_number(event) {
+        Some(event) => Ok(Question::Event(object, event)),
+        None => Err(WrongOption::Event(word)),
+    }
 }
 
 /// The object of a word: one with an ID, unless the word has something else than digits.
@@ -82,7 +88,7 @@ fn object_word(word: &str) -> Option<ObjectWord<'_>> {
         return Some(ObjectWord::Name(word));
     }
     let id = word.parse::<u16>().ok()?;
-    Some(ObjectWord::Id(ObjectId::from_raw(id)))
+    Some(ObjectWord::Id(id))
 }
 
 /// The event of a word: its number, its name, or the name without `key`, as in `press`.

@@ -1,27 +1,26 @@
 //! The changes of an object, each one line.
 
 use crate::diff::entry::entries_of;
-use crate::diff::entry_changes::{EntryChange, entry_changes};
+use crate::diff::entry_changes::{EntryChange, put_entry_changes};
 use check_changes::{Value, changed_fields};
 use std::alloc::{AllocError, Global};
-use vt_objects::{Kind, Object, ObjectId, Scale};
+use vt_objects::{Kind, Object, Scale};
 
-/// A change of an object.
+/// The changes of an object, in the order of its record, in which lists come last.
+#[derive(Drop)]
+pub(crate) struct Changes<'a> {
+    pub(crate) values: Vec<ValueChange<'a>>,
+    pub(crate) entries: Vec<EntryChange>,
+}
+
+/// A field with another value.
 #[derive(Clone, Copy, PartialEq, Eq)]
-pub(crate) enum Change<'a> {
-    /// A field has another value.
-    Value {
-        field: &'static str,
-        old: Shown<'a>,
-        new: Shown<'a>,
-        /// The first byte that differs, if the values do not show it.
-        at: Option<usize>,
-    },
-    /// A list has another entry.
-    Entry {
-        field: &'static str,
-        change: EntryChange,
-    },
+pub(crate) struct ValueChange<'a> {
+    pub(crate) field: &'static str,
+    pub(crate) old: Shown<'a>,
+    pub(crate) new: Shown<'a>,
+    /// The first byte that differs, if the values do not show it.
+    pub(crate) at: Option<usize>,
 }
 
 /// A value as it is shown.
@@ -30,7 +29,8 @@ pub(crate) enum Shown<'a> {
     /// A number, or the number of bytes of a picture or a macro.
     Number(i64),
     Scale(Scale),
-    Object(ObjectId),
+    /// An object by its ID.
+    Object(u16),
     Text(&'a [u8]),
 }
 
@@ -50,13 +50,16 @@ const REFERENCES: [&str; 9] = [
 /// The name of the fields with a text.
 const TEXT: &str = "text";
 
-/// The changes of an object, in the order of its record.
+/// The changes of an object.
 pub(crate) fn changes_of<'a>(
     alloc: Global,
     old: &'a Object<Vec<u8>>,
     new: &'a Object<Vec<u8>>,
-) -> Result<Vec<Change<'a>>, AllocError> {
-    let mut changes = Vec::new(alloc);
+) -> Result<Changes<'a>, AllocError> {
+    let mut changes = Changes {
+        values: Vec::new(alloc),
+        entries: Vec::new(alloc),
+    };
     let fields = changed_fields(alloc, old, new)?;
     let values = fields.old.iter().zip(fields.new.iter());
     for (field, (before, after)) in fields.names.iter().zip(values) {
@@ -72,13 +75,13 @@ fn put_changes<'a>(
     field: &'static str,
     before: &Value<'a>,
     after: &Value<'a>,
-    changes: &mut Vec<Change<'a>>,
+    changes: &mut Changes<'a>,
 ) -> Result<(), AllocError> {
-    if let Some(old) = shown(kind, field, before)
-        && let Some(new) = shown(kind, field, after)
+    if let Some(old) = shown_of(kind, field, before)
+        && let Some(new) = shown_of(kind, field, after)
     {
-        let at = hidden_difference(before, after, new);
-        changes.push(Change::Value {
+        let at = hidden_difference(before, after, &new);
+        changes.values.push(ValueChange {
             field,
             old,
             new,
@@ -88,23 +91,14 @@ fn put_changes<'a>(
     }
     let old = entries_of(alloc, before)?;
     let new = entries_of(alloc, after)?;
-    let entries = entry_changes(alloc, old.as_slice(), new.as_slice())?;
-    for change in entries.iter() {
-        changes.push(Change::Entry {
-            field,
-            change: *change,
-        })?;
-    }
-    Ok(())
+    put_entry_changes(alloc, old.as_slice(), new.as_slice(), &mut changes.entries)
 }
 
 /// The value of a field as it is shown. `None` for a list and for a count.
-fn shown<'a>(kind: Kind, field: &str, value: &Value<'a>) -> Option<Shown<'a>> {
+fn shown_of<'a>(kind: Kind, field: &str, value: &Value<'a>) -> Option<Shown<'a>> {
     match value {
         Value::Byte(number) => Some(Shown::Number(i64::from(*number))),
-        Value::Word(number) if is_reference(kind, field) => {
-            Some(Shown::Object(ObjectId::from_raw(*number)))
-        }
+        Value::Word(number) if is_reference(kind, field) => { Some(Shown::Object(*number)) }
         Value::Word(number) => Some(Shown::Number(i64::from(*number))),
         Value::Long(number) => Some(Shown::Number(i64::from(*number))),
         Value::SignedLong(number) => Some(Shown::Number(i64::from(*number))),
@@ -133,7 +127,7 @@ fn is_reference(kind: Kind, field: &str) -> bool {
 }
 
 /// The index of the first byte that differs, unless the shown values differ too.
-fn hidden_difference(old: &Value<'_>, new: &Value<'_>, shown: Shown<'_>) -> Option<usize> {
+fn hidden_difference(old: &Value<'_>, new: &Value<'_>, shown: &Shown<'_>) -> Option<usize> {
     let (Value::Bytes(old), Value::Bytes(new)) = (old, new) else {
         return None;
     };

@@ -15,6 +15,20 @@ pub(crate) enum Entry {
     Point(Point),
 }
 
+impl Entry {
+    /// The field of its list.
+    pub(crate) fn field(&self) -> &'static str {
+        match self {
+            Entry::Child(_) => "children",
+            Entry::Key(_) => "keys",
+            Entry::Item(_) => "items",
+            Entry::Macro(_) => "macros",
+            Entry::Language(_) => "languages",
+            Entry::Point(_) => "points",
+        }
+    }
+}
+
 /// An entry with its index in its list.
 #[derive(Clone, Copy, PartialEq, Eq)]
 pub(crate) struct Placed {

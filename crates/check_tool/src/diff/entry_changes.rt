@@ -18,15 +18,15 @@ pub(crate) enum EntryChange {
     },
 }
 
-/// The removed entries by their old indices, and then the added and moved ones by their new indices.
-pub(crate) fn entry_changes(
+/// Appends the removed entries by their old indices, and then the added and moved ones by their new indices.
+pub(crate) fn put_entry_changes(
     alloc: Global,
     old: &[Entry],
     new: &[Entry],
-) -> Result<Vec<EntryChange>, AllocError> {
+    changes: &mut Vec<EntryChange>,
+) -> Result<(), AllocError> {
     let partners = partners_of(alloc, old, new)?;
     let is_kept = kept_order(alloc, partners.as_slice())?;
-    let mut changes = Vec::new(alloc);
     for (index, entry) in old.iter().enumerate() {
         if !partners.contains(&Some(index)) {
             changes.push(EntryChange::Removed(Placed {
@@ -46,7 +46,7 @@ pub(crate) fn entry_changes(
             changes.push(change)?;
         }
     }
-    Ok(changes)
+    Ok(())
 }
 
 /// The change of a new entry, by the index of its old one, if it has changed at all.

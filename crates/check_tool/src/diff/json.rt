@@ -1,6 +1,6 @@
 //! Differences as lines of JSON.
 
-use crate::diff::changes::{Change, Shown, changes_of};
+use crate::diff::changes::{Shown, ValueChange, changes_of};
 use crate::diff::comparison::Difference;
 use crate::diff::entry::{Entry, Placed};
 use crate::diff::entry_changes::EntryChange;
@@ -67,9 +67,14 @@ fn write_changes<W: Write>(
         && let Some(after) = new.inspection.objects.get(id)
     {
         let changes = changes_of(alloc, before, after)?;
-        for change in changes.iter() {
+        for change in changes.values.iter() {
             let mut line = line_of(alloc, "changed", new, id)?;
-            put_change(alloc, sides, *change, &mut line)?;
+            put_value_change(alloc, sides, change, &mut line)?;
+            line.write(out)?;
+        }
+        for change in changes.entries.iter() {
+            let mut line = line_of(alloc, "changed", new, id)?;
+            put_entry_change(alloc, sides, change, &mut line)?;
             line.write(out)?;
         }
     }
@@ -77,63 +82,80 @@ fn write_changes<W: Write>(
 }
 
 /// Adds the field, and the old and the new value.
-fn put_change(
+fn put_value_change(
     alloc: Global,
     sides: &Sides<'_>,
-    change: Change<'_>,
+    change: &ValueChange<'_>,
+    line: &mut JsonLine,
+) -> Result<(), AllocError> {
+    line.put_text("field", change.field)?;
+    line.put("old", shown_value(alloc, &sides.old, &change.old)?)?;
+    line.put("new", shown_value(alloc, &sides.new, &change.new)?)?;
+    match change.at {
+        Some(at) => line.put_number("at", at as u64),
+        None => Ok(()),
+    }
+}
+
+/// Adds the field of a list, and the old and the new entry.
+fn put_entry_change(
+    alloc: Global,
+    sides: &Sides<'_>,
+    change: &EntryChange,
     line: &mut JsonLine,
 ) -> Result<(), AllocError> {
     match change {
-        Change::Value {
-            field,
-            old,
-            new,
-            at,
-        } => {
-            line.put_text("field", field)?;
-            line.put("old", shown_value(alloc, &sides.old, old)?)?;
-            line.put("new", shown_value(alloc, &sides.new, new)?)?;
-            match at {
-                Some(at) => line.put_number("at", at as u64),
-                None => Ok(()),
-            }
+        EntryChange::Removed(old) => {
+            line.put_text("field", old.entry.field())?;
+            put_entries(alloc, sides, "removed", Some(old), None, line)
         }
-        Change::Entry { field, change } => {
-            line.put_text("field", field)?;
-            let (verb, old, new) = parts_of(change);
-            line.put_text("change", verb)?;
-            line.put("old", entry_value(alloc, &sides.old, old)?)?;
-            line.put("new", entry_value(alloc, &sides.new, new)?)
+        EntryChange::Added(new) => {
+            line.put_text("field", new.entry.field())?;
+            put_entries(alloc, sides, "added", None, Some(new), line)
+        }
+        EntryChange::Moved { old, new, .. } => {
+            line.put_text("field", new.entry.field())?;
+            put_entries(alloc, sides, "moved", Some(old), Some(new), line)
         }
     }
 }
 
-/// A change of a list in a word, and the old and the new entry.
-fn parts_of(change: EntryChange) -> (&'static str, Option<Placed>, Option<Placed>) {
-    match change {
-        EntryChange::Removed(old) => ("removed", Some(old), None),
-        EntryChange::Added(new) => ("added", None, Some(new)),
-        EntryChange::Moved { old, new, .. } => ("moved", Some(old), Some(new)),
-    }
+/// Adds a change of a list in a word, and the old and the new entry.
+fn put_entries(
+    alloc: Global,
+    sides: &Sides<'_>,
+    verb: &str,
+    old: Option<&Placed>,
+    new: Option<&Placed>,
+    line: &mut JsonLine,
+) -> Result<(), AllocError> {
+    line.put_text("change", verb)?;
+    line.put("old", entry_value(alloc, &sides.old, old)?)?;
+    line.put("new", entry_value(alloc, &sides.new, new)?)
 }
 
 /// The value of a field: a number, an object or `null` for none, or a text, each byte of which is a character of Latin-1.
 fn shown_value(
     alloc: Global,
     source: &CheckedPool<'_>,
-    shown: Shown<'_>,
+    shown: &Shown<'_>,
 ) -> Result<Value, AllocError> {
     match shown {
-        Shown::Number(number) => Ok(Value::from(number)),
+        Shown::Number(number) => Ok(Value::from(*number)),
         Shown::Scale(scale) => {
             let scale = ShownScale(u32::from_le_bytes(scale.to_bytes()));
             Ok(Value::String(format!(in alloc; "{scale}")?))
         }
-        Shown::Object(id) if id.is_null() => Ok(Value::Null),
-        Shown::Object(id) => label_value(alloc, source.label(id)),
+        Shown::Object(id) => {
+            let id = ObjectId::from_raw(*id);
+            match id.is_null() {
+                true => Ok(Value::Null),
+                false => label_value(alloc, source.label(id)),
+            }
+        }
         Shown::Text(text) => {
             let mut characters = String::new(alloc);
-            for byte in text {
+            for byte in text.iter() {
                 characters.push(char::from(*byte))?;
             }
             Ok(Value::String(characters))
@@ -145,13 +167,13 @@ fn shown_value(
 fn entry_value(
     alloc: Global,
     source: &CheckedPool<'_>,
-    placed: Option<Placed>,
+    placed: Option<&Placed>,
 ) -> Result<Value, AllocError> {
     let Some(Placed { index, entry }) = placed else {
         return Ok(Value::Null);
     };
     let mut value = JsonLine::new(alloc);
-    value.put_number("index", index as u64)?;
+    value.put_number("index", *index as u64)?;
     match entry {
         Entry::Child(child) => {
             value.put("object", label_value(alloc, source.label(child.id))?)?;
@@ -159,7 +181,10 @@ fn entry_value(
             value.put("y", Value::from(i64::from(child.y)))?;
         }
         Entry::Key(id) | Entry::Item(id) => {
-            value.put("object", shown_value(alloc, source, Shown::Object(id))?)?;
+            value.put(
+                "object",
+                shown_value(alloc, source, &Shown::Object(id.raw()))?,
+            )?;
         }
         Entry::Macro(entry) => {
             let id = ObjectId::from_raw(u16::from(entry.macro_id));
@@ -170,7 +195,7 @@ fn entry_value(
         Entry::Language(language) => {
             let letters = [language.first, language.second];
             let shown = Shown::Text(&letters);
-            value.put("language", shown_value(alloc, source, shown)?)?;
+            value.put("language", shown_value(alloc, source, &shown)?)?;
         }
         Entry::Point(point) => {
             value.put_number("x", u64::from(point.x))?;

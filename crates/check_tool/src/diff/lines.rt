@@ -3,7 +3,7 @@
 use crate::diff::changes::changes_of;
 use crate::diff::comparison::Difference;
 use crate::diff::sides::Sides;
-use crate::diff::texts::ChangeText;
+use crate::diff::texts::{EntryChangeText, ValueChangeText};
 use std::alloc::Global;
 use std::io::{self, Write};
 use vt_objects::{ObjectId, Store};
@@ -51,12 +51,13 @@ fn write_changes<W: Write>(
         && let Some(after) = new.inspection.objects.get(id)
     {
         let changes = changes_of(alloc, before, after)?;
-        for change in changes.iter() {
-            let change = ChangeText {
-                sides: *sides,
-                change: *change,
-            };
-            writeln!(out, "  {change}")?;
+        for change in changes.values.iter() {
+            let sides = *sides;
+            writeln!(out, "  {}", ValueChangeText { sides, change })?;
+        }
+        for change in changes.entries.iter() {
+            let sides = *sides;
+            writeln!(out, "  {}", EntryChangeText { sides, change })?;
         }
     }
     Ok(())

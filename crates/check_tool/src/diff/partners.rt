@@ -13,10 +13,10 @@ enum Likeness {
 }
 
 impl Likeness {
-    fn holds(self, old: Placed, new: Placed) -> bool {
+    fn holds(self, old: &Placed, new: &Placed) -> bool {
         match self {
             Likeness::Equal => old.entry == new.entry,
-            Likeness::Moved => match (old.entry, new.entry) {
+            Likeness::Moved => match (&old.entry, &new.entry) {
                 (Entry::Child(old), Entry::Child(new)) => old.id == new.id,
                 (Entry::Point(_), Entry::Point(_)) => old.index == new.index,
                 _ => false,
@@ -42,7 +42,7 @@ pub(crate) fn partners_of(
             if let Some(partner) = partners.get_mut(index)
                 && partner.is_none()
             {
-                *partner = take_partner(old, new, likeness, &mut is_free);
+                *partner = take_partner(old, &new, likeness, &mut is_free);
             }
         }
     }
@@ -52,7 +52,7 @@ pub(crate) fn partners_of(
 /// Takes the first free old entry that is like a new one, by its index.
 fn take_partner(
     old: &[Entry],
-    new: Placed,
+    new: &Placed,
     likeness: Likeness,
     is_free: &mut Vec<bool>,
 ) -> Option<usize> {
@@ -63,7 +63,7 @@ fn take_partner(
         };
         if let Some(is_free) = is_free.get_mut(index)
             && *is_free
-            && likeness.holds(old, new)
+            && likeness.holds(&old, new)
         {
             *is_free = false;
             return Some(index);

@@ -1,6 +1,6 @@
 //! Changes in words.
 
-use crate::diff::changes::{Change, Shown};
+use crate::diff::changes::{Shown, ValueChange};
 use crate::diff::entry::Entry;
 use crate::diff::entry_changes::EntryChange;
 use crate::diff::sides::Sides;
@@ -9,38 +9,41 @@ use std::fmt;
 use vt_frames_text::{QuotedText, ShownScale};
 use vt_objects::{Event, ObjectId};
 
-/// A change of an object in words, such as `width: 100 -> 120` or `removed child 3, Container 100, at 10,5`.
+/// A field with another value in words, such as `width: 100 -> 120`.
 #[derive(Clone, Copy, Drop)]
-pub(crate) struct ChangeText<'a, 'b> {
+pub(crate) struct ValueChangeText<'a, 'b> {
     pub(crate) sides: Sides<'a>,
-    pub(crate) change: Change<'b>,
+    pub(crate) change: &'b ValueChange<'b>,
 }
 
-impl fmt::Display for ChangeText<'_, '_> {
+impl fmt::Display for ValueChangeText<'_, '_> {
     fn fmt<W: fmt::Write>(&self, f: &mut fmt::Formatter<W>) -> fmt::Result {
-        match self.change {
-            Change::Value {
-                field,
-                old,
-                new,
-                at,
-            } => {
-                let old = ShownText {
-                    source: self.sides.old,
-                    shown: old,
-                };
-                let new = ShownText {
-                    source: self.sides.new,
-                    shown: new,
-                };
-                write!(f, "{field}: {old} -> {new}")?;
-                match at {
-                    Some(at) => write!(f, ", the first difference at byte {at}"),
-                    None => Ok(()),
-                }
-            }
-            Change::Entry { change, .. } => write_change(f, self.sides, change),
+        let old = ShownText {
+            source: self.sides.old,
+            shown: &self.change.old,
+        };
+        let new = ShownText {
+            source: self.sides.new,
+            shown: &self.change.new,
+        };
+        write!(f, "{}: {old} -> {new}", self.change.field)?;
+        match self.change.at {
+            Some(at) => write!(f, ", the first difference at byte {at}"),
+            None => Ok(()),
         }
+    }
+}
+
+/// A change of a list in words, such as `removed child 3, Container 100, at 10,5`.
+#[derive(Clone, Copy, Drop)]
+pub(crate) struct EntryChangeText<'a, 'b> {
+    pub(crate) sides: Sides<'a>,
+    pub(crate) change: &'b EntryChange,
+}
+
+impl fmt::Display for EntryChangeText<'_, '_> {
+    fn fmt<W: fmt::Write>(&self, f: &mut fmt::Formatter<W>) -> fmt::Result {
+        write_change(f, self.sides, self.change)
     }
 }
 
@@ -48,7 +51,7 @@ impl fmt::Display for ChangeText<'_, '_> {
 #[derive(Clone, Copy, Drop)]
 struct ShownText<'a, 'b> {
     source: CheckedPool<'a>,
-    shown: Shown<'b>,
+    shown: &'b Shown<'b>,
 }
 
 impl fmt::Display for ShownText<'_, '_> {
@@ -58,8 +61,13 @@ impl fmt::Display for ShownText<'_, '_> {
             Shown::Scale(scale) => {
                 write!(f, "{}", ShownScale(u32::from_le_bytes(scale.to_bytes())))
             }
-            Shown::Object(id) if id.is_null() => f.write_str("none"),
-            Shown::Object(id) => write!(f, "{}", self.source.label(id)),
+            Shown::Object(id) => {
+                let id = ObjectId::from_raw(*id);
+                match id.is_null() {
+                    true => f.write_str("none"),
+                    false => write!(f, "{}", self.source.label(id)),
+                }
+            }
             Shown::Text(text) => write!(f, "{}", QuotedText(text)),
         }
     }
@@ -100,7 +108,7 @@ impl fmt::Display for EventText {
 fn write_change<W: fmt::Write>(
     f: &mut fmt::Formatter<W>,
     sides: Sides<'_>,
-    change: EntryChange,
+    change: &EntryChange,
 ) -> fmt::Result {
     match change {
         EntryChange::Removed(it) => {
@@ -109,7 +117,7 @@ fn write_change<W: fmt::Write>(
                 new: it.index,
             };
             f.write_str("removed ")?;
-            write_entry(f, sides.old, it.entry, index)
+            write_entry(f, sides.old, &it.entry, index)
         }
         EntryChange::Added(it) => {
             let index = IndexText {
@@ -117,7 +125,7 @@ fn write_change<W: fmt::Write>(
                 new: it.index,
             };
             f.write_str("added ")?;
-            write_entry(f, sides.new, it.entry, index)
+            write_entry(f, sides.new, &it.entry, index)
         }
         EntryChange::Moved {
             old,
@@ -125,12 +133,12 @@ fn write_change<W: fmt::Write>(
             is_reordered,
         } => {
             let index = IndexText {
-                old: is_reordered.then_some(old.index),
+                old: if *is_reordered { Some(old.index) } else { None },
                 new: new.index,
             };
             f.write_str("moved ")?;
-            write_entry(f, sides.new, old.entry, index)?;
-            write_position(f, old.entry, new.entry)
+            write_entry(f, sides.new, &old.entry, index)?;
+            write_position(f, &old.entry, &new.entry)
         }
     }
 }
@@ -139,7 +147,7 @@ fn write_change<W: fmt::Write>(
 fn write_entry<W: fmt::Write>(
     f: &mut fmt::Formatter<W>,
     source: CheckedPool<'_>,
-    entry: Entry,
+    entry: &Entry,
     index: IndexText,
 ) -> fmt::Result {
     match entry {
@@ -148,11 +156,11 @@ fn write_entry<W: fmt::Write>(
             write!(f, "child {index}, {label}, at {},{}", child.x, child.y)
         }
         Entry::Key(id) => {
-            let shown = Shown::Object(id);
+            let shown = &Shown::Object(id.raw());
             write!(f, "key {index}, {}", ShownText { source, shown })
         }
         Entry::Item(id) => {
-            let shown = Shown::Object(id);
+            let shown = &Shown::Object(id.raw());
             write!(f, "item {index}, {}", ShownText { source, shown })
         }
         Entry::Macro(entry) => {
@@ -171,14 +179,26 @@ fn write_entry<W: fmt::Write>(
 }
 
 /// Writes the new position of an entry, if it is another.
-fn write_position<W: fmt::Write>(f: &mut fmt::Formatter<W>, old: Entry, new: Entry) -> fmt::Result {
-    match (old, new) {
-        (Entry::Child(old), Entry::Child(new)) if (old.x, old.y) != (new.x, new.y) => {
-            write!(f, " -> {},{}", new.x, new.y)
-        }
-        (Entry::Point(old), Entry::Point(new)) if old != new => {
-            write!(f, " -> {},{}", new.x, new.y)
-        }
-        _ => Ok(()),
+fn write_position<W: fmt::Write>(
+    f: &mut fmt::Formatter<W>,
+    old: &Entry,
+    new: &Entry,
+) -> fmt::Result {
+    let place = position_of(new);
+    if place == position_of(old) {
+        return Ok(());
+    }
+    match place {
+        Some((x, y)) => write!(f, " -> {x},{y}"),
+        None => Ok(()),
+    }
+}
+
+/// The position of a child or a point.
+fn position_of(entry: &Entry) -> Option<(i32, i32)> {
+    match entry {
+        Entry::Child(child) => Some((i32::from(child.x), i32::from(child.y))),
+        Entry::Point(point) => Some((i32::from(point.x), i32::from(point.y))),
+        Entry::Key(_) | Entry::Item(_) | Entry::Macro(_) | Entry::Language(_) => None,
     }
 }

@@ -13,7 +13,7 @@ use vt_objects::ObjectId;
 pub(crate) fn event_json(
     alloc: Global,
     source: &CheckedPool<'_>,
-    cost: EventCost,
+    cost: &EventCost,
 ) -> Result<JsonLine, AllocError> {
     let mut line = JsonLine::new(alloc);
     line.put_number("event", u64::from(cost.event))?;
@@ -30,7 +30,7 @@ pub(crate) fn write_breakdown_json<W: Write>(
     breakdown: &Breakdown,
     out: &mut W,
 ) -> io::Result<()> {
-    listed_event(alloc, source, breakdown, breakdown.event)?.write(out)?;
+    listed_event(alloc, source, breakdown, &breakdown.event)?.write(out)?;
     for cost in breakdown.macros.iter() {
         let id = ObjectId::from_raw(u16::from(cost.id));
         let mut line = JsonLine::new(alloc);
@@ -47,7 +47,7 @@ fn listed_event(
     alloc: Global,
     source: &CheckedPool<'_>,
     breakdown: &Breakdown,
-    cost: EventCost,
+    cost: &EventCost,
 ) -> Result<JsonLine, AllocError> {
     let mut line = event_json(alloc, source, cost)?;
     let mut macros = Vec::new(alloc);
@@ -89,7 +89,7 @@ fn commands_value(
                 raised = Vec::new(alloc);
             }
             Share::MayHide(event) | Share::Raises(event) => {
-                let mut value = listed_event(alloc, source, breakdown, *event)?;
+                let mut value = listed_event(alloc, source, breakdown, event)?;
                 value.put("is_certain", Value::Bool(matches!(share, Share::Raises(_))))?;
                 raised.push(value.into_value())?;
             }

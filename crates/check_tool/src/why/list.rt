@@ -23,8 +23,8 @@ pub(crate) fn write_list<W: Write>(
     let most = options.most.map_or(listed.len(), |most| most as usize);
     for cost in listed.iter().take(most) {
         match options.format {
-            LineFormat::Text => write_cost(source, *cost, out)?,
-            LineFormat::Json => event_json(alloc, source, *cost)?.write(out)?,
+            LineFormat::Text => write_cost(source, cost, out)?,
+            LineFormat::Json => event_json(alloc, source, cost)?.write(out)?,
         }
     }
     if options.format == LineFormat::Text {
@@ -41,7 +41,7 @@ fn listed_costs(
 ) -> Result<Vec<EventCost>, AllocError> {
     let mut listed = Vec::new(alloc);
     for cost in costs {
-        if cost.steps > 0 && object.is_none_or(|id| id == cost.id) {
+        if cost.steps > 0 && is_of(&object, cost.id) {
             listed.push(*cost)?;
         }
     }
@@ -49,8 +49,16 @@ fn listed_costs(
     Ok(listed)
 }
 
+/// Whether an event is one of an object, if one is given.
+fn is_of(object: &Option<ObjectId>, id: ObjectId) -> bool {
+    match object {
+        None => true,
+        Some(object) => *object == id,
+    }
+}
+
 /// Writes an event with its steps.
-fn write_cost<W: Write>(source: &CheckedPool<'_>, cost: EventCost, out: &mut W) -> io::Result<()> {
+fn write_cost<W: Write>(source: &CheckedPool<'_>, cost: &EventCost, out: &mut W) -> io::Result<()> {
     write_steps(cost.steps, out)?;
     write_event(source, cost.id, cost.event, out)?;
     end_line(cost.steps, out)

@@ -8,11 +8,12 @@ use vt_objects::{ObjectId, Store};
 /// The object of a pool that a word gives. `None` if it is not there, or if several have the name: then `errors` receives the reason.
 pub(crate) fn object_of<E: Write>(
     source: &CheckedPool<'_>,
-    word: ObjectWord<'_>,
+    word: &ObjectWord<'_>,
     errors: &mut E,
 ) -> Option<ObjectId> {
     match word {
         ObjectWord::Id(id) => {
+            let id = ObjectId::from_raw(*id);
             if source.inspection.objects.get(id).is_some() {
                 return Some(id);
             }
