@@ -1,5 +1,6 @@
 pub mod AllowedPointersAndItems
 mod BitsOfRefusals
+mod CausesFound
 pub mod ChainTestPasses
 pub mod DoneIfInOrder
 pub mod EventsOfEntries

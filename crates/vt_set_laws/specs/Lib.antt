@@ -1,5 +1,6 @@
 -- The definitions used in the contracts of vt_set_laws.
 pub mod AttributeWrites
+pub mod CausesOfFaults
 pub mod CommandKinds
 pub mod CommandOrder
 pub mod FaultsOfCommands

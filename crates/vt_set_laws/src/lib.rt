@@ -7,6 +7,7 @@
 #![tactic(auto)]
 
 ghost use Rattle.vt_set_laws.specs.AttributeWrites.{AttributesAreWritten};
+ghost use Rattle.vt_set_laws.specs.CausesOfFaults.{FaultsHaveCauses};
 ghost use Rattle.vt_set_laws.specs.CommandKinds.{KindsAreThoseOfChanges};
 ghost use Rattle.vt_set_laws.specs.CommandOrder.{OrderDecides};
 ghost use Rattle.vt_set_laws.specs.FaultsOfCommands.{FaultsAreRefusals};
@@ -34,6 +35,12 @@ pub fn kinds_are_those_of_changes()
 /// "Commands in macros".
 pub fn faults_are_refusals()
     ensures { FaultsAreRefusals }
+{}
+
+/// The law that a command's fault is Missing exactly if an ID that it names is missing, and Kind exactly if none is and an object
+/// is of a kind that is not allowed. docs/PROFILE.md, "Commands in macros".
+pub fn faults_have_causes()
+    ensures { FaultsHaveCauses }
 {}
 
 /// The law that Change Attribute writes its value, of four bytes, to the field of the attribute in the object's record,
