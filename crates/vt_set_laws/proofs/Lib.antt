@@ -4,6 +4,7 @@ mod CausesFound
 pub mod ChainTestPasses
 pub mod DoneIfInOrder
 pub mod EventsOfEntries
+mod EventsInTables
 mod FieldsPerCommand
 mod FilledTexts
 mod JudgedChanges

@@ -8,4 +8,5 @@ pub mod FieldWrites
 pub mod MacroOrder
 pub mod NewValues
 pub mod PoolFaults
+pub mod RaisedEvents
 pub mod RefusalBits

@@ -15,6 +15,7 @@ ghost use Rattle.vt_set_laws.specs.FieldWrites.{FieldsAreWritten};
 ghost use Rattle.vt_set_laws.specs.MacroOrder.{TriggeredStandBefore};
 ghost use Rattle.vt_set_laws.specs.NewValues.{NewValuesAreNew};
 ghost use Rattle.vt_set_laws.specs.PoolFaults.{FaultsAreOne};
+ghost use Rattle.vt_set_laws.specs.RaisedEvents.{EventsAreRaised};
 ghost use Rattle.vt_set_laws.specs.RefusalBits.{RefusalsAreInTheirRows};
 
 /// The law that a command is done exactly if the references and chains of the objects are in order after its change; only
@@ -63,6 +64,12 @@ pub fn fields_are_written()
 /// operator's entry changes the objects. docs/PROFILE.md, "The operator".
 pub fn new_values_are_new()
     ensures { NewValuesAreNew }
+{}
+
+/// The law that an action of the operator and a change of the active mask raise the events of the standard's table, in their
+/// order, and no others. docs/PROFILE.md, "Event numbers" and "The operator".
+pub fn events_are_raised()
+    ensures { EventsAreRaised }
 {}
 
 /// The law that the fault of a pool's bytes is unique, in kind and offset, except for refused memory. docs/PROFILE.md, "Pools and
