@@ -1,28 +1,13 @@
--- The events that are raised are those of the tables.
-use Rattle.std.proofs.Common.{◌≡◌, ◌≢◌, ◌==◌, ◌++◌, ℕ, Bool, true, false, cond, List, [], ◌∷◌, Option, Some, None, Result, Ok, Err, is_ok, refl, sym, ap, ap₂, subst, ◌∙◌}
-use Rattle.std.proofs.lemmas.Bool.{both_ways, eqb-true, eqb-false, eq-eqb}
+-- The events of an operator's action are those of its table, and no table leads to two lists of events.
+use Rattle.std.proofs.Common.{◌≡◌, ◌≢◌, ◌==◌, ℕ, Bool, true, false, cond, List, [], ◌∷◌, Option, Some, None, refl, sym, ap, ap₂, subst, ◌∙◌}
+use Rattle.std.proofs.lemmas.Bool.{both_ways, eqb-true, eqb-false}
 use Rattle.std.proofs.lemmas.Option.{same_Some}
 use Rattle.std.specs.Prelude.{Decides}
-use Rattle.std.specs.Option.{option_map}
 use Rattle.std.specs.FinMap as finite
-use Rattle.vt_kinds.specs.declared.masks.WorkingSet.{WorkingSet}
-use Rattle.vt_kinds.specs.declared.kinds.Kinds.TheVariants as sets
-use Rattle.vt_kinds.specs.declared.object.Object.TheVariants as objects
-use Rattle.vt_kinds.specs.Ids.{null_id}
-use Rattle.vt_kinds.specs.Records.{Seen, kind_of}
-use Rattle.vt_stores.specs.Stores.{ObjectMap}
-use Rattle.vt_commands.specs.declared.command.Command.{Command}
-use Rattle.vt_commands.specs.declared.command.Command.TheVariants.{ChangeActiveMask}
 use Rattle.vt_commands.specs.declared.event.Event.TheVariants as events
 use Rattle.vt_commands.specs.declared.raising.Raised.{Raised}
-use Rattle.vt_commands.specs.Events.{raise, row_events}
-use Rattle.vt_effects.specs.Changes.{is_one_of}
-use Rattle.vt_effects.specs.Errors as errors
-use Rattle.vt_effects.specs.Effects.{kind_in, effect}
+use Rattle.vt_commands.specs.Events.{raise}
 use Rattle.vt_effects.specs.Soundness.{IsSound}
-use Rattle.vt_effects.proofs.lemmas.stores.OneChangedObject.{get_there}
-use Rattle.vt_macros.specs.Machines as machines
-use Rattle.vt_macros.specs.Machines.{mask_of, hide, mask_events, events_of}
 use Rattle.vt_machine.specs.declared.live.HeldKey.{HeldKey}
 use Rattle.vt_machine.specs.declared.operator.OperatorRefusal.TheVariants as refusals
 use Rattle.vt_machine.specs.SetStates.{SetState}
@@ -30,10 +15,10 @@ use Rattle.vt_machine.specs.OperatorActions as operator
 use Rattle.vt_machine.specs.OperatorActions.{Acts, ActionResult, select_events, select_if, selecting_input, is_enabled, press_with, key_message, holding, held, release_of, or_none}
 use Rattle.vt_machine.specs.OperatorEntries.{enter_number, enter_text, entry_events}
 use Rattle.vt_set_laws.specs.NewValues.{IsCounted, RaisesOfNew, NewValuesAreNew}
-use Rattle.vt_set_laws.specs.RaisedEvents.{EventRow, Scene, Whose, IsActive, IsWhose, Holds, AreRaised, action_on, mask_change_of, pressed, released, selected, entered, mask_changed, EventsAreRaised}
+use Rattle.vt_set_laws.specs.RaisedEvents.{EventRow, Scene, Whose, IsActive, IsWhose, Holds, AreRaised, action_on, command_on, rows_at, commands_done, pressed, released, selected, entered, EventsAreRaised}
 use Rattle.vt_set_laws.specs.RaisedEvents as table
 use Rattle.vt_set_laws.proofs.EventsOfEntries.{acts_raised, new_values}
-use Rattle.vt_set_laws.proofs.RefusedFaults.{effect_made, effect_missing}
+use Rattle.vt_set_laws.proofs.EventsOfCommands.{active_is, raised_done, commands, without_object, refused}
 
 -- ---- keys
 
@@ -138,137 +123,6 @@ texts true state start id text message es is =
     of_new state start id es (NewValuesAreNew.texts new_values state start id text message es is)
 texts false state start id text message es is = absurd cc
 
--- ---- the active mask
-
--- the events of a change from a Working Set's active mask to another
-active_is : (store : ObjectMap) (set mask : ℕ) (o : WorkingSet) → finite.get store set ≡ Some (objects.WorkingSet o)
-    → IsActive store set mask
-    → o.active_mask ≡ mask
-active_is store set mask o at active = ap (λ (found : Option Seen). mask_of found) (sym at ∙ active.is_there) ∙ active.active
-
-mask_table : (scene : Scene) (old new : WorkingSet) (mask : ℕ) → finite.get scene.before scene.object ≡ Some (objects.WorkingSet old)
-    → finite.get scene.after scene.object ≡ Some (objects.WorkingSet new) → new.active_mask ≡ mask → mask ≢ null_id
-    → AreRaised scene mask_changed (mask_events old.active_mask scene.object mask)
-mask_table scene old new mask before after is not_null = by (old.active_mask == mask) refl
-  where
-    was : old.active_mask ≢ null_id → IsActive scene.before scene.object old.active_mask
-    was there = record { working_set = old; is_there = before; active = refl; not_null = there }
-
-    present : IsActive scene.after scene.object mask
-    present = record { working_set = new; is_there = after; active = is; not_null = not_null }
-
-    none_null : (id : ℕ) → old.active_mask ≡ null_id → IsActive scene.before scene.object id → ⊥
-    none_null id null active = active.not_null (sym (active_is scene.before scene.object id old before active) ∙ null)
-
-    rest : old.active_mask ≢ mask → Holds scene table.OtherMask
-    rest differs both one other =
-        differs (active_is scene.before scene.object both old before one
-        ∙ sym (active_is scene.after scene.object both new after other) ∙ is)
-
-    last : old.active_mask ≢ mask
-        → AreRaised scene (table.row 7 table.Own table.Always ∷ table.row 3 table.PresentMask table.OtherMask ∷ [])
-        (raise scene.object events.ActiveMask ∷ raise mask events.Show ∷ [])
-    last differs = table.raised tt refl refl (table.raised (rest differs) present refl table.end)
-
-    hidden : old.active_mask ≢ mask → (null : Bool) → (old.active_mask == null_id) ≡ null
-        → AreRaised scene mask_changed (cond null [] (raise old.active_mask events.Hide ∷ [])
-        ++ (raise scene.object events.ActiveMask ∷ raise mask events.Show ∷ []))
-    hidden differs true null =
-        table.not_raised (λ other id former. none_null id (eqb-true old.active_mask null_id null) former) (last differs)
-    hidden differs false there =
-        table.raised (rest differs) (was (eqb-false old.active_mask null_id there)) refl (last differs)
-
-    by : (same : Bool) → (old.active_mask == mask) ≡ same
-        → AreRaised scene mask_changed (cond same (raise scene.object events.ActiveMask ∷ [])
-        (hide old.active_mask ++ row_events (ChangeActiveMask scene.object mask)))
-    by true same =
-        let e = eqb-true old.active_mask mask same in
-        let both = was (λ null. not_null (sym e ∙ null)) in
-        let stays = λ (other : Holds scene table.OtherMask). other mask (subst (IsActive scene.before scene.object) e both) present in
-        table.not_raised (λ other id former. stays other)
-        (table.raised tt refl refl (table.not_raised (λ other id now. stays other) table.end))
-    by false differs = hidden (eqb-false old.active_mask mask differs) (old.active_mask == null_id) refl
-
-kind_of_null : (store : ObjectMap) (mask : ℕ) → finite.get store null_id ≡ None → is_one_of sets.Masks (kind_in store mask) ≡ true
-    → mask ≢ null_id
-kind_of_null store mask none may is =
-    let never : false ≡ true =
-    sym (ap (λ (found : Option Seen). is_one_of sets.Masks (option_map kind_of found)) (ap (finite.get store) is ∙ none)) ∙ may in
-    absurd cc
-
-raised_done : (store new : ObjectMap) (command : Command) → ◌≡◌ {A = Result ObjectMap ℕ} (effect store command) (Ok new)
-    → machines.raised store command ≡ events_of store command
-unfolding machines.raised
-raised_done store new command is = ap (λ (r : Result ObjectMap ℕ). cond (is_ok r) (events_of store command) []) is
-
-inserted : {A : Type 0} (one other : A) → ◌≡◌ {A = Result A ℕ} (Ok one) (Ok other) → one ≡ other
-inserted one other is = cc
-
--- a Working Set with another active mask
-abbrev with_mask : WorkingSet → ℕ → WorkingSet
-with_mask w mask = record w { active_mask = mask }
-
-mask_written : (store new : ObjectMap) (set mask : ℕ) (w : WorkingSet) → finite.get store null_id ≡ None
-    → ◌≡◌ {A = Result ObjectMap ℕ} (effect store (ChangeActiveMask set mask)) (Ok new) → finite.get store set ≡ Some (objects.WorkingSet w)
-    → (may : Bool) → is_one_of sets.Masks (kind_in store mask) ≡ may
-    → AreRaised (mask_change_of set store new) mask_changed (mask_events w.active_mask set mask)
-mask_written store new set mask w null ends at true may =
-    mask_table (mask_change_of set store new) w (with_mask w mask) mask at written refl (kind_of_null store mask null may)
-  where
-    made : ◌≡◌ {A = Result ObjectMap ℕ} (effect store (ChangeActiveMask set mask))
-        (Ok (finite.insert store set (objects.WorkingSet (with_mask w mask))))
-    made =
-        effect_made store (ChangeActiveMask set mask) set (objects.WorkingSet w) (Ok (objects.WorkingSet (with_mask w mask))) refl at
-        (ap (λ (b : Bool). cond b (Ok (objects.WorkingSet (with_mask w mask))) (Err errors.VALUE)) may)
-
-    written : finite.get new set ≡ Some (objects.WorkingSet (with_mask w mask))
-    written =
-        ap (λ (n : ObjectMap). finite.get n set) (sym (inserted _ new (sym made ∙ ends)))
-        ∙ get_there store set (objects.WorkingSet (with_mask w mask)) set (eq-eqb set set refl)
-mask_written store new set mask w null ends at false may =
-    let never : ◌≡◌ {A = Result ObjectMap ℕ} (Err errors.VALUE) (Ok new) =
-    sym (effect_made store (ChangeActiveMask set mask) set (objects.WorkingSet w) (Err errors.VALUE) refl at
-    (ap (λ (b : Bool). cond b (Ok (objects.WorkingSet (with_mask w mask))) (Err errors.VALUE)) may)) ∙ ends in
-    absurd cc
-
-mask_found : (store new : ObjectMap) (set mask : ℕ) → finite.get store null_id ≡ None
-    → ◌≡◌ {A = Result ObjectMap ℕ} (effect store (ChangeActiveMask set mask)) (Ok new) → (found : Option Seen)
-    → finite.get store set ≡ found
-    → AreRaised (mask_change_of set store new) mask_changed (mask_events (mask_of found) set mask)
-mask_found store new set mask null ends (Some (objects.WorkingSet w)) at =
-    mask_written store new set mask w null ends at (is_one_of sets.Masks (kind_in store mask)) refl
-mask_found store new set mask null ends None at =
-    let never : ◌≡◌ {A = Result ObjectMap ℕ} (Err errors.OBJECT) (Ok new) =
-    sym (effect_missing store (ChangeActiveMask set mask) set refl at) ∙ ends in
-    absurd cc
-mask_found store new set mask null ends (Some o) at =
-    let never : ◌≡◌ {A = Result ObjectMap ℕ} (Err errors.OBJECT) (Ok new) =
-    sym (effect_made store (ChangeActiveMask set mask) set o (Err errors.OBJECT) refl at refl) ∙ ends in
-    absurd cc
-
-masks : (store new : ObjectMap) (set mask : ℕ) → finite.get store null_id ≡ None
-    → ◌≡◌ {A = Result ObjectMap ℕ} (effect store (ChangeActiveMask set mask)) (Ok new)
-    → AreRaised (mask_change_of set store new) mask_changed (machines.raised store (ChangeActiveMask set mask))
-masks store new set mask null ends =
-    subst (AreRaised (mask_change_of set store new) mask_changed) (sym (raised_done store new (ChangeActiveMask set mask) ends))
-    (mask_found store new set mask null ends (finite.get store set) refl)
-
--- ---- other commands
-
-row_of_other : (store : ObjectMap) (command : Command) → ((set mask : ℕ) → command ≢ ChangeActiveMask set mask)
-    → events_of store command ≡ row_events command
-row_of_other store (ChangeActiveMask set mask) other = absurd (other set mask refl)
-row_of_other store _ other = refl
-
-others : (store new : ObjectMap) (command : Command) → ((set mask : ℕ) → command ≢ ChangeActiveMask set mask)
-    → ◌≡◌ {A = Result ObjectMap ℕ} (effect store command) (Ok new) → machines.raised store command ≡ row_events command
-others store new command other ends = raised_done store new command ends ∙ row_of_other store command other
-
-refused : (store : ObjectMap) (command : Command) (bits : ℕ) → ◌≡◌ {A = Result ObjectMap ℕ} (effect store command) (Err bits)
-    → machines.raised store command ≡ []
-unfolding machines.raised
-refused store command bits is = ap (λ (r : Result ObjectMap ℕ). cond (is_ok r) (events_of store command) []) is
-
 -- ---- one list for a table
 
 same_whose : (scene : Scene) (whose : Whose) (id other : ℕ) → IsWhose scene whose id → IsWhose scene whose other → id ≡ other
@@ -298,8 +152,9 @@ events_raised = record {
   selections = selections;
   numbers = numbers;
   texts = texts;
-  masks = masks;
-  others = others;
+  commands = commands;
+  without_object = without_object;
+  done = raised_done;
   refused = refused;
   one_list = one_list;
 }

@@ -3,8 +3,9 @@ mod BitsOfRefusals
 mod CausesFound
 pub mod ChainTestPasses
 pub mod DoneIfInOrder
-pub mod EventsOfEntries
 mod EventsInTables
+mod EventsOfCommands
+pub mod EventsOfEntries
 mod FieldsPerCommand
 mod FilledTexts
 mod JudgedChanges

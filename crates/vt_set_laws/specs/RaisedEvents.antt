@@ -1,16 +1,17 @@
--- The table of the events that an action of the operator and a change of the active mask raise (docs/PROFILE.md, "Event numbers",
--- "Press", "Release", "Select", "Number", "Text", "Commands: Change Active Mask (AD)"), and the law that these and no others are raised.
--- The events of the other commands are in their rows (vt_commands).
-use Rattle.std.specs.Prelude.{◌≡◌, ◌≢◌, ℕ, Bool, List, [], ◌∷◌, Option, Some, None, Result, Ok, Err}
+-- The tables of the events that an action of the operator and a command raise (docs/PROFILE.md, "Event numbers", "Press", "Release",
+-- "Select", "Number", "Text", "Commands: all rows"), and the law that these and no others are raised.
+use Rattle.std.specs.Prelude.{◌≡◌, ◌≢◌, ◌==◌, ℕ, Bool, if◌then◌else◌, List, [], ◌∷◌, Option, Some, None, Result, Ok, Err}
 use Rattle.std.specs.FinMap as finite
 use Rattle.vt_kinds.specs.declared.masks.WorkingSet.{WorkingSet}
 use Rattle.vt_kinds.specs.declared.object.Object.TheVariants as objects
 use Rattle.vt_kinds.specs.Ids.{null_id}
 use Rattle.vt_stores.specs.Stores.{ObjectMap}
 use Rattle.vt_commands.specs.declared.command.Command.{Command}
-use Rattle.vt_commands.specs.declared.command.Command.TheVariants.{ChangeActiveMask}
+use Rattle.vt_commands.specs.declared.command.Command.TheVariants.{HideShow, EnableDisable}
 use Rattle.vt_commands.specs.declared.raising.Raised.{Raised}
-use Rattle.vt_commands.specs.Events.{event_at, row_events}
+use Rattle.vt_commands.specs.Events.{event_at}
+use Rattle.vt_commands.specs.Functions.{function_of}
+use Rattle.vt_commands.specs.Targets.{object_of}
 use Rattle.vt_effects.specs.Effects.{effect}
 use Rattle.vt_effects.specs.Soundness.{IsSound}
 use Rattle.vt_macros.specs.Machines as machines
@@ -20,10 +21,10 @@ use Rattle.vt_machine.specs.OperatorActions.{Acts}
 use Rattle.vt_machine.specs.OperatorEntries.{enter_number, enter_text}
 use Rattle.vt_set_laws.specs.NewValues.{IsCounted}
 
--- ---- the table
+-- ---- the tables
 
--- The object of an event: the one that the operator acts on, or the Working Set of a Change Active Mask; the input that was selected
--- before; the mask that was active before; the mask that is active now.
+-- The object of an event: the one that the operator acts on or that the command names first; the input that was selected before; the
+-- mask that was active before; the mask that is active now.
 pub data Whose : Type 0 where
   Own : Whose
   FormerInput : Whose
@@ -31,12 +32,14 @@ pub data Whose : Type 0 where
   PresentMask : Whose
 
 -- The cause of an event: the action alone; that the object was not the selected input; that the stored value is another than before;
--- that the active mask is another than before.
+-- that the active mask is another than before; that the command's state is 1, or 0.
 pub data Cause : Type 0 where
   Always : Cause
   OtherInput : Cause
   OtherValue : Cause
   OtherMask : Cause
+  StateOne : Cause
+  StateZero : Cause
 
 -- an event by its number, whose it is, and its cause
 pub record EventRow : Type 0 where
@@ -63,16 +66,39 @@ selected = row 20 FormerInput OtherInput ∷ row 19 Own OtherInput ∷ []
 abbrev pub entered : List EventRow
 entered = row 22 Own Always ∷ row 23 Own OtherValue ∷ row 16 Own OtherValue ∷ []
 
--- Change Active Mask is done
-abbrev pub mask_changed : List EventRow
-mask_changed = row 4 FormerMask OtherMask ∷ row 7 Own Always ∷ row 3 PresentMask OtherMask ∷ []
+-- the events of commands, by their functions; the functions that are left out have none
+abbrev pub commands_done : List (ℕ × List EventRow)
+commands_done =
+    (0xA0, row 3 Own StateOne ∷ row 4 Own StateZero ∷ [])
+    ∷ (0xA1, row 5 Own StateOne ∷ row 6 Own StateZero ∷ [])
+    ∷ (0xA5, row 14 Own Always ∷ [])
+    ∷ (0xA6, row 15 Own Always ∷ [])
+    ∷ (0xA7, row 10 Own Always ∷ [])
+    ∷ (0xA8, row 16 Own Always ∷ [])
+    ∷ (0xA9, row 18 Own Always ∷ [])
+    ∷ (0xAA, row 11 Own Always ∷ [])
+    ∷ (0xAB, row 12 Own Always ∷ [])
+    ∷ (0xAC, row 13 Own Always ∷ [])
+    ∷ (0xAD, row 4 FormerMask OtherMask ∷ row 7 Own Always ∷ row 3 PresentMask OtherMask ∷ [])
+    ∷ (0xAE, row 8 Own Always ∷ [])
+    ∷ (0xAF, row 9 Own Always ∷ [])
+    ∷ (0xB0, row 17 Own Always ∷ [])
+    ∷ (0xB3, row 16 Own Always ∷ [])
+    ∷ (0xB4, row 26 Own Always ∷ [])
+    ∷ (0xBE, row 0 Own Always ∷ [])
+    ∷ []
 
--- ---- how the table is read
+abbrev pub rows_at : List (ℕ × List EventRow) → ℕ → List EventRow
+rows_at [] function = []
+rows_at (entry ∷ entries) function = if function == entry.0 then entry.1 else rows_at entries function
 
--- The object acted on, the selected input before the action, and the objects before and after it. No macro has run yet.
+-- ---- how the tables are read
+
+-- The object acted on, the input selected before an action, the state in a command, and the objects before and after. No macro has run.
 pub record Scene : Type 0 where
   pub object : ℕ
   pub input : Option ℕ
+  pub state : Option ℕ
   pub before : ObjectMap
   pub after : ObjectMap
 
@@ -95,6 +121,8 @@ Holds scene Always = Unit {0}
 Holds scene OtherInput = scene.input ≢ Some scene.object
 Holds scene OtherValue = scene.after ≢ scene.before
 Holds scene OtherMask = (mask : ℕ) → IsActive scene.before scene.object mask → IsActive scene.after scene.object mask → ⊥
+Holds scene StateOne = scene.state ≡ Some 1
+Holds scene StateZero = scene.state ≡ Some 0
 
 -- The events of a table's rows, in their order: of each row whose cause holds and whose object is there, and of no other.
 pub data AreRaised (scene : Scene) : List EventRow → List Raised → Type 0 where
@@ -110,14 +138,20 @@ pub data AreRaised (scene : Scene) : List EventRow → List Raised → Type 0 wh
 
 -- an action on an object, from a state of its working set to another
 abbrev pub action_on : ℕ → SetState → SetState → Scene
-action_on id state start = record { object = id; input = state.input; before = state.objects; after = start.objects }
+action_on id state start = record { object = id; input = state.input; state = None; before = state.objects; after = start.objects }
 
--- a Change Active Mask of a Working Set
-abbrev pub mask_change_of : ℕ → ObjectMap → ObjectMap → Scene
-mask_change_of set store new = record { object = set; input = None; before = store; after = new }
+-- the state in Hide/Show and Enable/Disable
+abbrev pub state_in : Command → Option ℕ
+state_in (HideShow id state) = Some state
+state_in (EnableDisable id state) = Some state
+state_in _ = None
 
--- Each action of the operator that is done raises the events of its table, and so does a Change Active Mask that is done. Any other
--- command that is done raises those of its row. A refused command raises none. A table leads to one list of events.
+-- a command on an object, from a store to another
+abbrev pub command_on : ℕ → Command → ObjectMap → ObjectMap → Scene
+command_on id command store new = record { object = id; input = None; state = state_in command; before = store; after = new }
+
+-- Each action of the operator that is done, and each command that is done, raises the events of its table. A command without an object
+-- and a refused command raise none. A table leads to one list of events.
 pub record EventsAreRaised : Type 0 where
   pub presses : (shown : Bool) (state start : SetState) (mask id : ℕ) (message : List ℕ) (events : List Raised)
       → operator.press shown state mask id ≡ Acts message start events → AreRaised (action_on id state start) pressed events
@@ -130,10 +164,12 @@ pub record EventsAreRaised : Type 0 where
       → AreRaised (action_on id state start) entered events
   pub texts : (shown : Bool) (state start : SetState) (id : ℕ) (text message : List ℕ) (events : List Raised)
       → enter_text shown state id text ≡ Acts message start events → AreRaised (action_on id state start) entered events
-  pub masks : (store new : ObjectMap) (set mask : ℕ) → finite.get store null_id ≡ None → effect store (ChangeActiveMask set mask) ≡ Ok new
-      → AreRaised (mask_change_of set store new) mask_changed (machines.raised store (ChangeActiveMask set mask))
-  pub others : (store new : ObjectMap) (command : Command) → ((set mask : ℕ) → command ≢ ChangeActiveMask set mask)
-      → effect store command ≡ Ok new → machines.raised store command ≡ row_events command
+  pub commands : (store new : ObjectMap) (command : Command) (id : ℕ) → finite.get store null_id ≡ None → object_of command ≡ Some id
+      → effect store command ≡ Ok new
+      → AreRaised (command_on id command store new) (rows_at commands_done (function_of command)) (machines.events_of store command)
+  pub without_object : (store : ObjectMap) (command : Command) → object_of command ≡ None → machines.events_of store command ≡ []
+  pub done : (store new : ObjectMap) (command : Command) → effect store command ≡ Ok new
+      → machines.raised store command ≡ machines.events_of store command
   pub refused : (store : ObjectMap) (command : Command) (bits : ℕ) → ◌≡◌ {A = Result ObjectMap ℕ} (effect store command) (Err bits)
       → machines.raised store command ≡ []
   pub one_list : (scene : Scene) (rows : List EventRow) (events others : List Raised) → AreRaised scene rows events

@@ -66,8 +66,8 @@ pub fn new_values_are_new()
     ensures { NewValuesAreNew }
 {}
 
-/// The law that an action of the operator and a change of the active mask raise the events of the standard's table, in their
-/// order, and no others. docs/PROFILE.md, "Event numbers" and "The operator".
+/// The law that an action of the operator and a command raise the events of the standard's table, in its order, and no others.
+/// docs/PROFILE.md, "Event numbers", "The operator" and "Commands: all rows".
 pub fn events_are_raised()
     ensures { EventsAreRaised }
 {}
