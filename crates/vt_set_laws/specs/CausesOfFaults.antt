@@ -48,7 +48,7 @@ pub record HasWrongKind (store : ObjectMap) (command : Command) : Type 0 where
   pub one_wrong : Any (IsOfWrongKind store) (named_by store command)
 
 -- A command's fault is Missing exactly if an ID that it names is missing. It is Kind exactly if none is missing and an object is of a
--- wrong kind. A command has no other fault: without remaining steps the machine is stuck, whatever the command.
+-- wrong kind. It is never Spent: of that the machine speaks when it has no step left, whatever the command.
 pub record FaultsHaveCauses : Type 0 where
   pub missing : (store : ObjectMap) (command : Command)
       → (fault (shape_in store) command ≡ Some machines.Missing) ↔ Any (IsMissing store) (named_by store command)
