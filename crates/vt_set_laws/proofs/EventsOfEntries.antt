@@ -66,7 +66,7 @@ acts_state : (first message : List ℕ) (state start : SetState) (raised others 
     → Acts first state raised ≡ Acts message start others → state ≡ start
 acts_state first message state start raised others is = cc
 
-acts_raised : (first message : List ℕ) (state start : SetState) (raised others : List Raised)
+pub acts_raised : (first message : List ℕ) (state start : SetState) (raised others : List Raised)
     → Acts first state raised ≡ Acts message start others → raised ≡ others
 acts_raised first message state start raised others is = cc
 

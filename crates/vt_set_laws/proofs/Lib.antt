@@ -1,7 +1,10 @@
 pub mod AllowedPointersAndItems
 mod BitsOfRefusals
+mod CausesFound
 pub mod ChainTestPasses
 pub mod DoneIfInOrder
+mod EventsInTables
+mod EventsOfCommands
 pub mod EventsOfEntries
 mod FieldsPerCommand
 mod FilledTexts

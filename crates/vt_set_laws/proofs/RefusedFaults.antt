@@ -57,12 +57,12 @@ effect_found m command id found names at =
     ap (effect_on m command) names
     ∙ ap (λ (o : Option Seen). in_order m command (changed_at m id command (other_kind m (other_id command)) o)) at
 
-effect_missing : (m : ObjectMap) (command : Command) (id : ℕ) → object_of command ≡ Some id → finite.get m id ≡ None
+pub effect_missing : (m : ObjectMap) (command : Command) (id : ℕ) → object_of command ≡ Some id → finite.get m id ≡ None
     → ◌≡◌ {A = Result ObjectMap ℕ} (effect m command) (Err (missing_error command))
 effect_missing m command id names at = effect_found m command id None names at
 
 -- the result of a change is that of the command, unless the changed store is not in order
-effect_made : (m : ObjectMap) (command : Command) (id : ℕ) (o : Seen) (made : Result Seen ℕ) → object_of command ≡ Some id
+pub effect_made : (m : ObjectMap) (command : Command) (id : ℕ) (o : Seen) (made : Result Seen ℕ) → object_of command ≡ Some id
     → finite.get m id ≡ Some o
     → made_of m command o ≡ made → ◌≡◌ {A = Result ObjectMap ℕ} (effect m command) (in_order m command (insert_ok m id made))
 effect_made m command id o made names at is =

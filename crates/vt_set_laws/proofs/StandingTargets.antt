@@ -44,7 +44,7 @@ all_stand m command = list_all (stands m) (targets_in m command)
 
 -- ---- the two tests of a fault
 
-kind_is : (m : ObjectMap) (id : ℕ) → kind_in m id ≡ kind_at (shape_in m) id
+pub kind_is : (m : ObjectMap) (id : ℕ) → kind_in m id ≡ kind_at (shape_in m) id
 unfolding shape_in
 kind_is m id = ap (option_map kind_of) (finite.get-entries m id) ∙ sym (kind_found (finite.entries m) id)
 
@@ -71,10 +71,10 @@ and_swap true false true d = refl
 and_swap true false false d = refl
 and_swap false b c d = refl
 
-abbrev all_there : ObjectMap → List Target → Bool
+abbrev pub all_there : ObjectMap → List Target → Bool
 all_there m ts = list_all (is_there (shape_in m)) (map (of_target 0) ts)
 
-abbrev all_fit : ObjectMap → List Target → Bool
+abbrev pub all_fit : ObjectMap → List Target → Bool
 all_fit m ts = list_all (fits (shape_in m)) (map (of_target 0) ts)
 
 all_stand_by : (m : ObjectMap) (ts : List Target) → list_all (stands m) ts ≡ (all_there m ts && all_fit m ts)
@@ -85,10 +85,10 @@ all_stand_by m (t ∷ ts) =
 
 -- ---- a fault
 
-abbrev fault_by : Bool → Bool → Option Stuck
+abbrev pub fault_by : Bool → Bool → Option Stuck
 fault_by there fit = cond there (cond fit None (Some machines.Kind)) (Some machines.Missing)
 
-fault_is : (m : ObjectMap) (command : Command)
+pub fault_is : (m : ObjectMap) (command : Command)
     → fault (shape_in m) command ≡ fault_by (all_there m (targets_in m command)) (all_fit m (targets_in m command))
 unfolding fault
 fault_is m command =

@@ -7,6 +7,7 @@
 #![tactic(auto)]
 
 ghost use Rattle.vt_set_laws.specs.AttributeWrites.{AttributesAreWritten};
+ghost use Rattle.vt_set_laws.specs.CausesOfFaults.{FaultsHaveCauses};
 ghost use Rattle.vt_set_laws.specs.CommandKinds.{KindsAreThoseOfChanges};
 ghost use Rattle.vt_set_laws.specs.CommandOrder.{OrderDecides};
 ghost use Rattle.vt_set_laws.specs.FaultsOfCommands.{FaultsAreRefusals};
@@ -14,6 +15,7 @@ ghost use Rattle.vt_set_laws.specs.FieldWrites.{FieldsAreWritten};
 ghost use Rattle.vt_set_laws.specs.MacroOrder.{TriggeredStandBefore};
 ghost use Rattle.vt_set_laws.specs.NewValues.{NewValuesAreNew};
 ghost use Rattle.vt_set_laws.specs.PoolFaults.{FaultsAreOne};
+ghost use Rattle.vt_set_laws.specs.RaisedEvents.{EventsAreRaised};
 ghost use Rattle.vt_set_laws.specs.RefusalBits.{RefusalsAreInTheirRows};
 
 /// The law that a command is done exactly if the references and chains of the objects are in order after its change; only
@@ -36,6 +38,12 @@ pub fn faults_are_refusals()
     ensures { FaultsAreRefusals }
 {}
 
+/// The law that a command's fault is Missing exactly if an ID that it names is missing, and Kind exactly if none is and an object
+/// is of a kind that is not allowed. docs/PROFILE.md, "Commands in macros".
+pub fn faults_have_causes()
+    ensures { FaultsHaveCauses }
+{}
+
 /// The law that Change Attribute writes its value, of four bytes, to the field of the attribute in the object's record,
 /// and to no other field. docs/PROFILE.md, "Attribute numbers".
 pub fn attributes_are_written()
@@ -56,6 +64,12 @@ pub fn fields_are_written()
 /// operator's entry changes the objects. docs/PROFILE.md, "The operator".
 pub fn new_values_are_new()
     ensures { NewValuesAreNew }
+{}
+
+/// The law that an action of the operator and a command raise the events of the standard's table, in its order, and no others.
+/// docs/PROFILE.md, "Event numbers", "The operator" and "Commands: all rows".
+pub fn events_are_raised()
+    ensures { EventsAreRaised }
 {}
 
 /// The law that the fault of a pool's bytes is unique, in kind and offset, except for refused memory. docs/PROFILE.md, "Pools and
