@@ -17,7 +17,7 @@ use crate::check::known::Known;
 use crate::check::lines::Lines;
 use crate::check::sarif::put_document;
 use crate::check::settings::Settings;
-use crate::program::Style;
+use crate::program::{Style, is_read};
 use check_inspect::inspect;
 use check_needs::warnings;
 use check_text::{CheckedPool, Item, Names, Severity, Summary, Totals, items_of, summary_of};
@@ -49,7 +49,7 @@ pub(crate) fn run_check<F: Open, W: Write, E: Write>(
     }
     let mut base = Vec::new(alloc);
     if let Some(path) = options.base {
-        match read_pool_file(alloc, path, files, errors)? {
+        match read_base(alloc, path, files, errors)? {
             Some(read) => base = read,
             None => return Ok(Status::NotJudged),
         }
@@ -76,6 +76,24 @@ pub(crate) fn run_check<F: Open, W: Write, E: Write>(
         }
         Format::Junit => check.test_all(&mut known, files, out, errors),
     }
+}
+
+/// The bytes of the pool on top of which others are uploaded. `None` if the file cannot be read, or its bytes not to their end: then
+/// `errors` receives the reason.
+fn read_base<F: Open, E: Write>(
+    alloc: Global,
+    path: &str,
+    files: &mut F,
+    errors: &mut E,
+) -> io::Result<Option<Vec<u8>>> {
+    let Some(bytes) = read_pool_file(alloc, path, files, errors)? else {
+        return Ok(None);
+    };
+    let inspection = inspect(alloc, bytes.as_slice())?;
+    if !is_read(&inspection, path, errors) {
+        return Ok(None);
+    }
+    Ok(Some(bytes))
 }
 
 /// How pools are checked: with these options, lines and names.

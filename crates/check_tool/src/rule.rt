@@ -2,7 +2,7 @@
 
 pub(crate) mod texts;
 
-use crate::rule::texts::{EXPLAINED, Explained};
+use crate::rule::texts::{Explained, explained};
 use std::io::{self, Write};
 use vt_cli::Status;
 
@@ -13,12 +13,12 @@ pub(crate) fn run_rule<W: Write, E: Write>(
     errors: &mut E,
 ) -> io::Result<Status> {
     let Some(word) = word else {
-        for rule in EXPLAINED.iter() {
+        for rule in explained() {
             put_line(rule, out)?;
         }
         return Ok(Status::Clean);
     };
-    match EXPLAINED.iter().find(|rule| rule.is_called(word)) {
+    match explained().iter().find(|rule| rule.is_called(word)) {
         Some(rule) => {
             put_rule(rule, out)?;
             Ok(Status::Clean)

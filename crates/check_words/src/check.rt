@@ -72,6 +72,11 @@ pub(crate) fn check_options<'a>(
         Some("junit") => Format::Junit,
         Some(_) | None => Format::Text,
     };
+    let config = matches.get_str("config");
+    let is_isolated = matches.get_flag("isolated");
+    if is_isolated && config.is_some() {
+        return Err(UsageError::Wrong(WrongOption::IsolatedConfig));
+    }
     Ok(CheckOptions {
         pools: all_of(alloc, matches, "POOL")?,
         names: all_of(alloc, matches, "names")?,
@@ -86,8 +91,8 @@ pub(crate) fn check_options<'a>(
         mask: area_if(matches, "size").map_err(WrongOption::Size)?,
         key: area_if(matches, "key-size").map_err(WrongOption::KeySize)?,
         keys: matches.get_one::<u8>("keys"),
-        config: matches.get_str("config"),
-        is_isolated: matches.get_flag("isolated"),
+        config,
+        is_isolated,
     })
 }
 

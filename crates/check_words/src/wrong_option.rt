@@ -12,6 +12,8 @@ pub enum WrongOption<'a> {
     KeySize(&'a str),
     /// The value of an option that chooses findings is neither a code nor a name, nor an object in brackets.
     Code { option: &'a str, word: &'a str },
+    /// `--config` and `--isolated` are given.
+    IsolatedConfig,
     /// The value of `--mask` is neither an ID nor `all`.
     Mask(&'a str),
     /// All masks are requested, but not into a folder.
@@ -39,7 +41,16 @@ impl fmt::Display for WrongOption<'_> {
             ),
             WrongOption::Code { option, word } => write!(
                 f,
-                "--{option} {word}: expected a code or a name, such as W02 or Unused, an object, such as [325], or both, such as Unused[325]; segyolant rule lists the codes"
+                "--{option} {word}: expected a code or a name of an error or a warning, such as W02 or Unused, an object, such as [325], or both, such as Unused[325]{}; segyolant rule lists the codes",
+                if *option == "deny" {
+                    ", or warnings"
+                } else {
+                    ""
+                }
+            ),
+            WrongOption::IsolatedConfig => write!(
+                f,
+                "--isolated reads no file of settings; leave out --config or --isolated"
             ),
             WrongOption::Mask(value) => write!(
                 f,

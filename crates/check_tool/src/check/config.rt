@@ -58,7 +58,7 @@ impl fmt::Display for WrongSetting<'_> {
             WrongSetting::Form { name, expected } => write!(f, "{name}: expected {expected}"),
             WrongSetting::Choice { name, word } => write!(
                 f,
-                "{name}: {word}: expected a code or a name, such as W02 or Unused, an object, such as [325], or both, such as Unused[325]"
+                "{name}: {word}: expected a code or a name of an error or a warning, such as W02 or Unused, an object, such as [325], or both, such as Unused[325]"
             ),
             WrongSetting::Memory => write!(f, "out of memory"),
         }
@@ -199,7 +199,7 @@ impl<'a> Config<'a> {
             "size" => self.mask = Some(area_in(name, value)?),
             "key-size" => self.key = Some(area_in(name, value)?),
             "keys" => self.keys = Some(keys_in(name, value)?),
-            "names" => self.names = texts_in(alloc, name, value)?,
+            "names" => self.names = files_in(alloc, name, value)?,
             "select" => self.select = choices_in(alloc, name, value)?,
             "ignore" => self.ignore = choices_in(alloc, name, value)?,
             "deny" => self.deny = choices_in(alloc, name, value)?,
@@ -236,12 +236,21 @@ fn keys_in<'a>(name: &'a str, value: &'a Value) -> Result<u8, WrongSetting<'a>> 
     })
 }
 
-fn texts_in<'a>(
+/// The files of names.
+fn files_in<'a>(
     alloc: Global,
     name: &'a str,
     value: &'a Value,
 ) -> Result<Vec<&'a str>, WrongSetting<'a>> {
-    let expected = "a list of texts, such as [\"Unused\", \"W05\"]";
+    texts_in(alloc, name, value, "a list of files, such as [\"my.h\"]")
+}
+
+fn texts_in<'a>(
+    alloc: Global,
+    name: &'a str,
+    value: &'a Value,
+    expected: &'a str,
+) -> Result<Vec<&'a str>, WrongSetting<'a>> {
     let Some(values) = value.as_array() else {
         return Err(WrongSetting::Form { name, expected });
     };
@@ -260,7 +269,12 @@ fn choices_in<'a>(
     name: &'a str,
     value: &'a Value,
 ) -> Result<Vec<&'a str>, WrongSetting<'a>> {
-    let words = texts_in(alloc, name, value)?;
+    let words = texts_in(
+        alloc,
+        name,
+        value,
+        "a list of codes, such as [\"Unused\", \"W05\"]",
+    )?;
     match words.iter().find(|word| !is_choice(name, word)) {
         Some(word) => Err(WrongSetting::Choice { name, word: *word }),
         None => Ok(words),

@@ -51,7 +51,7 @@ impl Known {
         Ok(Some(known))
     }
 
-    /// Adds the finding of a line, if it has one. Returns whether the line is an object of JSON.
+    /// Adds the finding of a line, if it has one. Returns whether the line has a finding or counts.
     fn add(&mut self, line: &[u8]) -> Result<bool, AllocError> {
         let value = match Value::from_slice(self.alloc, line) {
             Ok(value) => value,
@@ -60,12 +60,13 @@ impl Known {
         };
         let code = value.get("code").and_then(Value::as_str);
         let sentence = value.get("message").and_then(Value::as_str);
-        if let (Some(code), Some(sentence)) = (code, sentence) {
-            let finding = format!(in self.alloc; "{code} {sentence}")?;
-            let count = self.left.get(finding.as_str()).copied().unwrap_or(0);
-            self.left.insert(finding, count.saturating_add(1))?;
-        }
-        Ok(value.is_object())
+        let (Some(code), Some(sentence)) = (code, sentence) else {
+            return Ok(value.get("errors").is_some());
+        };
+        let finding = format!(in self.alloc; "{code} {sentence}")?;
+        let count = self.left.get(finding.as_str()).copied().unwrap_or(0);
+        self.left.insert(finding, count.saturating_add(1))?;
+        Ok(true)
     }
 
     /// Whether there are none.

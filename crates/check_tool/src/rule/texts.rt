@@ -33,17 +33,22 @@ impl Explained<'_> {
     }
 }
 
+/// What each code means, in the order of docs/POOLS.md. A function, so that a proof about a caller does not look into the table.
+pub(crate) fn explained() -> &'static [Explained<'static>] {
+    &EXPLAINED
+}
+
 /// The code of two objects of different kinds with one ID.
 const CLASH: &str = "W07";
 
-/// The codes, in the order of docs/POOLS.md: each with its name, its cause, its cure and an example.
-pub(crate) const EXPLAINED: [Explained<'static>; 44] = [
+/// Each code with its name, its cause, its cure and an example.
+const EXPLAINED: [Explained<'static>; 44] = [
     Explained {
         code: "P01",
         name: "Truncated",
         cause: "the bytes end inside a record: the file is cut short, or a count of children, macros, points or bytes is greater than the list behind it",
         cure: "compare the counts of the record, and of the one before it, with their lists; send the rest of the file",
-        example: "the bytes end inside this record: ID 1000 `main`, type 1; a count in the record before it, Font Attributes 104 at 2022, may be wrong",
+        example: "the bytes end inside this record: ID 1000 `main`, type 1 Data Mask; a count in the record before it, Font Attributes 104 at 2022, may be wrong",
     },
     Explained {
         code: "P02",
@@ -119,13 +124,13 @@ pub(crate) const EXPLAINED: [Explained<'static>; 44] = [
         code: "R06",
         name: "MacroBytes",
         cause: "the bytes of a Macro end inside a command",
-        cure: "a command takes 8 bytes, but Change Child Position takes 9, and Change String Value 5 and its text, at least 8",
+        cure: "complete the last command: one takes 8 bytes, but Change Child Position takes 9, and Change String Value 5 and its text, at least 8",
         example: "Macro 13 `macro_hidden`: the bytes end inside a command",
     },
     Explained {
         code: "R07",
         name: "MacroCommand",
-        cause: "a Macro has a command that is not allowed there: Delete Object Pool, Select Input Object, ESC, or no command at all",
+        cause: "a Macro has a command that is not allowed there: Delete Object Pool, Select Input Object, ESC, or a function that is no command",
         cure: "remove the command",
         example: "Macro 10 `macro_fold`: Delete Object Pool (B2) at byte 8 is not allowed in a macro",
     },
@@ -154,7 +159,7 @@ pub(crate) const EXPLAINED: [Explained<'static>; 44] = [
         code: "R11",
         name: "MacroCircle",
         cause: "macros trigger each other in a circle, so that their events would never end",
-        cure: "remove one of the macro entries",
+        cure: "remove one of the macro entries, or of the commands that raise their events",
         example: "macros trigger each other in a circle: Macro 1 > Macro 2 > 1",
     },
     Explained {
