@@ -98,11 +98,11 @@ fn read_base<F: Open, E: Write>(
 
 /// How pools are checked: with these options, lines and names.
 #[derive(Clone, Copy, Drop)]
-struct Check<'a> {
+struct Check<'a, 'b> {
     alloc: Global,
     options: &'a CheckOptions<'a>,
     /// The pool on top of which the pools are uploaded.
-    base: Base<'a>,
+    base: Base<'b>,
     lines: Lines,
     /// The names of the files that the command line gives.
     names: &'a Names,
@@ -118,7 +118,7 @@ struct Told<'a> {
     known: usize,
 }
 
-impl Check<'_> {
+impl Check<'_, '_> {
     /// Checks each pool, and prints the counts of all if there are several.
     fn all<F: Open, W: Write, E: Write>(
         &self,

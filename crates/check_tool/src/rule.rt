@@ -2,7 +2,7 @@
 
 pub(crate) mod texts;
 
-use crate::rule::texts::{Explained, explained};
+use crate::rule::texts::{RuleText, rule_texts};
 use std::io::{self, Write};
 use vt_cli::Status;
 
@@ -13,12 +13,12 @@ pub(crate) fn run_rule<W: Write, E: Write>(
     errors: &mut E,
 ) -> io::Result<Status> {
     let Some(word) = word else {
-        for rule in explained() {
+        for rule in rule_texts() {
             put_line(rule, out)?;
         }
         return Ok(Status::Clean);
     };
-    match explained().iter().find(|rule| rule.is_called(word)) {
+    match rule_texts().iter().find(|rule| rule.is_called(word)) {
         Some(rule) => {
             put_rule(rule, out)?;
             Ok(Status::Clean)
@@ -34,8 +34,8 @@ pub(crate) fn run_rule<W: Write, E: Write>(
 }
 
 /// Writes the line of a code in the list of all.
-fn put_line<W: Write>(rule: &Explained<'_>, out: &mut W) -> io::Result<()> {
-    let Explained {
+fn put_line<W: Write>(rule: &RuleText<'_>, out: &mut W) -> io::Result<()> {
+    let RuleText {
         code,
         name,
         cause,
@@ -45,8 +45,8 @@ fn put_line<W: Write>(rule: &Explained<'_>, out: &mut W) -> io::Result<()> {
 }
 
 /// Writes what a code means, what to do, and an example.
-fn put_rule<W: Write>(rule: &Explained<'_>, out: &mut W) -> io::Result<()> {
-    let Explained {
+fn put_rule<W: Write>(rule: &RuleText<'_>, out: &mut W) -> io::Result<()> {
+    let RuleText {
         code,
         name,
         cause,

@@ -1,6 +1,6 @@
 //! The report of a check in SARIF 2.1.0, for hosts of code.
 
-use crate::rule::texts::{Explained, explained};
+use crate::rule::texts::{RuleText, rule_texts};
 use check_text::{ItemLine, Severity};
 use serde_json::Value;
 use std::alloc::{AllocError, Global};
@@ -34,7 +34,7 @@ pub(crate) fn put_document<W: Write>(alloc: Global, results: &[u8], out: &mut W)
         out,
         "{{\n  \"$schema\": \"https://json.schemastore.org/sarif-2.1.0.json\",\n  \"version\": \"2.1.0\",\n  \"runs\": [\n    {{\n      \"tool\": {{\"driver\": {{\"name\": \"segyolant\", \"version\": \"{VERSION}\", \"rules\": ["
     )?;
-    for (index, rule) in explained().iter().enumerate() {
+    for (index, rule) in rule_texts().iter().enumerate() {
         let comma = if index == 0 { "" } else { "," };
         put_rule(alloc, comma, rule, out)?;
     }
@@ -47,10 +47,10 @@ pub(crate) fn put_document<W: Write>(alloc: Global, results: &[u8], out: &mut W)
 fn put_rule<W: Write>(
     alloc: Global,
     comma: &str,
-    rule: &Explained<'_>,
+    rule: &RuleText<'_>,
     out: &mut W,
 ) -> io::Result<()> {
-    let Explained {
+    let RuleText {
         code,
         name,
         cause,
