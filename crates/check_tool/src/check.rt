@@ -17,7 +17,7 @@ use crate::check::known::Known;
 use crate::check::lines::Lines;
 use crate::check::sarif::put_document;
 use crate::check::settings::Settings;
-use crate::program::{Style, is_read};
+use crate::program::Style;
 use check_inspect::inspect;
 use check_needs::warnings;
 use check_text::{CheckedPool, Item, Names, Severity, Summary, Totals, items_of, summary_of};
@@ -47,65 +47,29 @@ pub(crate) fn run_check<F: Open, W: Write, E: Write>(
             None => return Ok(Status::NotJudged),
         }
     }
-    let mut base = Vec::new(alloc);
-    if let Some(path) = options.base {
-        match read_base(alloc, path, files, errors)? {
-            Some(read) => base = read,
-            None => return Ok(Status::NotJudged),
-        }
-    }
+    let Some(base) = Base::read(alloc, options.base, files, errors)? else {
+        return Ok(Status::NotJudged);
+    };
     let check = Check {
         alloc,
         options,
-        base: Base {
-            path: options.base.unwrap_or(""),
-            bytes: base.as_slice(),
-        },
+        base,
         lines: Lines::new(options.format, look),
-        names: &names,
+        names,
     };
-    match options.format {
-        Format::Text | Format::Json | Format::Github => {
-            check.all(&mut known, files, out, errors)
-        }
-        Format::Sarif => {
-            let mut results = Vec::new(alloc);
-            let status = check.all(&mut known, files, &mut results, errors)?;
-            put_document(alloc, results.as_slice(), out)?;
-            Ok(status)
-        }
-        Format::Junit => check.test_all(&mut known, files, out, errors),
-    }
-}
-
-/// The bytes of the pool on top of which others are uploaded. `None` if the file cannot be read, or its bytes not to their end: then
-/// `errors` receives the reason.
-fn read_base<F: Open, E: Write>(
-    alloc: Global,
-    path: &str,
-    files: &mut F,
-    errors: &mut E,
-) -> io::Result<Option<Vec<u8>>> {
-    let Some(bytes) = read_pool_file(alloc, path, files, errors)? else {
-        return Ok(None);
-    };
-    let inspection = inspect(alloc, bytes.as_slice())?;
-    if !is_read(&inspection, path, errors) {
-        return Ok(None);
-    }
-    Ok(Some(bytes))
+    check.run(&mut known, files, out, errors)
 }
 
 /// How pools are checked: with these options, lines and names.
-#[derive(Clone, Copy, Drop)]
-struct Check<'a, 'b> {
+#[derive(Drop)]
+struct Check<'a> {
     alloc: Global,
     options: &'a CheckOptions<'a>,
     /// The pool on top of which the pools are uploaded.
-    base: Base<'b>,
+    base: Base<'a>,
     lines: Lines,
     /// The names of the files that the command line gives.
-    names: &'a Names,
+    names: Names,
 }
 
 /// The findings of a pool that are told.
@@ -118,7 +82,27 @@ struct Told<'a> {
     known: usize,
 }
 
-impl Check<'_, '_> {
+impl Check<'_> {
+    /// Checks each pool, and writes what is found in the form of the output.
+    fn run<F: Open, W: Write, E: Write>(
+        &self,
+        known: &mut Known,
+        files: &mut F,
+        out: &mut W,
+        errors: &mut E,
+    ) -> io::Result<Status> {
+        match self.options.format {
+            Format::Text | Format::Json | Format::Github => { self.all(known, files, out, errors) }
+            Format::Sarif => {
+                let mut results = Vec::new(self.alloc);
+                let status = self.all(known, files, &mut results, errors)?;
+                put_document(self.alloc, results.as_slice(), out)?;
+                Ok(status)
+            }
+            Format::Junit => self.test_all(known, files, out, errors),
+        }
+    }
+
     /// Checks each pool, and prints the counts of all if there are several.
     fn all<F: Open, W: Write, E: Write>(
         &self,
@@ -174,7 +158,8 @@ impl Check<'_, '_> {
         out: &mut W,
         errors: &mut E,
     ) -> io::Result<Status> {
-        let Check { alloc, options, .. } = *self;
+        let alloc = self.alloc;
+        let options = self.options;
         let mut file = ConfigFile::empty(alloc);
         if !options.is_isolated {
             match ConfigFile::read(alloc, options.config, path, files, errors)? {
@@ -192,7 +177,7 @@ impl Check<'_, '_> {
         let Some(names) = settings.names_beside(alloc, file.path(), files, errors)? else {
             return Ok(Status::NotJudged);
         };
-        let names = names.as_ref().unwrap_or(self.names);
+        let names = names.as_ref().unwrap_or(&self.names);
         let Some(own) = settings.known_beside(alloc, file.path(), files, errors)? else {
             return Ok(Status::NotJudged);
         };
@@ -213,14 +198,8 @@ impl Check<'_, '_> {
         totals: &mut Totals,
         out: &mut W,
     ) -> io::Result<Status> {
-        let Check {
-            alloc,
-            options,
-            base,
-            lines,
-            ..
-        } = *self;
-        let bytes = base.with(alloc, bytes)?;
+        let alloc = self.alloc;
+        let bytes = self.base.with(alloc, bytes)?;
         let inspection = inspect(alloc, bytes.as_slice())?;
         let warnings = warnings(alloc, &inspection.objects, settings.sizes)?;
         let values = value_warnings(alloc, &inspection.objects)?;
@@ -232,21 +211,26 @@ impl Check<'_, '_> {
         };
         let items = items_of(alloc, &inspection, warnings.as_slice(), values.as_slice())?;
         let told = self.told(&source, items.as_slice(), &settings.chosen, known)?;
-        let most = options.most.map_or(told.items.len(), |most| most as usize);
+        let most = self
+            .options
+            .most
+            .map_or(told.items.len(), |most| most as usize);
         for item in told.items.iter().take(most) {
             let severity = settings.chosen.severity(&source, *item);
-            lines.put_item(alloc, &source, base, *item, severity, out)?;
+            self.lines
+                .put_item(alloc, &source, &self.base, *item, severity, out)?;
         }
         for note in inspection.notes.iter() {
             let note = Item::Note(*note);
-            lines.put_item(alloc, &source, base, note, Severity::Note, out)?;
+            self.lines
+                .put_item(alloc, &source, &self.base, note, Severity::Note, out)?;
         }
         let summary = Summary {
             errors: told.errors,
             warnings: told.items.len().saturating_sub(told.errors),
             ..summary_of(&source, told.items.as_slice(), most)
         };
-        lines.put_summary(alloc, summary, told.known, out)?;
+        self.lines.put_summary(alloc, summary, told.known, out)?;
         totals.add(&summary);
         Ok(status_of(&summary, settings.chosen.denies_warnings))
     }

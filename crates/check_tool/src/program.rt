@@ -40,7 +40,7 @@ pub fn run<S: AsStr, F: Open + Save, W: Write, E: Write>(
     };
     let status = match &options {
         Options::Check(options) => run_check(alloc, options, look, files, out, errors)?,
-        Options::Rule(word) => run_rule(*word, out, errors)?,
+        Options::Rule(word) => run_rule(alloc, *word, out, errors)?,
         Options::Why(options) => run_why(alloc, options, look, files, out, errors)?,
         Options::Needs(options) => run_needs(alloc, options, files, out, errors)?,
         Options::Diff(options) => run_diff(alloc, options, files, out, errors)?,

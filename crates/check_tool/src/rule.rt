@@ -3,22 +3,25 @@
 pub(crate) mod texts;
 
 use crate::rule::texts::{RuleText, rule_texts};
+use std::alloc::Global;
 use std::io::{self, Write};
 use vt_cli::Status;
 
 /// Explains the code or the name in a word, or lists all codes. If no code or name is like it, `errors` receives a sentence.
 pub(crate) fn run_rule<W: Write, E: Write>(
+    alloc: Global,
     word: Option<&str>,
     out: &mut W,
     errors: &mut E,
 ) -> io::Result<Status> {
+    let rules = rule_texts(alloc)?;
     let Some(word) = word else {
-        for rule in rule_texts() {
+        for rule in rules.iter() {
             put_line(rule, out)?;
         }
         return Ok(Status::Clean);
     };
-    match rule_texts().iter().find(|rule| rule.is_called(word)) {
+    match rules.iter().find(|rule| rule.is_called(word)) {
         Some(rule) => {
             put_rule(rule, out)?;
             Ok(Status::Clean)

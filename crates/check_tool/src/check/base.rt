@@ -1,22 +1,49 @@
 //! The pool on top of which another is uploaded.
 
-use check_inspect::Note;
+use crate::program::is_read;
+use check_inspect::{Note, inspect};
 use check_text::{Item, ItemLine};
 use std::alloc::{AllocError, Global};
+use std::io::{self, Write};
+use vt_cli::{Open, read_pool_file};
 
 /// The pool on top of which another is uploaded, such as that of a language. It has no bytes if none is given.
-#[derive(Clone, Copy, Drop)]
+#[derive(Drop)]
 pub(crate) struct Base<'a> {
     /// The path of its file.
-    pub(crate) path: &'a str,
+    path: &'a str,
     /// Its bytes.
-    pub(crate) bytes: &'a [u8],
+    bytes: Vec<u8>,
 }
 
 impl<'a> Base<'a> {
+    /// The pool in a file, or no bytes if no path is given. `None` if the file cannot be read, or its bytes not to their end: then `errors`
+    /// receives the reason.
+    pub(crate) fn read<F: Open, E: Write>(
+        alloc: Global,
+        path: Option<&'a str>,
+        files: &mut F,
+        errors: &mut E,
+    ) -> io::Result<Option<Base<'a>>> {
+        let Some(path) = path else {
+            return Ok(Some(Base {
+                path: "",
+                bytes: Vec::new(alloc),
+            }));
+        };
+        let Some(bytes) = read_pool_file(alloc, path, files, errors)? else {
+            return Ok(None);
+        };
+        let inspection = inspect(alloc, bytes.as_slice())?;
+        if !is_read(&inspection, path, errors) {
+            return Ok(None);
+        }
+        Ok(Some(Base { path, bytes }))
+    }
+
     /// The bytes of the base, and those of a pool behind them.
     pub(crate) fn with(&self, alloc: Global, pool: &[u8]) -> Result<Vec<u8>, AllocError> {
-        let mut bytes = Vec::from_slice(alloc, self.bytes)?;
+        let mut bytes = Vec::from_slice(alloc, self.bytes.as_slice())?;
         bytes.extend_from_slice(pool)?;
         Ok(bytes)
     }

@@ -35,7 +35,7 @@ impl Lines {
         self,
         alloc: Global,
         source: &CheckedPool<'a>,
-        base: Base<'a>,
+        base: &Base<'a>,
         item: Item<'_>,
         severity: Severity,
         out: &mut W,

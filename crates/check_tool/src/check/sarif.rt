@@ -34,7 +34,8 @@ pub(crate) fn put_document<W: Write>(alloc: Global, results: &[u8], out: &mut W)
         out,
         "{{\n  \"$schema\": \"https://json.schemastore.org/sarif-2.1.0.json\",\n  \"version\": \"2.1.0\",\n  \"runs\": [\n    {{\n      \"tool\": {{\"driver\": {{\"name\": \"segyolant\", \"version\": \"{VERSION}\", \"rules\": ["
     )?;
-    for (index, rule) in rule_texts().iter().enumerate() {
+    let rules = rule_texts(alloc)?;
+    for (index, rule) in rules.iter().enumerate() {
         let comma = if index == 0 { "" } else { "," };
         put_rule(alloc, comma, rule, out)?;
     }
