@@ -41,6 +41,7 @@ prove:
 	@python3 scripts/page.py
 	@python3 scripts/version.py
 	@python3 scripts/recipes.py
+	@python3 scripts/default_arms.py
 	@bash scripts/examples.sh --check
 	@python3 scripts/build.py --gate
 	@python3 scripts/reference.py --check --programs '$(CURDIR)/crates/{}/out/{}'

@@ -38,17 +38,17 @@ EXAMPLES = {
     'A column of stats': {'seen_twice|seen twice|repeated_packets|masks_never': 'crates/'},
     'A warning of the checker': {'TextTooWide': ''},
     'The text of a message': {'no frame could be read': 'crates/'},
-    'A subcommand of the checker': {'Options::Diff|DiffOptions|run_diff|"diff"': 'crates/', 'DrawOptions|"draw"': 'crates/check_words'},
+    'A subcommand of the checker': {'Options::Diff|DiffOptions|run_diff|"diff"': 'crates/', 'DrawOptions|"draw"': 'crates/check_options'},
     'A call for C': {'vt_lost|TellsLost|screen::lost|vt_limits_of|vt_text_of_limits|WritesLimits|dialog::limits': ''},
 }
 
 # Files that no recipe has to name, and why.
 APART = {
     'crates/check_tool/src/check/config.rt': 'its select is an option',
-    'crates/check_words/src/check.rt': 'its select is an option',
+    'crates/check_options/src/check.rt': 'its select is an option',
     'crates/vt_terminal/proofs/*/Proof.antt': 'scripts/export_proofs.py writes them',
     'scripts/recipes.py': 'it has the words of all examples',
-    'crates/check_words/src/options.rt': 'its "select" chooses codes; a subcommand names it',
+    'crates/check_options/src/options.rt': 'its "select" chooses codes; a subcommand names it',
     'scripts/testing/consoles.py': 'its pool may have any refusal',
     'bindings/python/build/*': 'a build leaves them',
     'bindings/rust/target/*': 'a build leaves them',

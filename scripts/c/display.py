@@ -144,7 +144,7 @@ def check_lines(programs, kind, pool, log):
     return f'{lines + 1} times, {count} elements'
 
 
-def check_words(programs, kind):
+def check_options(programs, kind):
     """Wrong words and files that cannot be read are told, with the status."""
     for words, wanted in [(['--pool', 'pool.iop'], 2), (['--lines', '3'], 2), (['--log', 'hide.log', '--lines', '-1'], 2), (['--boxes', '--shot', 'none.bmp'], 2), (['--none'], 2), (['--pool', 'none.iop', '--owner', '80'], 1),
                           (['--pool', 'fault-1-truncated.iop', '--owner', '80'], 1), (['--pool', 'pool.iop', '--owner', '26'], 1),
@@ -155,7 +155,7 @@ def check_words(programs, kind):
 
 def test_display(tests, programs):
     for kind in ['display', 'display-sanitized']:
-        tests.run(f'{kind} words', check_words, programs, kind)
+        tests.run(f'{kind} words', check_options, programs, kind)
         for pool in ['kinds.iop', 'sprayer.iop']:
             tests.run(f'{kind} elements of {pool}', check_masks, programs, kind, pool)
         tests.run(f'{kind} elements through sprayer.log', check_lines, programs, kind, 'sprayer.iop', 'sprayer.log')

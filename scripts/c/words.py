@@ -47,7 +47,7 @@ def traced(log, *pool):
     return lines
 
 
-def check_words(programs, kind, log, *pool):
+def check_options(programs, kind, log, *pool):
     need(SEGYOLANT_LOG)
     path = plain(programs.folder, log)
     status, out, messages = run([programs.get(kind), path, *pool], EXAMPLES)
@@ -62,4 +62,4 @@ def check_words(programs, kind, log, *pool):
 def test_words(tests, programs):
     for kind in ['words', 'words-sanitized']:
         for words in LOGS:
-            tests.run(f'{kind} of {words[0]}', check_words, programs, kind, *words)
+            tests.run(f'{kind} of {words[0]}', check_options, programs, kind, *words)

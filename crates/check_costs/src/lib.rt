@@ -5,7 +5,7 @@
 //! - `event_costs` returns the `EventCost` of each event of a pool at which macros run.
 //! - `laws` has the theorem that each number is the sum of those below it.
 //!
-//! How the costs are printed is in check_tool. Come here to ask how many steps an event costs, and by which commands.
+//! How the costs are printed is in check_reports. Come here to ask how many steps an event costs, and by which commands.
 //!
 //! docs/PROFILE.md, "Costs and budgets", has the rules. The pool need not be acceptable.
 #![tactic(auto)]

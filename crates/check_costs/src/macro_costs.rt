@@ -156,9 +156,10 @@ fn command_steps(pool: &CostedPool<'_>, hide: &Option<EventCost>, command: &Comm
 fn hide_steps(hide: &Option<EventCost>, command: &Command<'_>) -> u64
     ensures { result ≡ shares.steps_of (hide_by command.now hide.now) }
 {
-    match command {
-        Command::ChangeActiveMask { .. } => steps_of(hide),
-        _ => 0,
+    if let Command::ChangeActiveMask { .. } = command {
+        steps_of(hide)
+    } else {
+        0
     }
 }
 
@@ -170,13 +171,12 @@ fn put_hide(
 ) -> Result<(), AllocError>
     ensures { OnOk result (shares.new.items ≡ shares.old.items ++ map Share.MayHide (option_to_list (hide_by command.now hide.now))) }
 {
-    match (command, hide) {
-        (Command::ChangeActiveMask { .. }, Some(event)) => {
-            shares.push(Share::MayHide(*event))?;
-            Ok(())
-        }
-        _ => Ok(()),
+    if let Command::ChangeActiveMask { .. } = command
+        && let Some(event) = hide
+    {
+        shares.push(Share::MayHide(*event))?;
     }
+    Ok(())
 }
 
 /// Appends an event, if macros run at it.

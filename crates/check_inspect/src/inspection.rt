@@ -1,13 +1,14 @@
 //! The inspection of a pool's bytes.
 
-ghost use Rattle.std.specs.Prelude.{◌≡◌, ◌≤◌, ◌<◌, ◌+◌, ◌^◌, length, map, IfOk, IfSome, IsSome};
+ghost use Rattle.std.specs.Prelude.{◌≡◌, ◌≤◌, ◌<◌, ◌+◌, ◌^◌, ◌++◌, length, map, IfOk, IfSome, IsSome};
 ghost use Rattle.vt_stores.specs.Stores.{object_at};
-ghost use Rattle.check_inspect.specs.Inspections.{IsInspection, unread_notes};
+ghost use Rattle.check_inspect.specs.Inspections.{IsInspection, unread_notes, passed_notes};
 ghost use Rattle.check_inspect.specs.Places.{HasOffset, IsOffset, IsRecordOf, place_of};
 
 use crate::finding::{Finding, FindingPlace};
+use crate::passed::put_judged;
 use crate::rules::put_findings;
-use check_reading::{ObjectRecord, PoolReading, ReplacedRecord, read_past_faults};
+use check_reading::{ObjectRecord, PassedRecord, PoolReading, ReplacedRecord, read_past_faults};
 use std::alloc::{AllocError, Global};
 use vt_objects::{ObjectId, SortedStore, Store};
 use vt_pool::PoolFault;
@@ -23,6 +24,9 @@ pub enum Note {
     UnknownTriggers,
     /// Macros trigger each other in a circle, so no costs are known: rule 12 was not judged.
     UnknownCosts,
+    /// Records are passed over, so what they refer to is not known: no object is listed as unused, and no reference to one of them as missing.
+    /// The other rules are judged as if these objects had no kind, no children and no macros.
+    PassedOver,
 }
 
 /// The result of an inspection.
@@ -34,6 +38,8 @@ pub struct Inspection {
     pub records: Vec<ObjectRecord>,
     /// The replaced records, in the order of their bytes.
     pub replaced: Vec<ReplacedRecord>,
+    /// The records of types that this terminal leaves out, in the order of their bytes. Each has a finding.
+    pub passed: Vec<PassedRecord>,
     /// All findings: the faults of records first, then the broken rules in their order. Empty exactly if the pool is acceptable.
     pub findings: Vec<Finding>,
     /// What was not judged.
@@ -86,15 +92,19 @@ pub fn inspect(alloc: Global, bytes: &[u8]) -> Result<Inspection, AllocError>
         records,
         replaced,
         faults,
+        passed,
         unread,
     } = read_past_faults(alloc, bytes)?;
     let mut findings = fault_findings(alloc, faults.as_slice())?;
-    let mut notes = unread_notes(alloc, unread)?;
-    put_findings(alloc, &objects, unread.is_none(), &mut findings, &mut notes)?;
+    let mut of_rules = Vec::new(alloc);
+    let mut notes = reading_notes(alloc, unread, passed.as_slice())?;
+    put_findings(alloc, &objects, unread.is_none(), &mut of_rules, &mut notes)?;
+    put_judged(alloc, of_rules, passed.as_slice(), &mut findings)?;
     Ok(Inspection {
         objects,
         records,
         replaced,
+        passed,
         findings,
         notes,
     })
@@ -111,13 +121,20 @@ fn fault_findings(alloc: Global, faults: &[PoolFault]) -> Result<Vec<Finding>, A
     Ok(findings)
 }
 
-/// The note on bytes that were not read.
-fn unread_notes(alloc: Global, unread: Option<usize>) -> Result<Vec<Note>, AllocError>
-    ensures { IfOk result (λ notes. notes.items ≡ unread_notes unread) }
+/// The notes on bytes that were not read, and on records that are passed over.
+fn reading_notes(
+    alloc: Global,
+    unread: Option<usize>,
+    passed: &[PassedRecord],
+) -> Result<Vec<Note>, AllocError>
+    ensures { IfOk result (λ notes. notes.items ≡ unread_notes unread ++ passed_notes passed.now) }
 {
     let mut notes = Vec::new(alloc);
     if let Some(at) = unread {
         notes.push(Note::Unread { at })?;
+    }
+    if !passed.is_empty() {
+        notes.push(Note::PassedOver)?;
     }
     Ok(notes)
 }

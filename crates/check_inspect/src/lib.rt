@@ -14,13 +14,14 @@ mod finding;
 mod inclusions;
 mod inspection;
 mod macros;
+mod passed;
 mod references;
 mod rules;
 mod targets;
 mod triggers;
 mod working_sets;
 
-pub use check_reading::{ObjectRecord, ReplacedRecord};
+pub use check_reading::{ObjectRecord, PassedRecord, ReplacedRecord};
 pub use finding::{Finding, FindingPlace, ReferenceAt, Spot};
 pub use inspection::{Inspection, Note, inspect};
 

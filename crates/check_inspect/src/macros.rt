@@ -151,19 +151,20 @@ fn without_attribute(
     if has_attribute(objects, command) {
         return None;
     }
-    match *command {
-        Command::ChangeAttribute {
-            id: object,
-            number,
-            ..
-        } => Some(Finding::MacroValue {
-            id,
-            at,
-            object,
-            attribute: number,
-        }),
-        _ => None,
-    }
+    let Command::ChangeAttribute {
+        id: object,
+        number,
+        ..
+    } = *command
+    else {
+        return None;
+    };
+    Some(Finding::MacroValue {
+        id,
+        at,
+        object,
+        attribute: number,
+    })
 }
 
 /// The function of a macro command: its first byte.

@@ -3,25 +3,25 @@
 ghost use Rattle.std.specs.Prelude.{◌≡◌, IfOk, codes};
 ghost use Rattle.serde_json.specs.Data as trees;
 ghost use Rattle.serde_json.specs.View.{view};
-ghost use Rattle.check_json.specs.Members.{cell_data, with_cells};
+ghost use Rattle.check_json.specs.Members.{plain_data, with_plain};
 
 use serde_json::{Map, Value};
 use std::alloc::{AllocError, Global};
 
 /// The value of a plain member.
 #[derive(Clone, Copy)]
-pub enum Cell<'a> {
+pub enum PlainValue<'a> {
     Number(u64),
     Text(&'a str),
 }
 
-impl Cell<'_> {
+impl PlainValue<'_> {
     fn value(&self, alloc: Global) -> Result<Value, AllocError>
-        ensures { IfOk result (λ v. view v ≡ cell_data self.now) }
+        ensures { IfOk result (λ v. view v ≡ plain_data self.now) }
     {
         match self {
-            Cell::Number(number) => Ok(Value::from(*number)),
-            Cell::Text(text) => Ok(Value::String(String::from_str(alloc, text)?)),
+            PlainValue::Number(number) => Ok(Value::from(*number)),
+            PlainValue::Text(text) => Ok(Value::String(String::from_str(alloc, text)?)),
         }
     }
 }
@@ -30,9 +30,9 @@ impl Cell<'_> {
 pub(crate) fn object_with(
     alloc: Global,
     object: Value,
-    members: &[(&str, Cell<'_>)],
+    members: &[(&str, PlainValue<'_>)],
 ) -> Result<Value, AllocError>
-    ensures { IfOk result (λ v. view v ≡ trees.object (with_cells (trees.member (codes "object") (view object) trees.no_members) members.now)) }
+    ensures { IfOk result (λ v. view v ≡ trees.object (with_plain (trees.member (codes "object") (view object) trees.no_members) members.now)) }
 {
     let mut map = Map::new(alloc);
     serde_json::put(&mut map, alloc, "object", object)?;

@@ -5,7 +5,7 @@ ghost use Rattle.serde_json.specs.View.{view};
 ghost use Rattle.check_json.specs.Json as json_of;
 
 use crate::details::object_value;
-use crate::members::{Cell, object_with};
+use crate::members::{PlainValue, object_with};
 use check_text::CheckedPool;
 use check_values::{ShortVariable, ValueWarning};
 use serde_json::{Value, json};
@@ -25,34 +25,34 @@ pub(crate) fn value_warning_details(
             alloc,
             object,
             &[
-                ("field", Cell::Text(limited.field.name())),
-                ("value", Cell::Number(u64::from(limited.value))),
+                ("field", PlainValue::Text(limited.field.name())),
+                ("value", PlainValue::Number(u64::from(limited.value))),
             ],
         ),
         ValueWarning::EmptyRange { min, max, .. } => object_with(
             alloc,
             object,
             &[
-                ("max", Cell::Number(u64::from(*max))),
-                ("min", Cell::Number(u64::from(*min))),
+                ("max", PlainValue::Number(u64::from(*max))),
+                ("min", PlainValue::Number(u64::from(*min))),
             ],
         ),
         ValueWarning::OutOfRange(it) => object_with(
             alloc,
             object,
             &[
-                ("field", Cell::Text(it.field.name())),
-                ("max", Cell::Number(u64::from(it.max))),
-                ("min", Cell::Number(u64::from(it.min))),
-                ("value", Cell::Number(u64::from(it.value))),
+                ("field", PlainValue::Text(it.field.name())),
+                ("max", PlainValue::Number(u64::from(it.max))),
+                ("min", PlainValue::Number(u64::from(it.min))),
+                ("value", PlainValue::Number(u64::from(it.value))),
             ],
         ),
         ValueWarning::NoItem { value, items, .. } => object_with(
             alloc,
             object,
             &[
-                ("items", Cell::Number(u64::from(*items))),
-                ("value", Cell::Number(u64::from(*value))),
+                ("items", PlainValue::Number(u64::from(*items))),
+                ("value", PlainValue::Number(u64::from(*value))),
             ],
         ),
         ValueWarning::PictureBytes {
@@ -63,27 +63,27 @@ pub(crate) fn value_warning_details(
             alloc,
             object,
             &[
-                ("bytes", Cell::Number(*bytes)),
-                ("expected", Cell::Number(*expected)),
+                ("bytes", PlainValue::Number(*bytes)),
+                ("expected", PlainValue::Number(*expected)),
             ],
         ),
         ValueWarning::HalfPair { bytes, .. } => {
-            object_with(alloc, object, &[("bytes", Cell::Number(*bytes))])
+            object_with(alloc, object, &[("bytes", PlainValue::Number(*bytes))])
         }
         ValueWarning::FewPoints { points, .. } => {
             object_with(
                 alloc,
                 object,
-                &[("points", Cell::Number(u64::from(*points)))],
+                &[("points", PlainValue::Number(u64::from(*points)))],
             )
         }
         ValueWarning::PointOutside(it) => object_with(
             alloc,
             object,
             &[
-                ("index", Cell::Number(it.index as u64)),
-                ("x", Cell::Number(u64::from(it.point.x))),
-                ("y", Cell::Number(u64::from(it.point.y))),
+                ("index", PlainValue::Number(it.index as u64)),
+                ("x", PlainValue::Number(u64::from(it.point.x))),
+                ("y", PlainValue::Number(u64::from(it.point.y))),
             ],
         ),
         ValueWarning::ShortVariable(it) => short_details(alloc, source, object, *it),
@@ -91,24 +91,24 @@ pub(crate) fn value_warning_details(
             alloc,
             object,
             &[
-                ("event", Cell::Number(u64::from(*event))),
-                ("index", Cell::Number(*index as u64)),
+                ("event", PlainValue::Number(u64::from(*event))),
+                ("index", PlainValue::Number(*index as u64)),
             ],
         ),
         ValueWarning::InputThere { index, id, .. } => object_with(
             alloc,
             object,
             &[
-                ("index", Cell::Number(*index as u64)),
-                ("input_id", Cell::Number(u64::from(id.raw()))),
+                ("index", PlainValue::Number(*index as u64)),
+                ("input_id", PlainValue::Number(u64::from(id.raw()))),
             ],
         ),
         ValueWarning::SameColour { font, colour, .. } => object_with(
             alloc,
             object,
             &[
-                ("colour", Cell::Number(u64::from(*colour))),
-                ("font_id", Cell::Number(u64::from(font.raw()))),
+                ("colour", PlainValue::Number(u64::from(*colour))),
+                ("font_id", PlainValue::Number(u64::from(font.raw()))),
             ],
         ),
         ValueWarning::SameCode {
@@ -120,9 +120,9 @@ pub(crate) fn value_warning_details(
             alloc,
             object,
             &[
-                ("code", Cell::Number(u64::from(*code))),
-                ("index", Cell::Number(*index as u64)),
-                ("key_id", Cell::Number(u64::from(key.raw()))),
+                ("code", PlainValue::Number(u64::from(*code))),
+                ("index", PlainValue::Number(*index as u64)),
+                ("key_id", PlainValue::Number(u64::from(key.raw()))),
             ],
         ),
         ValueWarning::NoActiveMask { .. }
@@ -132,9 +132,9 @@ pub(crate) fn value_warning_details(
             alloc,
             object,
             &[
-                ("first", Cell::Number(u64::from(it.language.first))),
-                ("index", Cell::Number(it.index as u64)),
-                ("second", Cell::Number(u64::from(it.language.second))),
+                ("first", PlainValue::Number(u64::from(it.language.first))),
+                ("index", PlainValue::Number(it.index as u64)),
+                ("second", PlainValue::Number(u64::from(it.language.second))),
             ],
         ),
     }

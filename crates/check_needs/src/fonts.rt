@@ -37,8 +37,8 @@ pub fn cell(size: u8) -> Option<Area>
 pub(crate) fn cell_at(objects: &SortedStore, font: ObjectId) -> Option<Area>
     ensures { result ≡ cell_at objects.now font }
 {
-    match objects.get(font) {
-        Some(Object::Font(o)) => cell(o.size),
-        _ => None,
-    }
+    let Some(Object::Font(o)) = objects.get(font) else {
+        return None;
+    };
+    cell(o.size)
 }

@@ -139,20 +139,20 @@ pub(crate) fn mask_children(object: &Object<Vec<u8>>) -> &[Child]
 pub(crate) fn key_children(object: &Object<Vec<u8>>) -> &[Child]
     ensures { result.now ≡ spec.key_children (seen object.now) }
 {
-    match object {
-        Object::Key(o) => o.children.as_slice(),
-        _ => &[],
-    }
+    let Object::Key(o) = object else {
+        return &[];
+    };
+    o.children.as_slice()
 }
 
 /// The number of keys of a soft key mask; 0 for other objects.
 pub(crate) fn key_count(object: &Object<Vec<u8>>) -> u8
     ensures { result ≡ spec.key_count (seen object.now) }
 {
-    match object {
-        Object::SoftKeyMask(o) => o.keys.len(),
-        _ => 0,
-    }
+    let Object::SoftKeyMask(o) = object else {
+        return 0;
+    };
+    o.keys.len()
 }
 
 /// The greatest colour number of an object; 0 for an object without a colour.
@@ -208,10 +208,7 @@ pub fn has_font(objects: &SortedStore, size: u8) -> bool
 fn is_font_of(object: &Object<Vec<u8>>, size: u8) -> bool
     ensures { result ≡ spec.is_font_of size (seen object.now) }
 {
-    match object {
-        Object::Font(o) => o.size == size,
-        _ => false,
-    }
+    matches!(object, Object::Font(o) if o.size == size)
 }
 
 /// Whether an object is of a kind.

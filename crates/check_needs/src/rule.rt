@@ -178,13 +178,14 @@ fn put_extra_keys(
 ) -> Result<(), AllocError>
     ensures { OnOk result (found.new.items ≡ found.old.items ++ spec.extra_keys sizes id (seen object.now)) }
 {
-    match object {
-        Object::SoftKeyMask(o) if o.keys.len() > sizes.keys => found.push(Warning::ExtraKeys {
+    if let Object::SoftKeyMask(o) = object
+        && o.keys.len() > sizes.keys
+    {
+        found.push(Warning::ExtraKeys {
             id,
             keys: o.keys.len(),
             most: sizes.keys,
-        })?,
-        _ => {}
+        })?;
     }
     Ok(())
 }

@@ -88,10 +88,10 @@ fn text_shown<'a>(objects: &'a SortedStore, variable: ObjectId, own: &'a [u8]) -
     if variable.is_null() {
         return Some(own);
     }
-    match objects.get(variable) {
-        Some(Object::StringVariable(o)) => Some(o.text.as_slice()),
-        _ => None,
-    }
+    let Some(Object::StringVariable(o)) = objects.get(variable) else {
+        return None;
+    };
+    Some(o.text.as_slice())
 }
 
 /// The field of a text.

@@ -1,2 +1,3 @@
 -- The definitions used in the contracts of check_reading.
+pub mod Passed
 pub mod Readings

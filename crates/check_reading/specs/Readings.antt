@@ -1,6 +1,6 @@
--- The records of a pool's bytes, with reading going on behind a wrong scale and wrong decimals (docs/PROFILE.md, "Pools
--- and faults", "All faults").
-use Rattle.std.specs.Prelude.{◌≡◌, ◌<◌, ◌==◌, ℕ, ◌+◌, ◌-◌, Bool, true, false, if◌then◌else◌, List, [], ◌∷◌, ◌++◌, length, map, reverse, slice_set, IsTrue, Option, Some, None}
+-- The records of a pool's bytes, with reading going on behind a wrong scale, wrong decimals, and a type that this terminal leaves out
+-- (docs/PROFILE.md, "Pools and faults", "All faults").
+use Rattle.std.specs.Prelude.{◌≡◌, ◌<◌, ◌==◌, ℕ, ◌+◌, ◌-◌, Bool, true, false, if◌then◌else◌, List, [], ◌∷◌, ◌++◌, length, drop, map, reverse, slice_set, IsTrue, Option, Some, None}
 use Rattle.std.specs.List.{AllByRecursion}
 use Rattle.vt_kinds.specs.Ids.{null_id}
 use Rattle.vt_kinds.specs.Records.{Seen, seen, kind_of, record_of, HasRecord}
@@ -8,10 +8,13 @@ use Rattle.vt_stores.specs.Stores.{Objects, by_rising_id}
 use Rattle.vt_records.specs.declared.fault.PoolFault.{PoolFault}
 use Rattle.vt_records.specs.declared.record_fault.RecordFault.{RecordFault}
 use Rattle.vt_records.specs.declared.record_fault.RecordFault.TheVariants as stops
+use Rattle.vt_records.specs.Faults.{id_at, type_at}
 use Rattle.vt_records.specs.RecordFaults.{IsStop, fault_at}
 use Rattle.check_reading.specs.declared.pool_reading.ObjectRecord.{ObjectRecord}
 use Rattle.check_reading.specs.declared.pool_reading.PoolReading.{PoolReading}
 use Rattle.check_reading.specs.declared.pool_reading.ReplacedRecord.{ReplacedRecord}
+use Rattle.check_reading.specs.declared.passed.PassedRecord.{PassedRecord}
+use Rattle.check_reading.specs.Passed.{passed_size}
 use Rattle.check_reading.specs.declared.records.FoundRecord.{FoundRecord}
 use Rattle.check_reading.specs.declared.records.Records.{Records}
 
@@ -47,14 +50,17 @@ mended_at at (stops.Decimals field) bytes = written bytes (at + field) (7 ∷ []
 mended_at at fault bytes = bytes
 
 -- Behind the fault no length is known. `left` wrong fields of the record may still be mended.
-pub record EndsReading (left : ℕ) (fault : RecordFault) : Type 0 where
+pub record EndsReading (left : ℕ) (bytes : List ℕ) (fault : RecordFault) : Type 0 where
   pub no_memory : wants_memory fault ≡ false
   pub not_mended : IsTrue (is_mendable fault) → left ≡ 0
+  pub not_passed : passed_size fault bytes ≡ None
 
--- a step of the reading: a record, a fault that is mended, or a fault that ends the reading
+-- a step of the reading: a record; a fault that is mended; the fault of a record that is passed over, with its ID, its type and its
+-- number of bytes; or a fault that ends the reading
 pub data Step : Type 0 where
   Found : ℕ → Seen → Step
   Mended : RecordFault → Step
+  Passed : RecordFault → ℕ → ℕ → ℕ → Step
   Ended : RecordFault → Step
 
 -- the most wrong fields of one record that are mended: it has one scale and one number of decimals
@@ -68,7 +74,10 @@ IsReading left bytes (Found id o ∷ steps) =
     HasRecord id o × ((rest : List ℕ) × (bytes ≡ record_of id o ++ rest) × IsReading most_mended rest steps)
 IsReading left bytes (Mended fault ∷ steps) =
     (0 < left) × IsTrue (is_mendable fault) × IsStop bytes fault × IsReading (left - 1) (mended fault bytes) steps
-IsReading left bytes (Ended fault ∷ steps) = (0 < length bytes) × IsStop bytes fault × EndsReading left fault × (steps ≡ [])
+IsReading left bytes (Passed fault id number size ∷ steps) =
+    IsStop bytes fault × (passed_size fault bytes ≡ Some size) × (id ≡ id_at bytes) × (number ≡ type_at bytes)
+    × IsReading most_mended (drop size bytes) steps
+IsReading left bytes (Ended fault ∷ steps) = (0 < length bytes) × IsStop bytes fault × EndsReading left bytes fault × (steps ≡ [])
 
 -- ---- what the steps come to, for bytes that begin at an index of the pool
 
@@ -82,19 +91,30 @@ abbrev pub found_from : ℕ → List Step → List FoundAt
 found_from at [] = []
 found_from at (Found id o ∷ steps) = record { id = id; at = at; object = o } ∷ found_from (at + length (record_of id o)) steps
 found_from at (Mended fault ∷ steps) = found_from at steps
+found_from at (Passed fault id number size ∷ steps) = found_from (at + size) steps
 found_from at (Ended fault ∷ steps) = []
 
 abbrev pub faults_from : ℕ → List Step → List PoolFault
 faults_from at [] = []
 faults_from at (Found id o ∷ steps) = faults_from (at + length (record_of id o)) steps
 faults_from at (Mended fault ∷ steps) = fault_at fault at ∷ faults_from at steps
+faults_from at (Passed fault id number size ∷ steps) = fault_at fault at ∷ faults_from (at + size) steps
 faults_from at (Ended fault ∷ steps) = fault_at fault at ∷ []
+
+-- the records that are passed over
+abbrev pub passed_from : ℕ → List Step → List PassedRecord
+passed_from at [] = []
+passed_from at (Found id o ∷ steps) = passed_from (at + length (record_of id o)) steps
+passed_from at (Mended fault ∷ steps) = passed_from at steps
+passed_from at (Passed fault id number size ∷ steps) = record { id = id; number = number; at = at } ∷ passed_from (at + size) steps
+passed_from at (Ended fault ∷ steps) = []
 
 -- the index of the first byte that was not read
 abbrev pub unread_from : ℕ → List Step → Option ℕ
 unread_from at [] = None
 unread_from at (Found id o ∷ steps) = unread_from (at + length (record_of id o)) steps
 unread_from at (Mended fault ∷ steps) = unread_from at steps
+unread_from at (Passed fault id number size ∷ steps) = unread_from (at + size) steps
 unread_from at (Ended fault ∷ steps) = Some at
 
 abbrev pub found_at : FoundRecord → FoundAt
@@ -106,6 +126,7 @@ pub record AreRead (bytes : List ℕ) (records : Records) : Type 0 where
   pub reading : IsReading most_mended bytes steps
   pub found : map found_at records.found.items ≡ found_from 0 steps
   pub faults : records.faults.items ≡ faults_from 0 steps
+  pub passed : records.passed.items ≡ passed_from 0 steps
   pub unread : records.unread ≡ unread_from 0 steps
 
 -- ---- the objects in force
@@ -162,4 +183,5 @@ pub record IsPoolReading (bytes : List ℕ) (r : PoolReading) : Type 0 where
   pub records : r.records.items ≡ map (record_in (found_from 0 steps)) r.objects
   pub replaced : r.replaced.items ≡ replaced_in (found_from 0 steps)
   pub faults : r.faults.items ≡ faults_from 0 steps
+  pub passed : r.passed.items ≡ passed_from 0 steps
   pub unread : r.unread ≡ unread_from 0 steps

@@ -5,6 +5,7 @@ ghost use Rattle.vt_stores.specs.Stores.{AreStored};
 ghost use Rattle.check_reading.specs.Readings.{IsPoolReading};
 
 use crate::in_force::{InForce, in_force};
+use crate::passed::PassedRecord;
 use crate::records::{Records, read_records};
 use std::alloc::{AllocError, Global};
 use vt_objects::{Kind, ObjectId, SortedStore};
@@ -45,12 +46,14 @@ pub struct PoolReading {
     pub replaced: Vec<ReplacedRecord>,
     /// The faults of the records, in the order of their bytes. Empty exactly if the bytes are whole records.
     pub faults: Vec<PoolFault>,
+    /// The records of types that this terminal leaves out, in the order of their bytes. Each has a fault, and those after it are read.
+    pub passed: Vec<PassedRecord>,
     /// The index of the first byte that could not be read, if there is one.
     pub unread: Option<usize>,
 }
 
-/// Reads the records of a pool to the end of the bytes, or to the first one whose length is unknown. A wrong scale is
-/// read as 1, and wrong decimals as 7.
+/// Reads the records of a pool to the end of the bytes, or to the first one whose length is unknown. A wrong scale is read as 1, and wrong
+/// decimals as 7. A record of a type that this terminal leaves out is passed over, if its length is known.
 ///
 /// # Errors
 /// A refused allocation. The bytes are as they were.
@@ -61,6 +64,7 @@ pub fn read_past_faults(alloc: Global, bytes: &[u8]) -> Result<PoolReading, Allo
     let Records {
         found,
         faults,
+        passed,
         unread,
     } = read_records(alloc, bytes)?;
     let InForce {
@@ -73,6 +77,7 @@ pub fn read_past_faults(alloc: Global, bytes: &[u8]) -> Result<PoolReading, Allo
         records,
         replaced,
         faults,
+        passed,
         unread,
     })
 }

@@ -5,6 +5,7 @@ ghost use Rattle.vt_kinds.specs.Records.{seen, record_of, HasRecord};
 ghost use Rattle.vt_records.specs.RecordFaults.{IsStop};
 ghost use Rattle.check_reading.specs.Readings.{AreRead, wants_memory, is_mendable, mended_at};
 
+use crate::passed::{PassedRecord, passed_record, passed_size};
 use std::alloc::{AllocError, Global};
 use vt_objects::{Object, ObjectId};
 use vt_pool::PoolFault;
@@ -30,18 +31,21 @@ pub(crate) struct Records {
     pub(crate) found: Vec<FoundRecord>,
     /// The faults, in the order of their bytes.
     pub(crate) faults: Vec<PoolFault>,
+    /// The records that are passed over, in the order of their bytes. Each has a fault.
+    pub(crate) passed: Vec<PassedRecord>,
     /// The index of the first byte that could not be read, if there is one.
     pub(crate) unread: Option<usize>,
 }
 
-/// Reads records to the end of the bytes, or to the first one whose length is unknown. A wrong scale is read as 1, and
-/// wrong decimals as 7.
+/// Reads records to the end of the bytes, or to the first one whose length is unknown. A wrong scale is read as 1, and wrong decimals
+/// as 7. A record of a type that this terminal leaves out is passed over, if its length is known.
 pub(crate) fn read_records(alloc: Global, bytes: &[u8]) -> Result<Records, AllocError>
     ensures { IfOk result (AreRead bytes.now) }
 {
     let mut mended = Vec::from_slice(alloc, bytes)?;
     let mut found = Vec::new(alloc);
     let mut faults = Vec::new(alloc);
+    let mut passed = Vec::new(alloc);
     let mut at = 0usize;
     let mut left = MOST_MENDED;
     while at < mended.len() {
@@ -58,21 +62,29 @@ pub(crate) fn read_records(alloc: Global, bytes: &[u8]) -> Result<Records, Alloc
             Err(fault) if wants_memory(fault) => return Err(AllocError),
             Err(fault) => {
                 faults.push(fault.at(at))?;
-                if left == 0 || !is_mendable(fault) {
-                    return Ok(Records {
-                        found,
-                        faults,
-                        unread: Some(at),
-                    });
+                if let Some(size) = passed_size(fault, rest_of(&mended, at)) {
+                    passed.push(passed_record(rest_of(&mended, at), at))?;
+                    at += size;
+                    left = MOST_MENDED;
+                } else {
+                    if left == 0 || !is_mendable(fault) {
+                        return Ok(Records {
+                            found,
+                            faults,
+                            passed,
+                            unread: Some(at),
+                        });
+                    }
+                    mend(&mut mended, at, fault);
+                    left -= 1;
                 }
-                mend(&mut mended, at, fault);
-                left -= 1;
             }
         }
     }
     Ok(Records {
         found,
         faults,
+        passed,
         unread: None,
     })
 }

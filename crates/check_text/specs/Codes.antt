@@ -75,6 +75,7 @@ abbrev pub note_code : Note → Text × Text
 note_code (notes.Unread at) = (codes "N01", codes "Unread")
 note_code notes.UnknownTriggers = (codes "N02", codes "UnknownTriggers")
 note_code notes.UnknownCosts = (codes "N03", codes "UnknownCosts")
+note_code notes.PassedOver = (codes "N04", codes "PassedOver")
 
 abbrev pub code_of : Item → Text × Text
 code_of (items.Finding finding) = finding_code finding.now

@@ -30,6 +30,7 @@ abbrev pub note_offset : Note → ℕ
 note_offset (notes.Unread at) = at
 note_offset notes.UnknownTriggers = 0
 note_offset notes.UnknownCosts = 0
+note_offset notes.PassedOver = 0
 
 -- the first byte of the record of an object
 pub record IsRecordAt (i : Inspection) (id at : ℕ) : Type 0 where

@@ -78,11 +78,33 @@ impl<'a> CheckedPool<'a> {
         let Inspection {
             records,
             replaced,
+            passed,
             ..
         } = self.inspection;
         let in_force = records.iter().map(|record| record.at);
         let replaced = replaced.iter().map(|record| record.at);
-        in_force.chain(replaced).filter(|begin| *begin < at).max()
+        let passed = passed.iter().map(|record| record.at);
+        in_force
+            .chain(replaced)
+            .chain(passed)
+            .filter(|begin| *begin < at)
+            .max()
+    }
+
+    /// Whether all bytes of the pool could be read.
+    pub fn is_read(&self) -> bool {
+        !self
+            .inspection
+            .notes
+            .iter()
+            .any(|note| matches!(note, Note::Unread { .. }))
+    }
+
+    /// Whether the record at an index is passed over, since this terminal leaves out its type.
+    pub fn is_passed(&self, at: usize) -> bool {
+        let passed = self.inspection.passed.as_slice();
+        let next = passed.partition_point(|record| record.at < at);
+        passed.get(next).is_some_and(|record| record.at == at)
     }
 
     /// The message of an item of this pool.
@@ -163,6 +185,6 @@ fn note_offset(note: Note) -> usize
 {
     match note {
         Note::Unread { at } => at,
-        Note::UnknownTriggers | Note::UnknownCosts => 0,
+        Note::UnknownTriggers | Note::UnknownCosts | Note::PassedOver => 0,
     }
 }

@@ -178,5 +178,6 @@ fn note_code(note: Note) -> Code
         Note::Unread { .. } => code_named("N01", "Unread"),
         Note::UnknownTriggers => code_named("N02", "UnknownTriggers"),
         Note::UnknownCosts => code_named("N03", "UnknownCosts"),
+        Note::PassedOver => code_named("N04", "PassedOver"),
     }
 }

@@ -6,9 +6,9 @@ use std::fmt;
 
 /// A message as its line for people, with the severity and the code in a colour by the sequences of ECMA-48, without a newline.
 #[derive(Clone, Copy, Drop)]
-pub struct ColouredLine<'a, 'b> {
+pub(crate) struct ColouredLine<'a, 'b> {
     /// The message.
-    pub message: &'b ItemLine<'a>,
+    pub(crate) message: &'b ItemLine<'a>,
 }
 
 impl fmt::Display for ColouredLine<'_, '_> {

@@ -32,12 +32,11 @@ impl fmt::Display for FaultSentence<'_> {
             }
             PoolFault::UnknownType { at } => {
                 f.write_str("VT version 3 has no object of this type")?;
-                self.write_record(f, at)?;
-                self.write_before(f, at)
+                self.write_type(f, at)
             }
             PoolFault::LeftOutType { at } => {
                 f.write_str("an auxiliary function or input, which this terminal does not have")?;
-                self.write_record(f, at)
+                self.write_type(f, at)
             }
             PoolFault::Scale { at } => self.write_scale(f, at),
             PoolFault::Decimals { at } => self.write_decimals(f, at),
@@ -53,6 +52,16 @@ impl fmt::Display for FaultSentence<'_> {
 }
 
 impl FaultSentence<'_> {
+    /// Writes the ID and the type of a record of another type, and the record before it. A record that is passed over is what it seems, if all
+    /// bytes after it could be read: then nothing is said of the one before.
+    fn write_type<W: fmt::Write>(&self, f: &mut fmt::Formatter<W>, at: usize) -> fmt::Result {
+        self.write_record(f, at)?;
+        if self.source.is_passed(at) && self.source.is_read() {
+            return Ok(());
+        }
+        self.write_before(f, at)
+    }
+
     /// Writes the ID and the type of the record at an index, if the bytes have them.
     fn write_record<W: fmt::Write>(&self, f: &mut fmt::Formatter<W>, at: usize) -> fmt::Result {
         let Some([low, high, number, ..]) = self.source.bytes.get(at..) else {
@@ -113,8 +122,7 @@ impl FaultSentence<'_> {
     /// The number object whose record has its scale so many bytes before an index.
     fn number_with(&self, at: usize, behind: usize) -> Option<Label<'_>> {
         for (kind, place) in SCALES.iter() {
-            let begin = at.checked_sub(*place)?.checked_sub(behind);
-            if let Some(begin) = begin
+            if let Some(begin) = at.checked_sub(place.saturating_add(behind))
                 && let Some(label) = self.source.label_of_record(begin)
                 && label.kind == Some(*kind)
             {

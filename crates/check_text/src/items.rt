@@ -13,7 +13,8 @@ use vt_objects::{Kind, ObjectId};
 use vt_pool::PoolFault;
 
 /// The findings, then the records that others of another kind replace, then the other replaced records, then the warnings about objects
-/// and those about their values. If bytes could not be read, no object is listed as unused. A number whose scale or decimals are wrong is
+/// and those about their values. If bytes could not be read or records are passed over, no object is listed as
+/// unused. A number whose scale or decimals are wrong is
 /// not listed with a text that is too wide.
 pub fn items_of<'a>(
     alloc: Global,
@@ -35,11 +36,11 @@ pub fn items_of<'a>(
             items.push(Item::Replaced(replaced))?;
         }
     }
-    let is_read = !inspection.notes.iter().any(is_unread);
+    let are_all_known = !inspection.notes.iter().any(leaves_references);
     let mended = mended_bytes(alloc, inspection)?;
     for warning in warnings {
         let is_judged = match warning {
-            Warning::Unused { .. } => is_read,
+            Warning::Unused { .. } => are_all_known,
             Warning::TextTooWide(field) => !is_mended(inspection, mended.as_slice(), field.id),
             Warning::TextTooHigh(_) | Warning::Outside { .. } | Warning::ExtraKeys { .. } => true,
         };
@@ -123,7 +124,7 @@ fn is_mended(inspection: &Inspection, mended: &[usize], id: ObjectId) -> bool {
     }
 }
 
-/// Whether a note is on bytes that could not be read.
-fn is_unread(note: &Note) -> bool {
-    matches!(note, Note::Unread { .. })
+/// Whether a note is on bytes or records that may refer to objects that nothing else refers to.
+fn leaves_references(note: &Note) -> bool {
+    matches!(note, Note::Unread { .. } | Note::PassedOver)
 }

@@ -123,6 +123,9 @@ fn note_sentence(note: Note) -> &'static str {
         Note::UnknownCosts => {
             "macros trigger each other in a circle, so costs are not known (R12 OverBudget not judged)"
         }
+        Note::PassedOver => {
+            "records of types that this terminal does not have are passed over, so what they refer to is not known (W02 Unused not judged; R03 Missing and R08 MacroMissing not for their IDs)"
+        }
     }
 }
 

@@ -17,12 +17,13 @@ use crate::check::known::Known;
 use crate::check::lines::Lines;
 use crate::check::sarif::put_document;
 use crate::check::settings::Settings;
-use crate::program::Style;
 use check_inspect::inspect;
 use check_needs::warnings;
-use check_text::{CheckedPool, Item, Names, Severity, Summary, Totals, items_of, summary_of};
+use check_options::{CheckOptions, Format};
+use check_text::{
+    CheckedPool, Item, MessageStyle, Names, Severity, Summary, Totals, items_of, summary_of,
+};
 use check_values::value_warnings;
-use check_words::{CheckOptions, Format};
 use std::alloc::{AllocError, Global};
 use std::io::{self, Write};
 use vt_cli::{Open, Status, read_names, read_pool_file};
@@ -32,7 +33,7 @@ use vt_cli::{Open, Status, read_names, read_pool_file};
 pub(crate) fn run_check<F: Open, W: Write, E: Write>(
     alloc: Global,
     options: &CheckOptions<'_>,
-    look: Style,
+    style: MessageStyle,
     files: &mut F,
     out: &mut W,
     errors: &mut E,
@@ -54,7 +55,7 @@ pub(crate) fn run_check<F: Open, W: Write, E: Write>(
         alloc,
         options,
         base,
-        lines: Lines::new(options.format, look),
+        lines: Lines::new(options.format, style),
         names,
     };
     check.run(&mut known, files, out, errors)

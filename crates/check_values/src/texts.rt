@@ -71,11 +71,11 @@ fn put_if_same(
 ) -> Result<(), AllocError>
     ensures { OnOk result (found.new.items ≡ found.old.items ++ spec.if_same id font colour options (object_at objects.now font)) }
 {
-    match objects.get(font) {
-        Some(Object::Font(o)) if o.colour == colour && is_opaque(options, o.style) => {
-            found.push(ValueWarning::SameColour { id, font, colour })?;
-        }
-        _ => {}
+    if let Some(Object::Font(o)) = objects.get(font)
+        && o.colour == colour
+        && is_opaque(options, o.style)
+    {
+        found.push(ValueWarning::SameColour { id, font, colour })?;
     }
     Ok(())
 }

@@ -5,9 +5,9 @@ ghost use Rattle.std.specs.List.{Contains};
 ghost use Rattle.std.specs.Option.{option_map};
 ghost use Rattle.draw_gallery.specs.Masks as spec;
 
-use crate::refusal::Refusal;
+use crate::refusal::NotDrawn;
 use std::alloc::{AllocError, Global};
-use vt_objects::{Kind, Object, ObjectId, SortedStore};
+use vt_objects::{Kind, Kinds, Object, ObjectId, SortedStore};
 
 /// The data masks and alarm masks of a pool, by rising ID.
 pub(crate) fn masks_of(alloc: Global, objects: &SortedStore) -> Result<Vec<ObjectId>, AllocError>
@@ -24,23 +24,22 @@ pub(crate) fn masks_of(alloc: Global, objects: &SortedStore) -> Result<Vec<Objec
 fn put_mask(id: ObjectId, kind: Kind, masks: &mut Vec<ObjectId>) -> Result<(), AllocError>
     ensures { OnOk result (masks.new.items ≡ masks.old.items ++ spec.mask_of id kind) }
 {
-    match kind {
-        Kind::DataMask | Kind::AlarmMask => masks.push(id)?,
-        _ => {}
+    if Kinds::Masks.contains(kind) {
+        masks.push(id)?;
     }
     Ok(())
 }
 
 /// The first of the masks of a pool.
-pub(crate) fn first_mask(masks: &[ObjectId]) -> Result<ObjectId, Refusal> {
+pub(crate) fn first_mask(masks: &[ObjectId]) -> Result<ObjectId, NotDrawn> {
     match masks.first() {
         Some(mask) => Ok(*mask),
-        None => Err(Refusal::NoMasks),
+        None => Err(NotDrawn::NoMasks),
     }
 }
 
 /// The mask of an ID, among the masks of a pool.
-pub(crate) fn named_mask(masks: &[ObjectId], id: ObjectId) -> Result<ObjectId, Refusal>
+pub(crate) fn named_mask(masks: &[ObjectId], id: ObjectId) -> Result<ObjectId, NotDrawn>
     ensures is { IfOk result (λ mask. mask ≡ id) }
     ensures among { IfOk result (λ mask. Contains masks.now mask) }
 {
@@ -48,23 +47,23 @@ pub(crate) fn named_mask(masks: &[ObjectId], id: ObjectId) -> Result<ObjectId, R
     if masks.contains(&id) {
         Ok(id)
     } else {
-        Err(Refusal::NoMask(id))
+        Err(NotDrawn::NoMask(id))
     }
 }
 
 /// The active mask of the working set, among the masks of a pool. If the pool has several working sets, the last of them counts.
-pub(crate) fn active_mask(masks: &[ObjectId], objects: &SortedStore) -> Result<ObjectId, Refusal>
+pub(crate) fn active_mask(masks: &[ObjectId], objects: &SortedStore) -> Result<ObjectId, NotDrawn>
     ensures active { IfOk result (λ mask. option_map (λ found. found.1) (spec.last_set None objects.now) ≡ Some mask) }
     ensures among { IfOk result (λ mask. Contains masks.now mask) }
 {
     first_mask(masks)?;
     let Some((set, mask)) = last_set(objects) else {
-        return Err(Refusal::NoWorkingSet);
+        return Err(NotDrawn::NoWorkingSet);
     };
     if masks.contains(&mask) {
         Ok(mask)
     } else {
-        Err(Refusal::NotActive { set, mask })
+        Err(NotDrawn::NotActive { set, mask })
     }
 }
 

@@ -1,7 +1,7 @@
 //! Where the objects that are drawn come from.
 
 use crate::{GivenSet, StateFault, pool_left};
-use check_words::Origin;
+use check_options::Origin;
 use std::alloc::{AllocError, Global};
 use std::io::{self, Error, ErrorKind, Write};
 use vt_cli::{Open, StartSet, read_file, read_pool_file};
@@ -126,6 +126,7 @@ fn cure_of<'a>(
         (StateFault::Replay(ReplayFault::TooLong), _) => {
             (log, "; expected a log such as candump -L writes")
         }
-        _ => (log, ""),
+        (StateFault::Pool, None)
+        | (StateFault::Owner | StateFault::Replay(_) | StateFault::Memory, _) => (log, ""),
     }
 }

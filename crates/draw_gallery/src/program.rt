@@ -3,11 +3,11 @@
 use crate::masks::{active_mask, first_mask, masks_of, named_mask};
 use crate::origin::{path_of, read_origin};
 use crate::page::page_of;
-use crate::refusal::{Refusal, RefusalLine};
+use crate::refusal::{NotDrawn, RefusalLine};
 use check_inspect::inspect;
 use check_needs::Sizes;
+use check_options::{DrawOptions, Drawing};
 use check_text::{CheckedPool, items_of, summary_of};
-use check_words::{DrawOptions, Drawing};
 use draw_picture::draw;
 use std::alloc::{AllocError, Global};
 use std::io::{self, Write};
@@ -178,7 +178,11 @@ impl Sheet<'_> {
     }
 
     /// The mask. `None` if there is none: then `errors` receives the reason.
-    fn found<E: Write>(&self, mask: Result<ObjectId, Refusal>, errors: &mut E) -> Option<ObjectId> {
+    fn found<E: Write>(
+        &self,
+        mask: Result<ObjectId, NotDrawn>,
+        errors: &mut E,
+    ) -> Option<ObjectId> {
         match mask {
             Ok(mask) => Some(mask),
             Err(refusal) => {

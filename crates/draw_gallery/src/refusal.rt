@@ -6,7 +6,7 @@ use vt_objects::{ObjectId, Store};
 
 /// Why no mask is drawn.
 #[derive(Clone, Copy, PartialEq, Eq)]
-pub(crate) enum Refusal {
+pub(crate) enum NotDrawn {
     /// The pool has no masks.
     NoMasks,
     /// The pool has no working set, so no mask is active.
@@ -25,21 +25,21 @@ pub(crate) struct RefusalLine<'a> {
     /// The masks of the pool.
     pub(crate) masks: &'a [ObjectId],
     /// The cause.
-    pub(crate) refusal: Refusal,
+    pub(crate) refusal: NotDrawn,
 }
 
 impl fmt::Display for RefusalLine<'_> {
     fn fmt<W: fmt::Write>(&self, f: &mut fmt::Formatter<W>) -> fmt::Result {
         write!(f, "segyolant: {}: ", self.source.path)?;
         match self.refusal {
-            Refusal::NoMasks => f.write_str("no Data Mask or Alarm Mask could be read")?,
-            Refusal::NoWorkingSet => f.write_str("no Working Set is there, so no mask is active")?,
-            Refusal::NotActive { set, mask } => {
+            NotDrawn::NoMasks => f.write_str("no Data Mask or Alarm Mask could be read")?,
+            NotDrawn::NoWorkingSet => f.write_str("no Working Set is there, so no mask is active")?,
+            NotDrawn::NotActive { set, mask } => {
                 let set = self.source.label(set);
                 write!(f, "the active mask of {set} is ")?;
                 self.write_other(f, mask, ", which is")?;
             }
-            Refusal::NoMask(id) => self.write_other(f, id, " is")?,
+            NotDrawn::NoMask(id) => self.write_other(f, id, " is")?,
         }
         self.write_cure(f)
     }

@@ -123,10 +123,10 @@ pub(crate) fn soft_keys<S: Store>(store: &S, mask: ObjectId) -> &[ObjectId]
     ensures keys { result.now ≡ soft_keys (S.contents store.now) mask }
     ensures most { length result.now ≤ 255 }
 {
-    match store.get(soft_key_mask(store, mask)) {
-        Some(Object::SoftKeyMask(o)) => o.keys.as_slice(),
-        _ => &[],
-    }
+    let Some(Object::SoftKeyMask(o)) = store.get(soft_key_mask(store, mask)) else {
+        return &[];
+    };
+    o.keys.as_slice()
 }
 
 /// The number of keys in a column.

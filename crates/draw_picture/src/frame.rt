@@ -3,6 +3,7 @@
 ghost use Rattle.std.specs.Prelude.{◌≡◌};
 ghost use Rattle.vt_kinds.specs.Records.{seen};
 ghost use Rattle.draw_picture.specs.Frames.{fine_area, frame_of};
+ghost use Rattle.draw_picture.specs.Listings.{height_in, width_in};
 
 use check_needs::{Area, Sizes, extent_of};
 use vt_objects::Object;
@@ -37,6 +38,28 @@ pub(crate) fn frame_of(sizes: Sizes, object: &Object<Vec<u8>>) -> Framing
             height: extent.height,
         },
         None => Framing::Whole,
+    }
+}
+
+/// The width of a frame.
+pub(crate) fn width_in(frame: Framing) -> u32
+    ensures { result ≡ width_in frame }
+{
+    match frame {
+        Framing::Whole => 0,
+        Framing::Clipped { width, .. } => width,
+        Framing::Fine(area) => u32::from(area.width).max(1),
+    }
+}
+
+/// The height of a frame.
+pub(crate) fn height_in(frame: Framing) -> u32
+    ensures { result ≡ height_in frame }
+{
+    match frame {
+        Framing::Whole => 0,
+        Framing::Clipped { height, .. } => height,
+        Framing::Fine(area) => u32::from(area.height).max(1),
     }
 }
 

@@ -13,7 +13,7 @@ ghost use Rattle.draw_picture.specs.Listings.{Lists, listed, listed_for};
 ghost use Rattle.draw_picture.specs.NearPlaces.{IsNear, IsNearSpot};
 
 use crate::document::{GAP, MOST_INCLUSIONS, key_places, soft_keys, width_of};
-use crate::frame::{Framing, frame_of};
+use crate::frame::{Framing, frame_of, height_in, width_in};
 use crate::walk::{if_visible, item};
 use check_needs::Sizes;
 use std::alloc::{AllocError, Global};
@@ -156,28 +156,6 @@ fn less(a: i32, b: i32) -> i32
     ensures { result ≡ int_min a b }
 {
     if b < a { b } else { a }
-}
-
-/// The width of a frame.
-pub(crate) fn width_in(frame: Framing) -> u32
-    ensures { result ≡ listings.width_in frame }
-{
-    match frame {
-        Framing::Whole => 0,
-        Framing::Clipped { width, .. } => width,
-        Framing::Fine(area) => u32::from(area.width).max(1),
-    }
-}
-
-/// The height of a frame.
-pub(crate) fn height_in(frame: Framing) -> u32
-    ensures { result ≡ listings.height_in frame }
-{
-    match frame {
-        Framing::Whole => 0,
-        Framing::Clipped { height, .. } => height,
-        Framing::Fine(area) => u32::from(area.height).max(1),
-    }
 }
 
 /// The element of an object at a spot.

@@ -8,8 +8,7 @@ use crate::document::{
     GAP, MOST_ELEMENTS, background_of, begin_picture, end_picture, key_places, walk_all, width_of,
 };
 use crate::elements::{add_pictures, draw_tags};
-use crate::frame::{Framing, frame_of};
-use crate::listing::{height_in, width_in};
+use crate::frame::{Framing, frame_of, height_in, width_in};
 use crate::walk::Walk;
 use check_needs::{Area, Sizes};
 use std::alloc::{AllocError, Global};

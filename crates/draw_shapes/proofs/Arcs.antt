@@ -5,7 +5,7 @@ use Rattle.std.proofs.lemmas.List.{append_assoc, append-nil}
 use Rattle.std.specs.Prelude.{nat_le}
 use Rattle.std.specs.List.{flat_map, list_all}
 use Rattle.vt_stores.proofs.SortedEntries.{both_true}
-use Rattle.draw_svg.specs.declared.points.Point.{Point}
+use Rattle.draw_svg.specs.declared.points.SvgPoint.{SvgPoint}
 use Rattle.draw_shapes.specs.Arcs.{sine, sines, angles}
 
 bounded : (xs : List ℕ) (most : ℕ) → list_all (λ x. nat_le x most) xs ≡ true → (i : ℕ) → get_or xs i 0 ≤ most
@@ -42,6 +42,6 @@ last_angle f turn angle steps text longer total none made is =
     made ∙ ap (λ l. text ++ l) (sym (append-nil (f angle))) ∙ ap (λ n. text ++ flat_map f (angles turn angle n)) (sym none) ∙ is
 
 -- points along angles
-pub through : (f : Point → List ℕ) (g : ℕ → Point) (l : List ℕ) → flat_map f (map g l) ≡ flat_map (λ a. f (g a)) l
+pub through : (f : SvgPoint → List ℕ) (g : ℕ → SvgPoint) (l : List ℕ) → flat_map f (map g l) ≡ flat_map (λ a. f (g a)) l
 through f g [] = refl
 through f g (a ∷ l) = ap (λ k. f (g a) ++ k) (through f g l)

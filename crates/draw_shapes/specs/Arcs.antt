@@ -1,6 +1,6 @@
 -- Arcs of ellipses, in steps of 2 degrees (docs/PROFILE.md, "Angles"). Lengths are in tenths of a pixel.
 use Rattle.std.specs.Prelude.{◌≤◌, ℕ, zero, suc, ◌+◌, ◌-◌, ◌*◌, ◌/◌, ◌%◌, ◌==◌, if◌then◌else◌, List, [], ◌∷◌, map, slice_index_or}
-use Rattle.draw_svg.specs.declared.points.Point.{Point}
+use Rattle.draw_svg.specs.declared.points.SvgPoint.{SvgPoint}
 use Rattle.draw_shapes.specs.declared.shapes.arcs.Oval.{Oval}
 
 -- the sines of the steps in a quarter of a circle, times 10,000
@@ -18,14 +18,14 @@ abbrev pub projected : ℕ → ℕ → ℕ
 projected length sine = length * sine / 10000
 
 -- the point at a step of a quarter, counterclockwise from the right
-abbrev pub in_quarter : Oval → ℕ → ℕ → Point
+abbrev pub in_quarter : Oval → ℕ → ℕ → SvgPoint
 in_quarter o quarter step =
     if quarter == 0 then record { x = o.x + projected o.radius_x (sine (45 - step)); y = o.y - projected o.radius_y (sine step) }
     else if quarter == 1 then record { x = o.x - projected o.radius_x (sine step); y = o.y - projected o.radius_y (sine (45 - step)) }
     else if quarter == 2 then record { x = o.x - projected o.radius_x (sine (45 - step)); y = o.y + projected o.radius_y (sine step) }
     else record { x = o.x + projected o.radius_x (sine step); y = o.y + projected o.radius_y (sine (45 - step)) }
 
-unfoldable pub point_on : Oval → ℕ → Point
+unfoldable pub point_on : Oval → ℕ → SvgPoint
 point_on o step = in_quarter o (step / 45) (step % 45)
 
 -- the steps from one angle to another, counterclockwise; a whole circle from an angle to itself
@@ -41,11 +41,11 @@ angles turn angle zero = angle ∷ []
 angles turn angle (suc steps) = angle ∷ angles turn ((angle + turn) % 180) steps
 
 -- the points of an arc, counterclockwise
-abbrev pub arc : Oval → ℕ → ℕ → List Point
+abbrev pub arc : Oval → ℕ → ℕ → List SvgPoint
 arc o start steps = map (point_on o) (angles 1 (start % 180) steps)
 
 -- the points of an arc, clockwise
-abbrev pub arc_back : Oval → ℕ → ℕ → List Point
+abbrev pub arc_back : Oval → ℕ → ℕ → List SvgPoint
 arc_back o end steps = map (point_on o) (angles 179 (end % 180) steps)
 
 -- the ellipse is in the area of an object

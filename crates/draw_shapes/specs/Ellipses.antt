@@ -8,7 +8,7 @@ use Rattle.draw_svg.specs.declared.attribute.Paint.{Paint}
 use Rattle.draw_svg.specs.declared.attribute.Paint.TheVariants as paints
 use Rattle.draw_svg.specs.declared.element.Element.{Element}
 use Rattle.draw_svg.specs.declared.element.Element.TheVariants as elements
-use Rattle.draw_svg.specs.declared.points.Point.{Point}
+use Rattle.draw_svg.specs.declared.points.SvgPoint.{SvgPoint}
 use Rattle.draw_svg.specs.Elements.{Nodes, None, Along, Empty}
 use Rattle.draw_shapes.specs.declared.pen.Pen.{Pen}
 use Rattle.draw_shapes.specs.declared.shapes.arcs.Oval.{Oval}
@@ -20,10 +20,10 @@ use Rattle.draw_shapes.specs.Pens.{pen_of, fill_of, drawn_with, half}
 abbrev pub oval_of : Pen → Ellipse → Oval
 oval_of pen o = record { x = 5 * o.width; y = 5 * o.height; radius_x = 5 * o.width - half pen; radius_y = 5 * o.height - half pen }
 
-abbrev pub centre : Ellipse → Point
+abbrev pub centre : Ellipse → SvgPoint
 centre o = point (5 * o.width) (5 * o.height)
 
-abbrev pub arc_of : Pen → Ellipse → List Point
+abbrev pub arc_of : Pen → Ellipse → List SvgPoint
 arc_of pen o = arc (oval_of pen o) o.start (sweep o.start o.end)
 
 abbrev pub whole : Paint → Pen → Ellipse → Nodes

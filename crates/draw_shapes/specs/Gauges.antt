@@ -9,7 +9,7 @@ use Rattle.draw_svg.specs.declared.attribute.Attribute.{Attribute}
 use Rattle.draw_svg.specs.declared.attribute.Attribute.TheVariants as attributes
 use Rattle.draw_svg.specs.declared.attribute.Paint.TheVariants as paints
 use Rattle.draw_svg.specs.declared.element.Element.TheVariants as elements
-use Rattle.draw_svg.specs.declared.points.Point.{Point}
+use Rattle.draw_svg.specs.declared.points.SvgPoint.{SvgPoint}
 use Rattle.draw_svg.specs.Elements.{Nodes, Along, Empty, followed, when}
 use Rattle.draw_svg.specs.Elements as nodes
 use Rattle.draw_shapes.specs.declared.shapes.arcs.Oval.{Oval}
@@ -36,7 +36,7 @@ shown store variable value = or_zero (number_shown store variable value)
 abbrev pub plain_line : ℕ → ℕ → List Attribute
 plain_line colour width = attributes.Fill paints.None ∷ attributes.Stroke (paints.Colour colour) ∷ attributes.StrokeWidth width ∷ []
 
-abbrev pub line : List Attribute → Point → Point → Nodes
+abbrev pub line : List Attribute → SvgPoint → SvgPoint → Nodes
 line attributes first last = Along elements.Polyline attributes (first ∷ last ∷ []) nodes.None
 
 -- nodes for each number below a given one, from 0 up
@@ -116,7 +116,7 @@ abbrev pub all_across : ℕ
 all_across = 1000000
 
 -- the part of a bar between two lengths
-abbrev pub part_between : LinearBar → ℕ → ℕ → List Point
+abbrev pub part_between : LinearBar → ℕ → ℕ → List SvgPoint
 part_between o m n =
     if is_horizontal o
     then point (along_axis o m) 0 ∷ point (along_axis o n) 0 ∷ point (along_axis o n) (10 * o.height) ∷ point (along_axis o m) (10 * o.height) ∷ []
@@ -174,7 +174,7 @@ abbrev pub first_angle : ArchedBar → ℕ → ℕ
 first_angle o steps = if is_clockwise o then turned (is_clockwise o) o.start (arch_steps o) steps else o.start % 180
 
 -- along the outer edge of an arch from an angle, and back along the inner one
-abbrev pub between_edges : ArchedBar → ℕ → ℕ → List Point
+abbrev pub between_edges : ArchedBar → ℕ → ℕ → List SvgPoint
 between_edges o start steps = arc (ring o 0) start steps ++ arc_back (ring o (10 * o.bar_width)) (start + steps) steps
 
 -- the arch up to the value, or a line at the value

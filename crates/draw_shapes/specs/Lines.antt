@@ -11,16 +11,16 @@ use Rattle.draw_svg.specs.declared.attribute.Attribute.TheVariants as attributes
 use Rattle.draw_svg.specs.declared.attribute.Paint.{Paint}
 use Rattle.draw_svg.specs.declared.attribute.Paint.TheVariants as paints
 use Rattle.draw_svg.specs.declared.element.Element.TheVariants as elements
-use Rattle.draw_svg.specs.declared.points.Point.{Point}
+use Rattle.draw_svg.specs.declared.points.SvgPoint.{SvgPoint}
 use Rattle.draw_svg.specs.Elements.{Nodes, None, Along, Empty}
 use Rattle.draw_shapes.specs.declared.pen.Pen.{Pen}
 use Rattle.draw_shapes.specs.Pens.{no_pen, pen_of, fill_of, drawn_with, half, far}
 
-abbrev pub point : ℕ → ℕ → Point
+abbrev pub point : ℕ → ℕ → SvgPoint
 point x y = record { x = x; y = y }
 
 -- from the upper left corner to the lower right one, or from the lower left to the upper right
-abbrev pub line_points : Pen → Line → List Point
+abbrev pub line_points : Pen → Line → List SvgPoint
 line_points pen o =
     if o.direction == 0
     then point (half pen) (half pen) ∷ point (far pen o.width) (far pen o.height) ∷ []
@@ -44,7 +44,7 @@ inside_attributes paint o = attributes.Width (10 * o.width) ∷ attributes.Heigh
 abbrev pub unless : ℕ → Pen → Pen
 unless bit pen = if bit == 1 then no_pen else pen
 
-abbrev pub side : Pen → Point → Point → Nodes → Nodes
+abbrev pub side : Pen → SvgPoint → SvgPoint → Nodes → Nodes
 side pen first last later = Along elements.Polyline (drawn_with paints.None pen) (first ∷ last ∷ []) later
 
 -- the upper, the right, the lower and the left side
@@ -63,7 +63,7 @@ rectangle_shapes store o =
 -- ---- polygons
 
 -- the middle of the pixel of a point
-abbrev pub middle : corners.Point → Point
+abbrev pub middle : corners.Point → SvgPoint
 middle p = point (10 * p.x + 5) (10 * p.y + 5)
 
 abbrev pub polygon_outline : ObjectMap → Polygon → Pen → Nodes

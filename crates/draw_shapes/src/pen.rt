@@ -29,13 +29,13 @@ pub(crate) const NO_PEN: Pen = Pen {
 pub(crate) fn pen_of<S: Store>(store: &S, attributes: ObjectId) -> Pen
     ensures { result ≡ pen_of (finite.get (S.contents store.now) attributes) }
 {
-    match store.get(attributes) {
-        Some(Object::LineAttributes(o)) => Pen {
-            paint: Paint::Colour(o.colour),
-            width: o.width,
-            art: o.line_art,
-        },
-        _ => NO_PEN,
+    let Some(Object::LineAttributes(o)) = store.get(attributes) else {
+        return NO_PEN;
+    };
+    Pen {
+        paint: Paint::Colour(o.colour),
+        width: o.width,
+        art: o.line_art,
     }
 }
 
@@ -43,14 +43,14 @@ pub(crate) fn pen_of<S: Store>(store: &S, attributes: ObjectId) -> Pen
 pub(crate) fn fill_of<S: Store>(store: &S, attributes: ObjectId, pen: Pen) -> Paint
     ensures { result ≡ fill_of (S.contents store.now) (finite.get (S.contents store.now) attributes) pen }
 {
-    match store.get(attributes) {
-        Some(Object::FillAttributes(o)) => match o.fill_type {
-            0 => Paint::None,
-            1 => pen.paint,
-            3 => pattern_of(store, o.pattern),
-            _ => Paint::Colour(o.colour),
-        },
-        _ => Paint::None,
+    let Some(Object::FillAttributes(o)) = store.get(attributes) else {
+        return Paint::None;
+    };
+    match o.fill_type {
+        0 => Paint::None,
+        1 => pen.paint,
+        3 => pattern_of(store, o.pattern),
+        _ => Paint::Colour(o.colour),
     }
 }
 
@@ -58,8 +58,9 @@ pub(crate) fn fill_of<S: Store>(store: &S, attributes: ObjectId, pen: Pen) -> Pa
 fn pattern_of<S: Store>(store: &S, id: ObjectId) -> Paint
     ensures { result ≡ pattern_of id (finite.get (S.contents store.now) id) }
 {
-    match store.get(id) {
-        Some(Object::Picture(_)) => Paint::Pattern(id.raw()),
-        _ => Paint::None,
+    if let Some(Object::Picture(_)) = store.get(id) {
+        Paint::Pattern(id.raw())
+    } else {
+        Paint::None
     }
 }

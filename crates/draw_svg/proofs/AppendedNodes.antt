@@ -5,7 +5,7 @@ use Rattle.std.proofs.lemmas.List.{append_assoc, append-nil}
 use Rattle.std.specs.List.{flat_map}
 use Rattle.draw_svg.specs.declared.attribute.Attribute.{Attribute}
 use Rattle.draw_svg.specs.declared.element.Element.{Element}
-use Rattle.draw_svg.specs.declared.points.Point.{Point}
+use Rattle.draw_svg.specs.declared.points.SvgPoint.{SvgPoint}
 use Rattle.draw_svg.specs.Elements.{Nodes, None, Characters, Along, Around, Empty, closed, emptied, followed, gathered, led_along, left_of, object_id, object_ids, opened, spots_in, text_of, top_of}
 use Rattle.draw_svg.proofs.Followed.{text_followed}
 
@@ -106,7 +106,7 @@ empty element attributes a = record {
   shown = λ x y. refl;
 }
 
-pub along : (element : Element) (attributes : List Attribute) (points : List Point) (a : List ℕ)
+pub along : (element : Element) (attributes : List Attribute) (points : List SvgPoint) (a : List ℕ)
     → AppendsNodes nowhere a (a ++ led_along element attributes points)
 along element attributes points a = record {
   nodes = Along element attributes points None;

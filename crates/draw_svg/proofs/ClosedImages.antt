@@ -6,11 +6,11 @@ use Rattle.std.specs.List.{flat_map}
 use Rattle.std.specs.FinMap as finite
 use Rattle.vt_kinds.specs.declared.pictures.Picture.{Picture}
 use Rattle.vt_stores.specs.Stores.{ObjectMap}
-use Rattle.draw_svg.specs.declared.format.Format.{Format}
+use Rattle.draw_svg.specs.declared.format.PixelFormat.{PixelFormat}
 use Rattle.draw_svg.specs.declared.run.Run.{Run}
 use Rattle.draw_svg.specs.Formats.{format_of}
 use Rattle.draw_svg.specs.declared.element.Element.TheVariants as elements
-use Rattle.draw_svg.specs.declared.points.Point.{Point}
+use Rattle.draw_svg.specs.declared.points.SvgPoint.{SvgPoint}
 use Rattle.draw_svg.specs.Elements.{closed, emptied, opened}
 use Rattle.draw_svg.specs.Elements as nodes
 use Rattle.draw_svg.proofs.AppendedNodes.{AppendsNodes, along, around, empty, nowhere, one_more, same}
@@ -18,28 +18,28 @@ use Rattle.draw_svg.specs.declared.strokes.Stroke.{Stroke}
 use Rattle.draw_svg.specs.Strokes.{drawn_stroke, is_transparent, line_of, most_bytes, run_text, stroke_text, strokes_of, with_pixels, with_run, with_runs}
 use Rattle.draw_svg.specs.Images.{AppendsImage, AppendsImages, picture_in, symbol_attributes, tile, tile_attributes, with_symbol}
 
-stroke_after : (p : Picture (List ℕ)) (line : List Point) (s : Stroke) (none : Bool) (text : List ℕ) → AppendsNodes nowhere text (text ++ cond none [] (drawn_stroke line s))
+stroke_after : (p : Picture (List ℕ)) (line : List SvgPoint) (s : Stroke) (none : Bool) (text : List ℕ) → AppendsNodes nowhere text (text ++ cond none [] (drawn_stroke line s))
 stroke_after p line s true text = record { nodes = nodes.None; is = refl; shown = λ x y. refl }
 stroke_after p line s false text = along elements.Polyline _ line text
 
-strokes_after : (p : Picture (List ℕ)) (line : List Point) (strokes : List Stroke) (text : List ℕ) → AppendsNodes nowhere text (text ++ flat_map (stroke_text p line) strokes)
+strokes_after : (p : Picture (List ℕ)) (line : List SvgPoint) (strokes : List Stroke) (text : List ℕ) → AppendsNodes nowhere text (text ++ flat_map (stroke_text p line) strokes)
 strokes_after p line [] text = record { nodes = nodes.None; is = refl; shown = λ x y. refl }
 strokes_after p line (s ∷ strokes) text =
     let next = text ++ stroke_text p line s in
     let all = one_more nowhere nowhere text next (next ++ flat_map (stroke_text p line) strokes) (stroke_after p line s (s.art == 0 || is_transparent p s.colour) text) (strokes_after p line strokes next) in
     subst (AppendsNodes nowhere text) (append_assoc text (stroke_text p line s) (flat_map (stroke_text p line) strokes)) all
 
-run_after : (p : Picture (List ℕ)) (format : Format) (r : Run) (is_full : Bool) (text : List ℕ) → AppendsNodes nowhere text (cond is_full text (text ++ run_text p format r))
+run_after : (p : Picture (List ℕ)) (format : PixelFormat) (r : Run) (is_full : Bool) (text : List ℕ) → AppendsNodes nowhere text (cond is_full text (text ++ run_text p format r))
 run_after p format r true text = same text
 run_after p format r false text = strokes_after p (line_of format r) (strokes_of format r.byte) text
 
-runs_after : (p : Picture (List ℕ)) (format : Format) (runs : List Run) (text : List ℕ) → AppendsNodes nowhere text (with_runs p format text runs)
+runs_after : (p : Picture (List ℕ)) (format : PixelFormat) (runs : List Run) (text : List ℕ) → AppendsNodes nowhere text (with_runs p format text runs)
 runs_after p format [] text = same text
 runs_after p format (r ∷ runs) text =
     let next = with_run p format text r in
     one_more nowhere nowhere text next (with_runs p format next runs) (run_after p format r (nat_lt most_bytes (length text)) text) (runs_after p format runs next)
 
-pixels_after : (p : Picture (List ℕ)) (format : Option Format) (runs : List Run) (text : List ℕ) → AppendsNodes nowhere text (with_pixels p format text runs)
+pixels_after : (p : Picture (List ℕ)) (format : Option PixelFormat) (runs : List Run) (text : List ℕ) → AppendsNodes nowhere text (with_pixels p format text runs)
 pixels_after p None runs text = same text
 pixels_after p (Some format) runs text = runs_after p format runs text
 

@@ -6,8 +6,8 @@ use Rattle.std.proofs.lemmas.Nat.{row_fits, mul-le}
 use Rattle.std.specs.Prelude.{max, filter}
 use Rattle.std.specs.List.{flat_map, AllByRecursion}
 use Rattle.vt_kinds.specs.declared.pictures.Picture.{Picture}
-use Rattle.draw_svg.specs.declared.format.Format.{Format}
-use Rattle.draw_svg.specs.declared.format.Format.TheVariants.{OneBit, FourBits, EightBits}
+use Rattle.draw_svg.specs.declared.format.PixelFormat.{PixelFormat}
+use Rattle.draw_svg.specs.declared.format.PixelFormat.TheVariants.{OneBit, FourBits, EightBits}
 use Rattle.draw_svg.specs.declared.raster.Raster.{Raster}
 use Rattle.draw_svg.specs.declared.run.Run.{Run}
 use Rattle.draw_svg.specs.FilledRows.{IsFilled}
@@ -15,7 +15,7 @@ use Rattle.draw_svg.specs.Formats.{format_of, pixels_in_byte, bytes_in_row}
 use Rattle.draw_svg.specs.ImageLaws.{row_of, run_bytes, bytes_of_runs, IsAtPlace, RunsAreTheImage, RowsHoldTheirPixels}
 use Rattle.draw_svg.specs.Rasters.{image_data, AreRuns, AreRunsIn, row_size, AreFewRuns}
 
-abbrev or_eight : Option Format → Format
+abbrev or_eight : Option PixelFormat → PixelFormat
 or_eight None = EightBits
 or_eight (Some format) = format
 
@@ -171,24 +171,24 @@ at_places size at k (r ∷ runs) bytes all is parts =
 -- ---- the laws
 
 module _ (p : Picture (List ℕ)) (runs : List Run) where
-  row_case : (found : Option Format) (format : Format) (row : ℕ) → found ≡ Some format → AreRunsIn p runs found → row < p.actual_height
+  row_case : (found : Option PixelFormat) (format : PixelFormat) (row : ℕ) → found ≡ Some format → AreRunsIn p runs found → row < p.actual_height
       → bytes_of_runs row runs ≡ row_of (bytes_in_row format p.actual_width) row (image_data p)
   row_case None format row known is lt = absurd cc
   row_case (Some other) format row known is lt =
       let size = bytes_in_row other p.actual_width in
       joined size row 0 runs (take (p.actual_height * size) (image_data p)) is
       ∙ row_within size row p.actual_height (image_data p) lt
-      ∙ ap (λ (f : Option Format). row_of (bytes_in_row (or_eight f) p.actual_width) row (image_data p)) known
+      ∙ ap (λ (f : Option PixelFormat). row_of (bytes_in_row (or_eight f) p.actual_width) row (image_data p)) known
 
-  place_case : (found : Option Format) (format : Format) → found ≡ Some format → AreRunsIn p runs found
+  place_case : (found : Option PixelFormat) (format : PixelFormat) → found ≡ Some format → AreRunsIn p runs found
       → AllByRecursion (IsAtPlace (bytes_in_row format p.actual_width) (image_data p)) runs
   place_case None format known is = absurd cc
   place_case (Some other) format known is =
       let size = bytes_in_row other p.actual_width in
-      subst (λ (f : Option Format). AllByRecursion (IsAtPlace (bytes_in_row (or_eight f) p.actual_width) (image_data p)) runs) known
+      subst (λ (f : Option PixelFormat). AllByRecursion (IsAtPlace (bytes_in_row (or_eight f) p.actual_width) (image_data p)) runs) known
       (at_places size 0 (p.actual_height * size) runs (take (p.actual_height * size) (image_data p)) (image_data p) is refl)
 
-  past_case : (found : Option Format) → AreRunsIn p runs found → AllByRecursion (λ r. r.row < p.actual_height) runs
+  past_case : (found : Option PixelFormat) → AreRunsIn p runs found → AllByRecursion (λ r. r.row < p.actual_height) runs
   past_case None is = subst (AllByRecursion (λ (r : Run). r.row < p.actual_height)) (sym is) tt
   past_case (Some format) is =
       let size = bytes_in_row format p.actual_width in
@@ -203,12 +203,12 @@ image_of_runs = record {
   none = λ p runs is known. subst (AreRunsIn p runs) known is;
 }
 
-each_pixel : (format : Format) (width column : ℕ) → column < width → column / pixels_in_byte format < bytes_in_row format width
+each_pixel : (format : PixelFormat) (width column : ℕ) → column < width → column / pixels_in_byte format < bytes_in_row format width
 each_pixel OneBit width column lt = omega arith
 each_pixel FourBits width column lt = omega arith
 each_pixel EightBits width column lt = omega arith
 
-no_more : (format : Format) (width : ℕ) → bytes_in_row format width * pixels_in_byte format < width + pixels_in_byte format
+no_more : (format : PixelFormat) (width : ℕ) → bytes_in_row format width * pixels_in_byte format < width + pixels_in_byte format
 no_more OneBit width = omega arith
 no_more FourBits width = omega arith
 no_more EightBits width = omega arith
@@ -218,11 +218,11 @@ pixels_in_rows = record { each = each_pixel; least = no_more }
 
 -- ---- the number of runs
 
-size_case : (found : Option Format) (format : Format) (width : ℕ) → found ≡ Some format → row_size found width ≡ bytes_in_row format width
+size_case : (found : Option PixelFormat) (format : PixelFormat) (width : ℕ) → found ≡ Some format → row_size found width ≡ bytes_in_row format width
 size_case None format width known = absurd cc
-size_case (Some other) format width known = ap (λ (f : Option Format). bytes_in_row (or_eight f) width) known
+size_case (Some other) format width known = ap (λ (f : Option PixelFormat). bytes_in_row (or_eight f) width) known
 
-pub few_runs : (p : Picture (List ℕ)) (format : Format) (r : Raster) → format_of p.format ≡ Some format → r.size ≡ bytes_in_row format p.actual_width
+pub few_runs : (p : Picture (List ℕ)) (format : PixelFormat) (r : Raster) → format_of p.format ≡ Some format → r.size ≡ bytes_in_row format p.actual_width
     → r.height ≤ p.actual_height → IsFilled r (image_data p) → r.row ≤ r.height → length r.runs.items ≤ length p.bytes + r.row → AreFewRuns p r.runs.items
 few_runs p format r known size height is last most = record {
   rows = r.row;

@@ -3,8 +3,8 @@ use Rattle.std.proofs.Common.{◌≡◌, inl, inr, ◌<◌, ◌-◌, ◌/◌, �
 use Rattle.std.specs.Prelude.{◌==◌, ◌&&◌, filter}
 use Rattle.std.specs.List.{AllByRecursion}
 use Rattle.std.proofs.lemmas.Bool.{cases_lt, eqb-true, false≢true}
-use Rattle.draw_svg.specs.declared.format.Format.{Format}
-use Rattle.draw_svg.specs.declared.format.Format.TheVariants.{OneBit, FourBits, EightBits}
+use Rattle.draw_svg.specs.declared.format.PixelFormat.{PixelFormat}
+use Rattle.draw_svg.specs.declared.format.PixelFormat.TheVariants.{OneBit, FourBits, EightBits}
 use Rattle.draw_svg.specs.declared.strokes.Stroke.{Stroke}
 use Rattle.draw_svg.specs.StrokeLaws.{HasItsPixel, pixel_at}
 use Rattle.draw_svg.specs.Strokes.{strokes_of}
@@ -40,29 +40,29 @@ below_holds (suc n) p is i less =
 
 -- ---- the check
 
-abbrev has_its_pixel : Format → ℕ → ℕ → Stroke → Bool
+abbrev has_its_pixel : PixelFormat → ℕ → ℕ → Stroke → Bool
 has_its_pixel format byte column s = (s.art / 2 ^ (15 - column) % 2) == (cond (s.colour == pixel_at format byte column) 1 0)
 
-abbrev has_one : Format → ℕ → ℕ → Bool
+abbrev has_one : PixelFormat → ℕ → ℕ → Bool
 has_one format byte column = length (filter (λ s. s.colour == pixel_at format byte column) (strokes_of format byte)) == 1
 
-abbrev checked : Format → ℕ → ℕ → Bool
+abbrev checked : PixelFormat → ℕ → ℕ → Bool
 checked format byte column = every (has_its_pixel format byte column) (strokes_of format byte) && has_one format byte column
 
-all_checked : (format : Format) → every_below 256 (λ byte. every_below 16 (checked format byte)) ≡ true
+all_checked : (format : PixelFormat) → every_below 256 (λ byte. every_below 16 (checked format byte)) ≡ true
 all_checked OneBit = refl
 all_checked FourBits = refl
 all_checked EightBits = refl
 
-is_checked : (format : Format) (byte column : ℕ) → byte < 256 → column < 16 → checked format byte column ≡ true
+is_checked : (format : PixelFormat) (byte column : ℕ) → byte < 256 → column < 16 → checked format byte column ≡ true
 is_checked format byte column small within =
     below_holds 16 (checked format byte) (below_holds 256 (λ b. every_below 16 (checked format b)) (all_checked format) byte small) column within
 
-pub own_pixels : (format : Format) (byte column : ℕ) → byte < 256 → column < 16 → AllByRecursion (HasItsPixel format byte column) (strokes_of format byte)
+pub own_pixels : (format : PixelFormat) (byte column : ℕ) → byte < 256 → column < 16 → AllByRecursion (HasItsPixel format byte column) (strokes_of format byte)
 own_pixels format byte column small within =
     every_holds (HasItsPixel format byte column) (has_its_pixel format byte column) (strokes_of format byte) (λ s is. eqb-true _ _ is)
     (both _ _ (is_checked format byte column small within)).0
 
-pub one_stroke : (format : Format) (byte column : ℕ) → byte < 256 → column < 16
+pub one_stroke : (format : PixelFormat) (byte column : ℕ) → byte < 256 → column < 16
     → length (filter (λ s. s.colour == pixel_at format byte column) (strokes_of format byte)) ≡ 1
 one_stroke format byte column small within = eqb-true _ _ (both _ _ (is_checked format byte column small within)).1

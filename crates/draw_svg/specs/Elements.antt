@@ -8,7 +8,7 @@ use Rattle.draw_svg.specs.declared.attribute.Paint.{Paint}
 use Rattle.draw_svg.specs.declared.attribute.Paint.TheVariants.{Pattern}
 use Rattle.draw_svg.specs.declared.element.Element.{Element}
 use Rattle.draw_svg.specs.declared.element.Element.TheVariants as elements
-use Rattle.draw_svg.specs.declared.points.Point.{Point}
+use Rattle.draw_svg.specs.declared.points.SvgPoint.{SvgPoint}
 use Rattle.draw_svg.specs.Attributes.{attribute_text}
 use Rattle.draw_svg.specs.Characters.{escaped}
 
@@ -36,11 +36,11 @@ abbrev pub emptied : Element → List Attribute → List ℕ
 emptied element attributes = begun element attributes ++ codes "/>"
 
 -- x and y with a space after each
-abbrev pub point_text : Point → List ℕ
+abbrev pub point_text : SvgPoint → List ℕ
 point_text p = decimal p.x ++ (codes " " ++ (decimal p.y ++ codes " "))
 
 -- lines along points
-abbrev pub led_along : Element → List Attribute → List Point → List ℕ
+abbrev pub led_along : Element → List Attribute → List SvgPoint → List ℕ
 led_along element attributes points = begun element attributes ++ (codes " points=\"" ++ (flat_map point_text points ++ codes "\"/>"))
 
 -- ---- elements in their order
@@ -49,7 +49,7 @@ led_along element attributes points = begun element attributes ++ (codes " point
 pub data Nodes : Type 0 where
   None : Nodes
   Characters : List ℕ → Nodes → Nodes
-  Along : Element → List Attribute → List Point → Nodes → Nodes
+  Along : Element → List Attribute → List SvgPoint → Nodes → Nodes
   Empty : Element → List Attribute → Nodes → Nodes
   Around : Element → List Attribute → Nodes → Nodes → Nodes
 

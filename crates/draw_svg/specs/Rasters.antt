@@ -1,7 +1,7 @@
 -- The rows of a picture as runs (docs/PROFILE.md, "Image data").
 use Rattle.std.specs.Prelude.{◌≡◌, ℕ, ◌+◌, ◌*◌, ◌/◌, ◌%◌, ◌≤◌, ◌<◌, Bool, ◌==◌, if◌then◌else◌, List, [], ◌∷◌, ◌++◌, length, take, replicate, Option, Some, None}
 use Rattle.vt_kinds.specs.declared.pictures.Picture.{Picture}
-use Rattle.draw_svg.specs.declared.format.Format.{Format}
+use Rattle.draw_svg.specs.declared.format.PixelFormat.{PixelFormat}
 use Rattle.draw_svg.specs.declared.run.Run.{Run}
 use Rattle.draw_svg.specs.Formats.{format_of, bytes_in_row}
 
@@ -32,7 +32,7 @@ AreRuns size at (r ∷ runs) bytes =
     × ((rest : List ℕ) × (bytes ≡ replicate r.count r.byte ++ rest) × AreRuns size (at + r.count) runs rest)
 
 -- the runs of as much of the image data as the rows have room for; none without a format
-abbrev pub AreRunsIn : Picture (List ℕ) → List Run → Option Format → Type 0
+abbrev pub AreRunsIn : Picture (List ℕ) → List Run → Option PixelFormat → Type 0
 AreRunsIn p runs None = runs ≡ []
 AreRunsIn p runs (Some format) =
     AreRuns (bytes_in_row format p.actual_width) 0 runs (take (p.actual_height * bytes_in_row format p.actual_width) (image_data p))
@@ -43,7 +43,7 @@ IsRaster p runs = AreRunsIn p runs (format_of p.format)
 -- ---- the number of runs
 
 -- the bytes of a row; none without a format
-abbrev pub row_size : Option Format → ℕ → ℕ
+abbrev pub row_size : Option PixelFormat → ℕ → ℕ
 row_size None width = 0
 row_size (Some format) width = bytes_in_row format width
 

@@ -5,7 +5,7 @@ ghost use Rattle.draw_svg.specs.Formats.{format_of, pixels_in_byte, bytes_in_row
 
 /// A format of image data: the number of bits of a pixel.
 #[derive(Clone, Copy, PartialEq, Eq)]
-pub enum Format {
+pub enum PixelFormat {
     /// One bit: eight pixels in a byte, of colour 0 or 1.
     OneBit,
     /// Four bits: two pixels in a byte, of a colour up to 15.
@@ -14,15 +14,15 @@ pub enum Format {
     EightBits,
 }
 
-impl Format {
+impl PixelFormat {
     /// The format with a number: 0, 1 or 2. `None` for any other number.
-    pub fn from_number(number: u8) -> Option<Format>
+    pub fn from_number(number: u8) -> Option<PixelFormat>
         ensures { result ≡ format_of number }
     {
         match number {
-            0 => Some(Format::OneBit),
-            1 => Some(Format::FourBits),
-            2 => Some(Format::EightBits),
+            0 => Some(PixelFormat::OneBit),
+            1 => Some(PixelFormat::FourBits),
+            2 => Some(PixelFormat::EightBits),
             _ => None,
         }
     }
@@ -32,9 +32,9 @@ impl Format {
         ensures { result ≡ pixels_in_byte self }
     {
         match self {
-            Format::OneBit => 8,
-            Format::FourBits => 2,
-            Format::EightBits => 1,
+            PixelFormat::OneBit => 8,
+            PixelFormat::FourBits => 2,
+            PixelFormat::EightBits => 1,
         }
     }
 
@@ -51,9 +51,9 @@ impl Format {
         ensures { result ≡ pixel self byte index }
     {
         match self {
-            Format::OneBit => (byte >> (7 - index)) % 2,
-            Format::FourBits => if index == 0 { byte >> 4 } else { byte & 0x0F },
-            Format::EightBits => byte,
+            PixelFormat::OneBit => (byte >> (7 - index)) % 2,
+            PixelFormat::FourBits => if index == 0 { byte >> 4 } else { byte & 0x0F },
+            PixelFormat::EightBits => byte,
         }
     }
 }

@@ -4,7 +4,7 @@
 //!   `text` appends characters. Only numbers, constants and characters are written, so only characters have to be escaped.
 //! - `draw_images` appends the pixels of Picture objects as symbols, to which elements refer, and as patterns that fill shapes.
 //! - `runs` returns the `Run`s of a Picture object: the rows of its image data, each cut into bytes that repeat. Their number is bounded
-//!   by the bytes and the rows that are there, and not by the sizes that the record claims. `Format` has the number of pixels in a byte,
+//!   by the bytes and the rows that are there, and not by the sizes that the record claims. `PixelFormat` has the number of pixels in a byte,
 //!   and the colour number of each.
 //! - `laws` has the theorems about the definitions.
 //!
@@ -29,9 +29,9 @@ mod strokes;
 pub use attribute::{Attribute, Flag, Paint, Style};
 pub use characters::text;
 pub use element::{Element, close, empty, open};
-pub use format::Format;
+pub use format::PixelFormat;
 pub use images::draw_images;
-pub use points::{Point, along, close_points, open_points, push_point};
+pub use points::{SvgPoint, along, close_points, open_points, push_point};
 pub use run::{Run, runs};
 
 /// A refused allocation.

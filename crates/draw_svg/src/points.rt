@@ -11,7 +11,7 @@ use std::alloc::AllocError;
 
 /// A point, from the upper left corner.
 #[derive(Clone, Copy, PartialEq, Eq)]
-pub struct Point {
+pub struct SvgPoint {
     /// The distance from the left edge.
     pub x: u32,
     /// The distance from the upper edge.
@@ -26,7 +26,7 @@ pub fn along(
     out: &mut Vec<u8>,
     element: Element,
     attributes: &[Attribute],
-    points: &[Point],
+    points: &[SvgPoint],
 ) -> Result<(), AllocError>
     ensures { OnOk result (out.new.items ≡ out.old.items ++ led_along element attributes.now points.now) }
 {
@@ -54,7 +54,7 @@ pub fn open_points(
 ///
 /// # Errors
 /// `AllocError` when an allocation is refused; a part of the point may then be appended.
-pub fn push_point(out: &mut Vec<u8>, point: Point) -> Result<(), AllocError>
+pub fn push_point(out: &mut Vec<u8>, point: SvgPoint) -> Result<(), AllocError>
     ensures { OnOk result (out.new.items ≡ out.old.items ++ point_text point) }
 {
     out.extend_from_slice(Buffer::new().format(point.x).as_bytes())?;
@@ -73,7 +73,7 @@ pub fn close_points(out: &mut Vec<u8>) -> Result<(), AllocError>
     out.extend_from_slice(b"\"/>")
 }
 
-fn push_points(out: &mut Vec<u8>, points: &[Point]) -> Result<(), AllocError>
+fn push_points(out: &mut Vec<u8>, points: &[SvgPoint]) -> Result<(), AllocError>
     ensures { OnOk result (out.new.items ≡ out.old.items ++ flat_map point_text points.now) }
 {
     for each in points {

@@ -4,13 +4,13 @@ ghost use Rattle.std.specs.Prelude.{◌≡◌, IfOk};
 ghost use Rattle.vt_kinds.specs.Records.{seen_picture};
 ghost use Rattle.draw_svg.specs.Rasters.{is_packed, IsRaster, AreFewRuns};
 
-use crate::format::Format;
+use crate::format::PixelFormat;
 use crate::raster::Raster;
 use std::alloc::{AllocError, Global};
 use vt_kinds::Picture;
 
 /// A byte that repeats within a row of a picture. Its pixels are those of the byte, `count` times, from the column
-/// `start` times `Format::pixels_in_byte` on. Pixels past the width of the image, in the last byte of a row, are spare.
+/// `start` times `PixelFormat::pixels_in_byte` on. Pixels past the width of the image, in the last byte of a row, are spare.
 #[derive(Clone, Copy, PartialEq, Eq)]
 pub struct Run {
     /// The row, from 0 at the top.
@@ -35,7 +35,7 @@ pub fn runs(alloc: Global, picture: &Picture<Vec<u8>>) -> Result<Vec<Run>, Alloc
     ensures runs { IfOk result (λ runs. IsRaster (seen_picture picture.now) runs.items) }
     ensures few { IfOk result (λ runs. AreFewRuns (seen_picture picture.now) runs.items) }
 {
-    let Some(format) = Format::from_number(picture.format) else {
+    let Some(format) = PixelFormat::from_number(picture.format) else {
         return Ok(Vec::new(alloc));
     };
     let size = format.bytes_in_row(picture.actual_width);

@@ -3,11 +3,11 @@
 ghost use Rattle.std.specs.Prelude.{◌≡◌, ◌≤◌, ◌++◌, OnOk};
 ghost use Rattle.std.specs.List.{flat_map};
 ghost use Rattle.vt_kinds.specs.Records.{seen_picture};
-ghost use Rattle.draw_svg.specs.declared.format.Format.TheVariants.{FourBits, OneBit};
+ghost use Rattle.draw_svg.specs.declared.format.PixelFormat.TheVariants.{FourBits, OneBit};
 ghost use Rattle.draw_svg.specs.Formats.{format_of};
 ghost use Rattle.draw_svg.specs.Strokes as strokes;
 
-use crate::{Attribute, Element, Format, Paint, Point, Run, along};
+use crate::{Attribute, Element, Paint, PixelFormat, Run, SvgPoint, along};
 use std::alloc::AllocError;
 use vt_objects::Picture;
 
@@ -40,7 +40,7 @@ pub(crate) fn draw_pixels(
 ) -> Result<(), AllocError>
     ensures { OnOk result (text.new.items ≡ strokes.with_pixels (seen_picture picture.now) (format_of picture.now.format) text.old.items runs.now) }
 {
-    match Format::from_number(picture.format) {
+    match PixelFormat::from_number(picture.format) {
         Some(format) => draw_runs(text, picture, format, runs),
         None => Ok(()),
     }
@@ -50,7 +50,7 @@ pub(crate) fn draw_pixels(
 fn draw_runs(
     text: &mut Vec<u8>,
     picture: &Picture<Vec<u8>>,
-    format: Format,
+    format: PixelFormat,
     runs: &[Run],
 ) -> Result<(), AllocError>
     ensures { OnOk result (text.new.items ≡ strokes.with_runs (seen_picture picture.now) format text.old.items runs.now) }
@@ -65,7 +65,7 @@ fn draw_runs(
 fn draw_run_if_room(
     text: &mut Vec<u8>,
     picture: &Picture<Vec<u8>>,
-    format: Format,
+    format: PixelFormat,
     run: &Run,
 ) -> Result<(), AllocError>
     ensures { OnOk result (text.new.items ≡ strokes.with_run (seen_picture picture.now) format text.old.items run.now) }
@@ -80,16 +80,16 @@ fn draw_run_if_room(
 fn draw_run(
     text: &mut Vec<u8>,
     picture: &Picture<Vec<u8>>,
-    format: Format,
+    format: PixelFormat,
     run: &Run,
 ) -> Result<(), AllocError>
     ensures { OnOk result (text.new.items ≡ text.old.items ++ strokes.run_text (seen_picture picture.now) format run.now) }
 {
     let line = &line_of(format, run);
     match format {
-        Format::OneBit => draw_bits(text, picture, line, run.byte),
-        Format::FourBits => draw_halves(text, picture, line, run.byte),
-        Format::EightBits => draw_stroke(text, picture, line, in_colour(run.byte, SOLID)),
+        PixelFormat::OneBit => draw_bits(text, picture, line, run.byte),
+        PixelFormat::FourBits => draw_halves(text, picture, line, run.byte),
+        PixelFormat::EightBits => draw_stroke(text, picture, line, in_colour(run.byte, SOLID)),
     }
 }
 
@@ -97,7 +97,7 @@ fn draw_run(
 fn draw_bits(
     text: &mut Vec<u8>,
     picture: &Picture<Vec<u8>>,
-    line: &[Point],
+    line: &[SvgPoint],
     byte: u8,
 ) -> Result<(), AllocError>
     ensures { OnOk result (text.new.items ≡ text.old.items ++ flat_map (strokes.stroke_text (seen_picture picture.now) line.now) (strokes.strokes_of OneBit byte)) }
@@ -111,7 +111,7 @@ fn draw_bits(
 fn draw_halves(
     text: &mut Vec<u8>,
     picture: &Picture<Vec<u8>>,
-    line: &[Point],
+    line: &[SvgPoint],
     byte: u8,
 ) -> Result<(), AllocError>
     ensures { OnOk result (text.new.items ≡ text.old.items ++ flat_map (strokes.stroke_text (seen_picture picture.now) line.now) (strokes.strokes_of FourBits byte)) }
@@ -128,7 +128,7 @@ fn draw_halves(
 fn draw_stroke(
     text: &mut Vec<u8>,
     picture: &Picture<Vec<u8>>,
-    line: &[Point],
+    line: &[SvgPoint],
     stroke: Stroke,
 ) -> Result<(), AllocError>
     ensures { OnOk result (text.new.items ≡ text.old.items ++ strokes.stroke_text (seen_picture picture.now) line.now stroke) }
@@ -164,7 +164,7 @@ fn in_colour(colour: u8, art: u16) -> Stroke
 }
 
 /// The line of a run, from its first column to the one after its last.
-fn line_of(format: Format, run: &Run) -> [Point; 2]
+fn line_of(format: PixelFormat, run: &Run) -> [SvgPoint; 2]
     ensures { result ≡ strokes.line_of format run.now }
 {
     let pixels = u32::from(format.pixels_in_byte());
@@ -176,11 +176,11 @@ fn line_of(format: Format, run: &Run) -> [Point; 2]
 }
 
 /// The middle of the left edge of a pixel.
-fn place(column: u32, row: u16) -> Point
+fn place(column: u32, row: u16) -> SvgPoint
     requires { column ≤ 1048560 }
     ensures { result ≡ strokes.place column row }
 {
-    Point {
+    SvgPoint {
         x: column * 2,
         y: u32::from(row) * 2 + 1,
     }

@@ -11,7 +11,7 @@ ghost use Rattle.vt_server.specs.Terminals.{State};
 
 use crate::difference::Difference;
 use crate::open::OpenQuestions;
-use crate::recorded::{Place, recorded_in};
+use crate::recorded::{FramePlace, recorded_in};
 use crate::tally::Tally;
 use arrayvec::ArrayVec;
 use std::alloc::{AllocError, Global};
@@ -136,7 +136,7 @@ impl Comparison {
         self.now = self.now.max(time);
         self.open
             .expire(self.wait, self.now, &mut self.tally, differences)?;
-        let place = Place {
+        let place = FramePlace {
             own: self.own,
             line,
             now: self.now,

@@ -13,7 +13,7 @@ use vt_can::assigned::{VT_STATUS, VT_TO_ECU};
 
 /// The address of the recorded terminal, and the place of a frame in its log.
 #[derive(Clone, Copy, PartialEq, Eq)]
-pub(crate) struct Place {
+pub(crate) struct FramePlace {
     /// The address of the recorded terminal.
     pub(crate) own: u8,
     /// The number of the line.
@@ -25,7 +25,7 @@ pub(crate) struct Place {
 /// The message that the recorded terminal sends in a frame. `None` if the frame is no message of this terminal, or repeats its last
 /// status message.
 pub(crate) fn recorded_in(
-    place: Place,
+    place: FramePlace,
     frame: &Frame,
     status: &mut ArrayVec<u8, 8>,
     tally: &mut Tally,

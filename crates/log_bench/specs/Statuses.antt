@@ -1,8 +1,8 @@
 -- The status of a test.
 use Rattle.std.specs.Prelude.{List, [], ◌∷◌}
 use Rattle.log_expect.specs.declared.difference.LineDifference.{LineDifference}
-use Rattle.log_bench.specs.declared.outcome.Outcome.{Outcome}
-use Rattle.log_bench.specs.declared.outcome.Outcome.TheVariants as outcome
+use Rattle.log_bench.specs.declared.outcome.LogOutcome.{LogOutcome}
+use Rattle.log_bench.specs.declared.outcome.LogOutcome.TheVariants as outcome
 use Rattle.vt_cli.specs.declared.status.Status.{Status}
 use Rattle.vt_cli.specs.declared.status.Status.TheVariants.{Clean, Found, NotJudged}
 
@@ -12,7 +12,7 @@ status_of [] = Clean
 status_of (difference ∷ differences) = Found
 
 -- the status of what became of a log
-abbrev pub outcome_status : Outcome → Status
+abbrev pub outcome_status : LogOutcome → Status
 outcome_status outcome.Met = Clean
 outcome_status (outcome.Differs count) = Found
 outcome_status outcome.Written = Clean

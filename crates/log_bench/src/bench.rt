@@ -1,11 +1,11 @@
 //! The test of one log.
 
 use crate::entries::Entry;
-use crate::outcome::Outcome;
+use crate::outcome::LogOutcome;
 use crate::report::{put_differences, put_outcome};
 use log_expect::{Blessed, bless, differences};
+use log_options::{Format, TerminalOptions};
 use log_replay::{LoadedSet, new_terminal, tell_loss, tell_no_frame};
-use log_words::{Format, TerminalOptions};
 use std::alloc::Global;
 use std::io::{self, Error, ErrorKind, Write};
 use vt_cli::{Open, Program, Save, overwrite_file, read_file};
@@ -38,7 +38,7 @@ impl Bench<'_> {
         files: &mut F,
         out: &mut W,
         errors: &mut E,
-    ) -> io::Result<Outcome> {
+    ) -> io::Result<LogOutcome> {
         let outcome = self.judge(entry, files, out, errors)?;
         put_outcome(self.alloc, self.format, &entry.path, outcome, out)?;
         Ok(outcome)
@@ -51,14 +51,14 @@ impl Bench<'_> {
         files: &mut F,
         out: &mut W,
         errors: &mut E,
-    ) -> io::Result<Outcome> {
+    ) -> io::Result<LogOutcome> {
         let path = entry.path.as_str();
         if let Some(fault) = &entry.fault {
             let _ = writeln!(errors, "{}: {path}: {fault}", files.name());
-            return Ok(Outcome::NotJudged);
+            return Ok(LogOutcome::NotJudged);
         }
         match read_file(self.alloc, path, files, errors)? {
-            None => Ok(Outcome::NotJudged),
+            None => Ok(LogOutcome::NotJudged),
             Some(bytes) if self.blesses => self.bless(path, &bytes, files, errors),
             Some(bytes) => self.test(path, &bytes, files, out, errors),
         }
@@ -72,14 +72,14 @@ impl Bench<'_> {
         files: &F,
         out: &mut W,
         errors: &mut E,
-    ) -> io::Result<Outcome> {
+    ) -> io::Result<LogOutcome> {
         if bytes.len() > MOST_BYTES {
             return not_replayed(path, ReplayFault::TooLong, files, errors);
         }
         let survey = Survey::up_to_input(self.alloc, bytes)?;
         if survey.is_unreadable() {
             tell_no_frame(path, survey.hint, files, errors);
-            return Ok(Outcome::NotJudged);
+            return Ok(LogOutcome::NotJudged);
         }
         let mut terminal = self.new_terminal()?;
         let differences = match differences(self.alloc, bytes, &mut terminal) {
@@ -88,8 +88,8 @@ impl Bench<'_> {
         };
         put_differences(self.alloc, self.format, path, &differences, out)?;
         self.tell_loss(path, &terminal, files, errors);
-        let outcome = Outcome::of(&differences);
-        if outcome != Outcome::Met {
+        let outcome = LogOutcome::of(&differences);
+        if outcome != LogOutcome::Met {
             if let Some(hint) = Survey::of(self.alloc, bytes)?.hint {
                 let _ = writeln!(errors, "{}: {path}: {hint}", files.name());
             }
@@ -106,25 +106,25 @@ impl Bench<'_> {
         bytes: &[u8],
         files: &mut F,
         errors: &mut E,
-    ) -> io::Result<Outcome> {
+    ) -> io::Result<LogOutcome> {
         if bytes.len() > MOST_BYTES {
             return not_replayed(path, ReplayFault::TooLong, files, errors);
         }
         let survey = Survey::of(self.alloc, bytes)?;
         if survey.is_unreadable() || survey.hint.and_then(LineHint::form).is_some() {
             tell_no_frame(path, survey.hint, files, errors);
-            return Ok(Outcome::NotJudged);
+            return Ok(LogOutcome::NotJudged);
         }
         let mut terminal = self.new_terminal()?;
         match bless(self.alloc, bytes, &mut terminal) {
             Ok(blessed) if blessed.inputs == 0 && self.sets.is_empty() => {
                 tell_no_frame(path, survey.hint, files, errors);
-                Ok(Outcome::NotJudged)
+                Ok(LogOutcome::NotJudged)
             }
             Ok(blessed) => {
                 let is_lost = self.tell_loss(path, &terminal, files, errors);
                 if is_lost && self.terminal.name.is_none() {
-                    return Ok(Outcome::NotJudged);
+                    return Ok(LogOutcome::NotJudged);
                 }
                 write_blessed(path, bytes, &blessed, files, errors)
             }
@@ -156,7 +156,7 @@ fn write_blessed<F: Save, E: Write>(
     blessed: &Blessed,
     files: &mut F,
     errors: &mut E,
-) -> io::Result<Outcome> {
+) -> io::Result<LogOutcome> {
     let faults = blessed.faults;
     if faults > 0 {
         let verb = if faults == 1 { "is" } else { "are" };
@@ -167,12 +167,12 @@ fn write_blessed<F: Save, E: Write>(
         );
     }
     if blessed.text.as_slice() == log {
-        return Ok(Outcome::Same);
+        return Ok(LogOutcome::Same);
     }
     if !overwrite_file(path, &blessed.text, files, errors)? {
-        return Ok(Outcome::NotJudged);
+        return Ok(LogOutcome::NotJudged);
     }
-    Ok(Outcome::Written)
+    Ok(LogOutcome::Written)
 }
 
 /// Writes to `errors` why a log could not be replayed.
@@ -181,10 +181,10 @@ fn not_replayed<F: Program, E: Write>(
     fault: ReplayFault,
     files: &F,
     errors: &mut E,
-) -> io::Result<Outcome> {
+) -> io::Result<LogOutcome> {
     if fault == ReplayFault::Memory {
         return Err(Error::from(ErrorKind::OutOfMemory));
     }
     let _ = writeln!(errors, "{}: {path}: {fault}", files.name());
-    Ok(Outcome::NotJudged)
+    Ok(LogOutcome::NotJudged)
 }

@@ -2,7 +2,7 @@
 
 use crate::bench::Bench;
 use crate::entries::Entry;
-use crate::outcome::Outcome;
+use crate::outcome::LogOutcome;
 use crate::report::Differing;
 use std::alloc::Global;
 use std::io::{self, Error, ErrorKind, Write};
@@ -55,7 +55,7 @@ impl JUnit {
         let _ = errors.write_all(&told);
         let outcome = outcome?;
         // Each log that is not judged has a reason, which ends with a newline unless memory was refused for it.
-        if outcome == Outcome::NotJudged && !told.ends_with(b"\n") {
+        if outcome == LogOutcome::NotJudged && !told.ends_with(b"\n") {
             return Err(Error::from(ErrorKind::OutOfMemory));
         }
         self.put_case(entry.path.as_str(), outcome, &text, &told)?;
@@ -66,7 +66,7 @@ impl JUnit {
     fn put_case(
         &mut self,
         path: &str,
-        outcome: Outcome,
+        outcome: LogOutcome,
         text: &[u8],
         told: &[u8],
     ) -> io::Result<()> {
@@ -79,9 +79,9 @@ impl JUnit {
             attribute_of(name)
         )?;
         match outcome {
-            Outcome::Differs(count) => self.put_failure(count, text),
-            Outcome::NotJudged => self.put_error(told),
-            Outcome::Met | Outcome::Written | Outcome::Same => writeln!(self.cases, "/>"),
+            LogOutcome::Differs(count) => self.put_failure(count, text),
+            LogOutcome::NotJudged => self.put_error(told),
+            LogOutcome::Met | LogOutcome::Written | LogOutcome::Same => writeln!(self.cases, "/>"),
         }
     }
 

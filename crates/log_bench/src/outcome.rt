@@ -8,7 +8,7 @@ use vt_cli::Status;
 
 /// What became of a log.
 #[derive(Clone, Copy, PartialEq, Eq)]
-pub(crate) enum Outcome {
+pub(crate) enum LogOutcome {
     /// Each line prints what is expected of it.
     Met,
     /// So many lines print something else.
@@ -21,15 +21,15 @@ pub(crate) enum Outcome {
     NotJudged,
 }
 
-impl Outcome {
+impl LogOutcome {
     /// What became of a log with these differences.
-    pub(crate) fn of(differences: &[LineDifference]) -> Outcome
+    pub(crate) fn of(differences: &[LineDifference]) -> LogOutcome
         ensures { outcome_status result ≡ status_of differences.now }
     {
         if differences.is_empty() {
-            Outcome::Met
+            LogOutcome::Met
         } else {
-            Outcome::Differs(differences.len())
+            LogOutcome::Differs(differences.len())
         }
     }
 
@@ -38,28 +38,28 @@ impl Outcome {
         ensures { result ≡ outcome_status self }
     {
         match self {
-            Outcome::Met | Outcome::Written | Outcome::Same => Status::Clean,
-            Outcome::Differs(_) => Status::Found,
-            Outcome::NotJudged => Status::NotJudged,
+            LogOutcome::Met | LogOutcome::Written | LogOutcome::Same => Status::Clean,
+            LogOutcome::Differs(_) => Status::Found,
+            LogOutcome::NotJudged => Status::NotJudged,
         }
     }
 
     /// The word for it.
     pub(crate) fn word(self) -> &'static str {
         match self {
-            Outcome::Met => "ok",
-            Outcome::Differs(_) => "differs",
-            Outcome::Written => "written",
-            Outcome::Same => "as it was",
-            Outcome::NotJudged => "not judged",
+            LogOutcome::Met => "ok",
+            LogOutcome::Differs(_) => "differs",
+            LogOutcome::Written => "written",
+            LogOutcome::Same => "as it was",
+            LogOutcome::NotJudged => "not judged",
         }
     }
 
     /// How many lines differ.
     pub(crate) fn differences(self) -> usize {
         match self {
-            Outcome::Differs(count) => count,
-            _ => 0,
+            LogOutcome::Differs(count) => count,
+            LogOutcome::Met | LogOutcome::Written | LogOutcome::Same | LogOutcome::NotJudged => 0,
         }
     }
 }

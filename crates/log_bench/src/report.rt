@@ -1,8 +1,8 @@
 //! The reports of a test, as text and as lines of JSON.
 
-use crate::outcome::Outcome;
+use crate::outcome::LogOutcome;
 use log_expect::{LineDifference, line_fits};
-use log_words::Format;
+use log_options::Format;
 use serde_json::Value;
 use std::alloc::{AllocError, Global};
 use std::fmt;
@@ -32,13 +32,17 @@ pub(crate) fn put_outcome<W: Write>(
     alloc: Global,
     format: Format,
     path: &str,
-    outcome: Outcome,
+    outcome: LogOutcome,
     out: &mut W,
 ) -> io::Result<()> {
     match (format, outcome) {
         (Format::Json, _) => outcome_line(alloc, path, outcome)?.write(out),
-        (Format::Text, Outcome::NotJudged) => Ok(()),
-        (Format::Text, Outcome::Differs(count)) => writeln!(out, "{path}: {}", Differing { count }),
+        (Format::Text, LogOutcome::NotJudged) => Ok(()),
+        (Format::Text, LogOutcome::Differs(count)) => writeln!(
+            out,
+            "{path}: {}",
+            Differing { count }
+        ),
         (Format::Text, _) => writeln!(out, "{path}: {}", outcome.word()),
     }
 }
@@ -108,7 +112,7 @@ fn texts_in(alloc: Global, lines: &[&[u8]]) -> Result<Value, AllocError> {
 }
 
 /// The line of JSON of what became of a log.
-fn outcome_line(alloc: Global, path: &str, outcome: Outcome) -> Result<JsonLine, AllocError> {
+fn outcome_line(alloc: Global, path: &str, outcome: LogOutcome) -> Result<JsonLine, AllocError> {
     let mut json = JsonLine::new(alloc);
     json.put_text("kind", "log")?;
     json.put_text("log", path)?;

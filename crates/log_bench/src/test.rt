@@ -3,8 +3,8 @@
 use crate::bench::Bench;
 use crate::entries::{Entry, entries_at};
 use crate::junit::JUnit;
+use log_options::{Format, TestFormat, TestOptions};
 use log_replay::read_sets;
-use log_words::{Format, TestFormat, TestOptions};
 use std::alloc::Global;
 use std::io::{self, Write};
 use vt_cli::{List, Open, Save, Status};

@@ -3,13 +3,13 @@ use Rattle.std.specs.Prelude.{ℕ, ◌==◌, ◌&&◌, Bool, true, false, if◌t
 use Rattle.std.specs.Str.{bytes_eq}
 use Rattle.log_answers.specs.declared.difference.Difference.{Difference}
 use Rattle.log_answers.specs.declared.difference.Difference.TheVariants.{Differ, OursAlone, TheirsAlone}
-use Rattle.log_compare.specs.declared.left_out.Part.{Part}
-use Rattle.log_compare.specs.declared.left_out.Part.TheVariants.{State, Whole, Bytes}
+use Rattle.log_compare.specs.declared.left_out.LeftOutPart.{LeftOutPart}
+use Rattle.log_compare.specs.declared.left_out.LeftOutPart.TheVariants.{State, Whole, Bytes}
 use Rattle.vt_can.specs.Assigned.{GET_FONTS, GET_HARDWARE, GET_MEMORY, GET_SOFT_KEYS}
-use Rattle.vt_commands.specs.Functions.{BUTTON_ACTIVATION, SOFT_KEY_ACTIVATION}
+use Rattle.vt_commands.specs.Commands.{BUTTON_ACTIVATION, SOFT_KEY_ACTIVATION}
 
 -- the table: what is left out of the messages of a function
-abbrev pub part_of : ℕ → Option Part
+abbrev pub part_of : ℕ → Option LeftOutPart
 part_of function =
     if function == SOFT_KEY_ACTIVATION then Some (State 2)
     else if function == BUTTON_ACTIVATION then Some (State 2)
@@ -24,12 +24,12 @@ part_of function =
 -- ---- messages that this terminal never sends
 
 -- whether messages with this byte behind the function are never sent
-abbrev pub never_sends : Part → ℕ → Bool
+abbrev pub never_sends : LeftOutPart → ℕ → Bool
 never_sends (State left_out) state = state == left_out
 never_sends Whole state = true
 never_sends (Bytes from to) state = false
 
-abbrev pub never_sends_of : Option Part → ℕ → Bool
+abbrev pub never_sends_of : Option LeftOutPart → ℕ → Bool
 never_sends_of None state = false
 never_sends_of (Some part) state = never_sends part state
 
@@ -42,12 +42,12 @@ is_never_sent (function ∷ state ∷ rest) = length rest == 6 && never_sends_of
 -- ---- answers with values of the terminal
 
 -- whether two answers are the same outside of the bytes that are left out
-abbrev pub is_same_outside : Part → List ℕ → List ℕ → Bool
+abbrev pub is_same_outside : LeftOutPart → List ℕ → List ℕ → Bool
 is_same_outside (State left_out) ours theirs = false
 is_same_outside Whole ours theirs = false
 is_same_outside (Bytes from to) ours theirs = bytes_eq (take from ours) (take from theirs) && bytes_eq (drop to ours) (drop to theirs)
 
-abbrev pub is_same_outside_of : Option Part → List ℕ → List ℕ → Bool
+abbrev pub is_same_outside_of : Option LeftOutPart → List ℕ → List ℕ → Bool
 is_same_outside_of None ours theirs = false
 is_same_outside_of (Some part) ours theirs = is_same_outside part ours theirs
 

@@ -126,8 +126,8 @@ impl Causes {
                 self.has_actions = true;
                 None
             }
-            Ok(Line::Frame { frame, .. }) if ends_upload(frame, own) => Some(frame.id.source()),
-            _ => None,
+            Ok(Line::Frame { frame, .. }) => ends_upload(frame, own).then_some(frame.id.source()),
+            Ok(Line::Skipped(_) | Line::Comment) | Err(_) => None,
         }
     }
 

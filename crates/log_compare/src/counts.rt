@@ -6,7 +6,7 @@ use std::collections::BTreeMap;
 
 /// How many differences there were, by what became of them.
 #[derive(Drop)]
-pub(crate) struct Counts {
+pub(crate) struct DifferenceCounts {
     /// Answers with other bytes than their questions.
     pub(crate) differ: u64,
     /// Questions without an answer in time.
@@ -19,10 +19,10 @@ pub(crate) struct Counts {
     pub(crate) left_out: BTreeMap<u8, u64>,
 }
 
-impl Counts {
+impl DifferenceCounts {
     /// No differences. Allocates nothing.
-    pub(crate) fn new(alloc: Global) -> Counts {
-        Counts {
+    pub(crate) fn new(alloc: Global) -> DifferenceCounts {
+        DifferenceCounts {
             differ: 0,
             ours_alone: 0,
             theirs_alone: 0,

@@ -17,7 +17,7 @@ const STILL_HELD: u8 = 2;
 
 /// Which messages of a function are left out.
 #[derive(Clone, Copy, PartialEq, Eq)]
-pub(crate) enum Part {
+pub(crate) enum LeftOutPart {
     /// Messages with this byte behind the function, which this terminal never sends.
     State(u8),
     /// All messages, which this terminal never sends.
@@ -26,7 +26,7 @@ pub(crate) enum Part {
     Bytes(usize, usize),
 }
 
-impl Part {
+impl LeftOutPart {
     ghost use Rattle.log_compare.specs.LeftOut.{is_same_outside, never_sends};
 
     /// Whether this terminal never sends a message with this byte behind the function.
@@ -34,9 +34,9 @@ impl Part {
         ensures { result ≡ never_sends self state }
     {
         match self {
-            Part::State(left_out) => state == left_out,
-            Part::Whole => true,
-            Part::Bytes(_, _) => false,
+            LeftOutPart::State(left_out) => state == left_out,
+            LeftOutPart::Whole => true,
+            LeftOutPart::Bytes(_, _) => false,
         }
     }
 
@@ -45,8 +45,8 @@ impl Part {
         ensures { result ≡ is_same_outside self ours.now theirs.now }
     {
         match self {
-            Part::State(_) | Part::Whole => false,
-            Part::Bytes(from, to) => {
+            LeftOutPart::State(_) | LeftOutPart::Whole => false,
+            LeftOutPart::Bytes(from, to) => {
                 front(ours, from) == front(theirs, from) && back(ours, to) == back(theirs, to)
             }
         }
@@ -57,7 +57,7 @@ impl Part {
 #[derive(Clone, Copy, PartialEq, Eq)]
 pub(crate) struct LeftOut {
     /// Which messages.
-    pub(crate) part: Part,
+    pub(crate) part: LeftOutPart,
     /// The name of the function.
     pub(crate) name: &'static str,
     /// Why they are left out.
@@ -77,42 +77,42 @@ impl LeftOut {
     {
         let row = match function {
             SOFT_KEY_ACTIVATION => LeftOut {
-                part: Part::State(STILL_HELD),
+                part: LeftOutPart::State(STILL_HELD),
                 name: "Soft Key Activation",
                 why: HELD,
             },
             BUTTON_ACTIVATION => LeftOut {
-                part: Part::State(STILL_HELD),
+                part: LeftOutPart::State(STILL_HELD),
                 name: "Button Activation",
                 why: HELD,
             },
             POINTING_EVENT => LeftOut {
-                part: Part::Whole,
+                part: LeftOutPart::Whole,
                 name: "Pointing Event",
                 why: NOT_SENT,
             },
             SELECT_INPUT => LeftOut {
-                part: Part::Whole,
+                part: LeftOutPart::Whole,
                 name: "Select Input Object",
                 why: NOT_SENT,
             },
             GET_MEMORY => LeftOut {
-                part: Part::Bytes(2, 3),
+                part: LeftOutPart::Bytes(2, 3),
                 name: "Get Memory",
                 why: "each terminal has its own memory",
             },
             GET_SOFT_KEYS => LeftOut {
-                part: Part::Bytes(4, 8),
+                part: LeftOutPart::Bytes(4, 8),
                 name: "Get Number of Soft Keys",
                 why: SCREEN,
             },
             GET_FONTS => LeftOut {
-                part: Part::Bytes(5, 8),
+                part: LeftOutPart::Bytes(5, 8),
                 name: "Get Text Font Data",
                 why: "each terminal has its own fonts",
             },
             GET_HARDWARE => LeftOut {
-                part: Part::Bytes(1, 8),
+                part: LeftOutPart::Bytes(1, 8),
                 name: "Get Hardware",
                 why: SCREEN,
             },

@@ -1,9 +1,9 @@
 //! What the log tells of the recorded terminal's times.
 
 use log_listen::{Broken, Listener};
+use log_options::Format;
 use log_times::Times;
 use log_traffic::Moment;
-use log_words::Format;
 use std::alloc::{AllocError, Global};
 use std::io::{self, Write};
 use vt_can::Frame;

@@ -1,7 +1,7 @@
 //! The report of a comparison: which differences it has, and what it counts.
 
 use crate::causes::Causes;
-use crate::counts::Counts;
+use crate::counts::DifferenceCounts;
 use crate::left_out::{LeftOut, is_left_out};
 use crate::selection::Selection;
 use crate::told::{Telling, first_of};
@@ -16,7 +16,7 @@ use vt_server::Terminal;
 pub(crate) struct Report<'a> {
     telling: Telling<'a>,
     selection: Selection<'a>,
-    counts: Counts,
+    counts: DifferenceCounts,
     /// What is known of the causes of differences.
     pub(crate) causes: Causes,
     /// Whether a difference was reported.
@@ -29,7 +29,7 @@ impl<'a> Report<'a> {
         Report {
             telling,
             selection,
-            counts: Counts::new(alloc),
+            counts: DifferenceCounts::new(alloc),
             causes: Causes::new(alloc),
             status: Status::Clean,
         }
@@ -63,7 +63,7 @@ impl<'a> Report<'a> {
 
     /// How many differences there are, if the options select none of them. `None` if one was reported or left out, or if there is none.
     pub(crate) fn all_ignored(&self) -> Option<u64> {
-        let Counts {
+        let DifferenceCounts {
             ignored,
             left_out,
             ..

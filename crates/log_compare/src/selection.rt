@@ -2,7 +2,7 @@
 
 use check_text::Names;
 use log_answers::{Said, Topic};
-use log_words::{ObjectWord, TopicFilter, TopicPart};
+use log_options::{ObjectWord, TopicFilter, TopicPart};
 use std::io::Write;
 use vt_cli::Program;
 use vt_objects::ObjectId;

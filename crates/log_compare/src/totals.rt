@@ -1,11 +1,11 @@
 //! The lines of a comparison that are about no single difference: stored pools, what was left out, and the counts.
 
-use crate::counts::Counts;
+use crate::counts::DifferenceCounts;
 use crate::left_out::LeftOut;
 use crate::told::Telling;
 use log_answers::Tally;
+use log_options::Format;
 use log_replay::Load;
-use log_words::Format;
 use std::io::{self, Write};
 use vt_cli::{Cell, JsonLine, put_line};
 use vt_frames_text::PoolRequest;
@@ -61,12 +61,12 @@ impl Telling<'_> {
     /// Writes the counts, which are the last line. Whether the options select differences decides if those that are ignored are named.
     pub(crate) fn put_tally<W: Write>(
         &self,
-        counts: &Counts,
+        counts: &DifferenceCounts,
         is_selected: bool,
         tally: Tally,
         out: &mut W,
     ) -> io::Result<()> {
-        let Counts {
+        let DifferenceCounts {
             differ,
             ours_alone,
             theirs_alone,

@@ -44,29 +44,23 @@ impl Mark {
         let source = frame.id.source();
         let destination = frame.id.destination()?;
         let is_extended = matches!(group, ETP_CM | ETP_DT);
+        let address = if destination == own {
+            source
+        } else {
+            destination
+        };
+        let sender = Sender {
+            is_extended,
+            address,
+        };
+        let bytes = frame.bytes.as_slice();
         if destination == own {
-            let address = source;
-            return Mark::to_terminal(
-                Sender {
-                    is_extended,
-                    address,
-                },
-                group,
-                frame.bytes.as_slice(),
-            );
+            Mark::to_terminal(sender, group, bytes)
+        } else if source == own {
+            Mark::of_terminal(sender, group, bytes)
+        } else {
+            None
         }
-        if source != own {
-            return None;
-        }
-        let address = destination;
-        Mark::of_terminal(
-            Sender {
-                is_extended,
-                address,
-            },
-            group,
-            frame.bytes.as_slice(),
-        )
     }
 
     /// What a frame from the terminal says.

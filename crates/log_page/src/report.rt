@@ -3,11 +3,11 @@
 use crate::block::{Block, Room};
 use crate::page::{SCRIPTS, body, head, style};
 use log_compare::compare_replay;
+use log_options::{DifferenceOptions, Format, LineFilter, ReportOptions, TopicFilter};
 use log_pools::put_uploads;
 use log_replay::{Messages, Replay};
 use log_runs::{put_screens, trace_replay};
 use log_stats::put_numbers;
-use log_words::{DifferenceOptions, Format, LineFilter, ReportOptions, TopicFilter};
 use std::alloc::Global;
 use std::io::{self, Write};
 use vt_cli::{JsonLine, Open, Save, Status, VERSION};

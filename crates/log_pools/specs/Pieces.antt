@@ -3,7 +3,7 @@
 use Rattle.std.specs.Prelude.{ℕ, ◌==◌, ◌||◌, Bool, false, if◌then◌else◌, Option, None, Some, unwrap_or, List, [], ◌∷◌, ◌++◌, drop}
 use Rattle.vt_can.specs.Assigned.{ECU_TO_VT, TRANSFER, END_OF_POOL}
 use Rattle.vt_can.specs.frames.Identifier.{addressed, raw_of}
-use Rattle.vt_commands.specs.Functions.{DELETE_POOL}
+use Rattle.vt_commands.specs.Commands.{DELETE_POOL}
 
 -- the identifier of the messages of an implement to a terminal, with priority 7
 abbrev pub id_of : ℕ → ℕ → ℕ

@@ -8,7 +8,7 @@ use vt_can::assigned::ECU_TO_VT;
 
 /// A message of an implement to a terminal.
 #[derive(Clone, Copy)]
-pub struct Message<'a> {
+pub struct ImplementMessage<'a> {
     /// The line of the log at which the message was whole, from 1.
     pub line: u64,
     /// The address of the implement.
@@ -19,7 +19,7 @@ pub struct Message<'a> {
     pub bytes: &'a [u8],
 }
 
-impl Message<'_> {
+impl ImplementMessage<'_> {
     /// The identifier of the messages from this source to this destination, with priority 7.
     pub(crate) fn id(&self) -> u32
         ensures { result ≡ id_of self.now.source self.now.destination }

@@ -1,14 +1,14 @@
 //! The subcommand `pools`.
 
-use crate::report::{UploadEnd, put_broken, put_finding, put_request, put_unended, put_upload};
-use crate::sets::Sets;
+use crate::report::{UploadPlace, put_broken, put_finding, put_request, put_unended, put_upload};
+use crate::sets::ImplementSets;
 use crate::verdict::Verdict;
-use crate::{Message, Upload, Uploads};
+use crate::{ImplementMessage, Upload, Uploads};
 use check_inspect::inspect;
 use check_text::{CheckedPool, Item, Names};
 use log_listen::{Broken, Listener};
+use log_options::{Format, PoolsOptions};
 use log_replay::{Log, Messages, Pass};
-use log_words::{Format, PoolsOptions};
 use std::alloc::{AllocError, Global};
 use std::io::{self, Write};
 use vt_can::assigned::ECU_TO_VT;
@@ -77,7 +77,7 @@ fn put_pools<F: Open + Save, W: Write, E: Messages>(
         listener: Listener::new(alloc),
         uploads: Uploads::new(alloc),
         broken: Vec::new(alloc),
-        sets: Sets::new(alloc),
+        sets: ImplementSets::new(alloc),
         status: Status::Clean,
     };
     if !log.pass(&mut hearing, files, out, errors)? {
@@ -97,7 +97,7 @@ struct Hearing<'a> {
     listener: Listener,
     uploads: Uploads,
     broken: Vec<Broken>,
-    sets: Sets,
+    sets: ImplementSets,
     status: Status,
 }
 
@@ -111,10 +111,10 @@ impl<F: Save, W: Write, E: Messages> Pass<F, W, E> for Hearing<'_> {
         out: &mut W,
         errors: &mut E,
     ) -> io::Result<()> {
-        match reading {
-            Ok(Line::Frame { frame, .. }) => self.hear(number, &frame, files, out, errors),
-            _ => Ok(()),
-        }
+        let Ok(Line::Frame { frame, .. }) = reading else {
+            return Ok(());
+        };
+        self.hear(number, &frame, files, out, errors)
     }
 }
 
@@ -132,7 +132,7 @@ impl Hearing<'_> {
             let Some(destination) = frame.id.destination() else {
                 return Ok(());
             };
-            let message = Message {
+            let message = ImplementMessage {
                 line,
                 source: frame.id.source(),
                 destination,
@@ -145,7 +145,7 @@ impl Hearing<'_> {
         self.put_broken(Some(line), out)?;
         match sent {
             Some(sent) if sent.pgn == ECU_TO_VT => {
-                let message = Message {
+                let message = ImplementMessage {
                     line,
                     source: sent.source,
                     destination: sent.destination,
@@ -170,7 +170,7 @@ impl Hearing<'_> {
     /// Reports what a message to a terminal brings about.
     fn hear_message<F: Save, W: Write, E: Write>(
         &mut self,
-        message: Message<'_>,
+        message: ImplementMessage<'_>,
         files: &mut F,
         out: &mut W,
         errors: &mut E,
@@ -206,7 +206,7 @@ impl Hearing<'_> {
         let verdict = Verdict::of_upload(report.alloc, &upload.bytes, objects)?;
         let saved = report.save(name.as_str(), &upload.bytes, files, errors)?;
         let is_lost = report.folder.is_some() && saved.is_none();
-        let end = UploadEnd { line, is_update };
+        let end = UploadPlace { line, is_update };
         report.put_verdict(end, upload, &verdict, name.as_str(), saved, out)?;
         let found = self.sets.judge(upload, verdict)?;
         Ok(if is_lost { Status::NotJudged } else { found })
@@ -269,7 +269,7 @@ impl Report<'_> {
     /// Writes the line of an upload, with the file of its pool if it is saved, and each fault of a pool that is not accepted.
     fn put_verdict<W: Write>(
         &self,
-        end: UploadEnd,
+        end: UploadPlace,
         upload: &Upload,
         verdict: &Verdict,
         name: &str,
@@ -283,7 +283,7 @@ impl Report<'_> {
             Verdict::Faulty(_) | Verdict::Refused(_) if !end.is_update => {
                 self.put_findings(path, &upload.bytes, out)
             }
-            _ => Ok(()),
+            Verdict::Accepted(_) | Verdict::Faulty(_) | Verdict::Refused(_) => Ok(()),
         }
     }
 

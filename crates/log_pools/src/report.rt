@@ -1,11 +1,11 @@
 //! The lines of a report on the pools of a log, for people or as JSON.
 
 use crate::verdict::Verdict;
-use crate::{Message, Upload};
+use crate::{ImplementMessage, Upload};
 use check_json::item_json;
 use check_text::{CheckedPool, Item};
 use log_listen::Broken;
-use log_words::Format;
+use log_options::Format;
 use serde_json::Value;
 use std::alloc::Global;
 use std::fmt;
@@ -15,13 +15,13 @@ use vt_frames_text::PoolRequest;
 
 /// Where an upload has ended, and whether it was an update.
 #[derive(Clone, Copy)]
-pub(crate) struct UploadEnd {
+pub(crate) struct UploadPlace {
     /// The line of its end.
     pub(crate) line: u64,
     pub(crate) is_update: bool,
 }
 
-impl UploadEnd {
+impl UploadPlace {
     /// What was uploaded, in a word.
     fn kind(self) -> &'static str {
         if self.is_update { "update" } else { "pool" }
@@ -44,7 +44,7 @@ impl fmt::Display for Pieces {
 /// Writes the line of an upload, with the file of its pool if it is written.
 pub(crate) fn put_upload<W: Write>(
     alloc: Global,
-    end: UploadEnd,
+    end: UploadPlace,
     upload: &Upload,
     verdict: &Verdict,
     path: Option<&str>,
@@ -58,13 +58,13 @@ pub(crate) fn put_upload<W: Write>(
 }
 
 fn put_upload_text<W: Write>(
-    end: UploadEnd,
+    end: UploadPlace,
     upload: &Upload,
     verdict: &Verdict,
     path: Option<&str>,
     out: &mut W,
 ) -> io::Result<()> {
-    let UploadEnd { line, .. } = end;
+    let UploadPlace { line, .. } = end;
     let kind = end.kind();
     let Upload {
         first_line,
@@ -88,7 +88,7 @@ fn put_upload_text<W: Write>(
 
 fn put_upload_fields<W: Write>(
     alloc: Global,
-    end: UploadEnd,
+    end: UploadPlace,
     upload: &Upload,
     verdict: &Verdict,
     path: Option<&str>,
@@ -191,12 +191,12 @@ fn put_broken_fields<W: Write>(
 /// Writes the line of a request about pools.
 pub(crate) fn put_request<W: Write>(
     alloc: Global,
-    message: Message<'_>,
+    message: ImplementMessage<'_>,
     request: PoolRequest<'_>,
     format: Format,
     out: &mut W,
 ) -> io::Result<()> {
-    let Message {
+    let ImplementMessage {
         line,
         source,
         destination,

@@ -9,14 +9,14 @@ use vt_objects::SortedStore;
 
 /// The objects of each implement at each terminal, and how many uploads each implement has ended.
 #[derive(Drop)]
-pub(crate) struct Sets {
+pub(crate) struct ImplementSets {
     objects: BTreeMap<(u8, u8), SortedStore>,
     uploads: BTreeMap<u8, u64>,
 }
 
-impl Sets {
-    pub(crate) fn new(alloc: Global) -> Sets {
-        Sets {
+impl ImplementSets {
+    pub(crate) fn new(alloc: Global) -> ImplementSets {
+        ImplementSets {
             objects: BTreeMap::new(alloc),
             uploads: BTreeMap::new(alloc),
         }

@@ -5,7 +5,7 @@ ghost use Rattle.std.specs.Ordering.{nat_cmp};
 ghost use Rattle.std.specs.BTreeMap.{get};
 ghost use Rattle.log_pools.specs.Pieces.{Told, id_of};
 
-use crate::message::Message;
+use crate::message::ImplementMessage;
 use crate::upload::Upload;
 use std::alloc::{AllocError, Global};
 use std::collections::BTreeMap;
@@ -35,7 +35,7 @@ impl Uploads {
 
     /// Receives a message. If it is an End of Object Pool, returns the upload that it ends. After `OutOfMemory` the uploads are of
     /// no more use.
-    pub fn take(&mut self, message: Message<'_>) -> Result<Option<Upload>, AllocError>
+    pub fn take(&mut self, message: ImplementMessage<'_>) -> Result<Option<Upload>, AllocError>
         ensures taken { OnOk result ((messages : List Told) → HasTaken messages self.old
             → HasTaken (record { id = id_of message.entry.source message.entry.destination; bytes = message.entry.bytes.now } ∷ messages) self.new) }
         ensures ended { IfOk result (λ upload. (messages : List Told) → HasTaken messages self.old
@@ -64,7 +64,7 @@ impl Uploads {
     }
 
     /// Appends a piece to its upload.
-    fn append(&mut self, message: Message<'_>, piece: &[u8]) -> Result<(), AllocError>
+    fn append(&mut self, message: ImplementMessage<'_>, piece: &[u8]) -> Result<(), AllocError>
         ensures here { OnOk result (bytes_of (get nat_cmp self.new.unended (id_of message.entry.source message.entry.destination))
             ≡ Some (unwrap_or (bytes_of (get nat_cmp self.old.unended (id_of message.entry.source message.entry.destination))) [] ++ piece.now)) }
         ensures others { OnOk result ((id : ℕ) → id ≢ id_of message.entry.source message.entry.destination
@@ -78,7 +78,7 @@ impl Uploads {
     }
 
     /// Removes the upload that a message belongs to, which may be empty.
-    fn remove(&mut self, message: Message<'_>) -> Upload
+    fn remove(&mut self, message: ImplementMessage<'_>) -> Upload
         ensures bytes { result.bytes.items ≡ unwrap_or (bytes_of (get nat_cmp self.old.unended (id_of message.entry.source message.entry.destination))) [] }
         ensures here { get nat_cmp self.new.unended (id_of message.entry.source message.entry.destination) ≡ None }
         ensures others { (id : ℕ) → id ≢ id_of message.entry.source message.entry.destination

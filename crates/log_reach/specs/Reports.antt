@@ -9,7 +9,7 @@ use Rattle.log_reach.specs.declared.macros.ReachedMacros.{ReachedMacros}
 use Rattle.log_reach.specs.declared.reached.Reached.{Reached}
 use Rattle.log_reach.specs.declared.report.PoolObject.{PoolObject}
 use Rattle.log_reach.specs.declared.report.SetReach.{SetReach}
-use Rattle.log_reach.specs.declared.shown_masks.ShownMasks.{ShownMasks}
+use Rattle.log_reach.specs.declared.shown_masks.ReachedMasks.{ReachedMasks}
 use Rattle.log_reach.specs.declared.split.Split.{Split}
 use Rattle.log_reach.specs.DrawnObjects.{was_drawn}
 use Rattle.log_reach.specs.ShownMasks.{was_shown}
@@ -41,7 +41,7 @@ is_drawn kind = is_member AllButPointers kind && (is_member Keys kind || is_memb
 
 -- A working set is told by its address, with what was noted of it: each object of its pools by whether it is a mask that was shown of it, was
 -- drawn, or is a macro that counts as reached; and each other mask, kind that is drawn, and macro among those that never were.
-pub record TellsOf (shown : ShownMasks) (noted : ℕ × Reached) (reach : SetReach) : Type 0 where
+pub record TellsOf (shown : ReachedMasks) (noted : ℕ × Reached) (reach : SetReach) : Type 0 where
   pub address : reach.address ≡ noted.0
   pub done : reach.done ≡ noted.1.done
   pub refused : reach.refused ≡ noted.1.refused

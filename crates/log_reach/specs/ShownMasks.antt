@@ -5,13 +5,13 @@ use Rattle.vt_machine.specs.SetStates.{SetState, active_in}
 use Rattle.log_reach.specs.PairSets.{has_pair}
 use Rattle.vt_server.specs.Terminals.{State}
 use Rattle.vt_server.specs.shown.ShownSet.{pool_shown}
-use Rattle.log_reach.specs.declared.shown_masks.ShownMasks.{ShownMasks}
+use Rattle.log_reach.specs.declared.shown_masks.ReachedMasks.{ReachedMasks}
 
 -- a mask was shown of the set at an address
-abbrev pub was_shown : ShownMasks → ℕ → ℕ → Bool
+abbrev pub was_shown : ReachedMasks → ℕ → ℕ → Bool
 was_shown shown address mask = has_pair shown.masks.pairs (address, mask)
 
-abbrev pub HasShown : ShownMasks → ℕ → ℕ → Type 0
+abbrev pub HasShown : ReachedMasks → ℕ → ℕ → Type 0
 HasShown shown address mask = IsTrue (was_shown shown address mask)
 
 -- a mask of the set at an address joins those that were shown: the others stay, and no other joins

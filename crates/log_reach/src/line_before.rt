@@ -51,7 +51,7 @@ impl LineBefore {
                 }
             }
             Ok(Line::Operator(action)) => line.deed = deed_of(*action),
-            _ => {}
+            Ok(Line::Skipped(_) | Line::Comment) | Err(_) => {}
         }
         line
     }

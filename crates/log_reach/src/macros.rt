@@ -116,10 +116,12 @@ impl ReachedMacros {
             return Ok(());
         };
         if raised.event == Event::RunByName {
-            return match (object, u8::try_from(raised.id.raw())) {
-                (Object::Macro(_), Ok(id)) => self.put(id),
-                _ => Ok(()),
-            };
+            if matches!(object, Object::Macro(_))
+                && let Ok(id) = u8::try_from(raised.id.raw())
+            {
+                self.put(id)?;
+            }
+            return Ok(());
         }
         let number = raised.event.number();
         for entry in object.macros() {

@@ -8,8 +8,8 @@ ghost use Rattle.log_reach.specs.Reports.{TellsOf};
 ghost use Rattle.log_reach.specs.ShownMasks.{AddsShown, ShowsMask};
 
 use crate::report::SetReach;
-use crate::sets::Sets;
-use crate::shown_masks::ShownMasks;
+use crate::sets::ReachedSets;
+use crate::shown_masks::ReachedMasks;
 use std::alloc::{AllocError, Global};
 use vt_can::{Line, LineFault};
 use vt_server::{Output, Terminal};
@@ -26,8 +26,8 @@ use vt_server::{Output, Terminal};
 #[derive(Drop)]
 pub struct Reach {
     alloc: Global,
-    shown_masks: ShownMasks,
-    sets: Sets,
+    shown_masks: ReachedMasks,
+    sets: ReachedSets,
 }
 
 impl Reach {
@@ -36,9 +36,9 @@ impl Reach {
         // No mask was shown but the active mask of the shown set.
         ensures { IfOk result (λ reach. (address mask : ℕ) → WasShown reach address mask ↔ ShowsMask (state_of terminal.now) address mask) }
     {
-        let mut shown_masks = ShownMasks::new(alloc);
+        let mut shown_masks = ReachedMasks::new(alloc);
         shown_masks.note(terminal)?;
-        let sets = Sets::new(alloc, terminal)?;
+        let sets = ReachedSets::new(alloc, terminal)?;
         Ok(Reach {
             alloc,
             shown_masks,

@@ -4,7 +4,7 @@ ghost use Rattle.std.specs.Prelude.{◌≡◌, IfOk};
 ghost use Rattle.log_reach.specs.Reports.{is_drawn};
 
 use crate::reached::Reached;
-use crate::shown_masks::ShownMasks;
+use crate::shown_masks::ReachedMasks;
 use crate::split::Split;
 use check_text::{Label, Names};
 use std::alloc::{AllocError, Global};
@@ -52,7 +52,7 @@ impl SetReach {
         alloc: Global,
         address: u8,
         set: &Reached,
-        shown_masks: &ShownMasks,
+        shown_masks: &ReachedMasks,
     ) -> Result<SetReach, AllocError>
         ensures { IfOk result (TellsOf shown_masks.now (address, set.now)) }
     {

@@ -13,17 +13,17 @@ use vt_server::{Output, Terminal};
 
 /// The working sets that had a pool, by their addresses.
 #[derive(Drop)]
-pub(crate) struct Sets {
+pub(crate) struct ReachedSets {
     alloc: Global,
     pub(crate) sets: BTreeMap<u8, Reached>,
     /// What was known before the line that the terminal takes.
     line: Option<LineBefore>,
 }
 
-impl Sets {
+impl ReachedSets {
     /// The working sets that a terminal has before the first line, and what it draws.
-    pub(crate) fn new(alloc: Global, terminal: &Terminal) -> Result<Sets, AllocError> {
-        let mut sets = Sets {
+    pub(crate) fn new(alloc: Global, terminal: &Terminal) -> Result<ReachedSets, AllocError> {
+        let mut sets = ReachedSets {
             alloc,
             sets: BTreeMap::new(alloc),
             line: None,

@@ -15,16 +15,16 @@ use vt_server::Terminal;
 
 /// The masks that were shown, each with the address of its working set.
 #[derive(Drop)]
-pub(crate) struct ShownMasks {
+pub(crate) struct ReachedMasks {
     masks: Pairs,
 }
 
-impl ShownMasks {
+impl ReachedMasks {
     /// No masks. Does not allocate.
-    pub(crate) fn new(alloc: Global) -> ShownMasks
+    pub(crate) fn new(alloc: Global) -> ReachedMasks
         ensures { (address mask : ℕ) → ¬ HasShown result address mask }
     {
-        ShownMasks {
+        ReachedMasks {
             masks: Pairs::new(alloc),
         }
     }

@@ -1,6 +1,6 @@
 //! The terminal that replays a log, before its first line.
 
-use log_words::{StartOptions, TerminalOptions};
+use log_options::{StartOptions, TerminalOptions};
 use std::alloc::{AllocError, Global};
 use std::io::{self, Error, ErrorKind, Write};
 use vt_cli::{Open, StartSet, read_pool_file};

@@ -1,8 +1,8 @@
 //! The screens of a log with their pictures, as lines of JSON.
 
 use crate::screens::Screens;
+use log_options::LineRange;
 use log_replay::{Messages, Replay, ReplayPass, Turn};
-use log_words::LineRange;
 use std::alloc::{AllocError, Global};
 use std::collections::BTreeMap;
 use std::io::{self, Write};

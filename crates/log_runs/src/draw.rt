@@ -2,8 +2,8 @@
 
 use crate::screens::Screens;
 use crate::sieve::Sieve;
+use log_options::{DrawOptions, Format};
 use log_replay::{Messages, Replay, ReplayPass, Turn};
-use log_words::{DrawOptions, Format};
 use std::alloc::Global;
 use std::io::{self, Write};
 use vt_can::{Line, LineFault};

@@ -9,7 +9,7 @@ use vt_objects::ObjectId;
 
 /// A message at a line of a log, in a frame or in packets.
 #[derive(Clone, Copy)]
-pub(crate) struct Message<'a> {
+pub(crate) struct LineMessage<'a> {
     /// The parameter group.
     pub(crate) group: u32,
     /// The address that sends it.
@@ -20,10 +20,10 @@ pub(crate) struct Message<'a> {
     pub(crate) bytes: &'a [u8],
 }
 
-impl<'a> Message<'a> {
+impl<'a> LineMessage<'a> {
     /// The message of a frame.
-    pub(crate) fn of_frame(frame: &'a Frame) -> Message<'a> {
-        Message {
+    pub(crate) fn of_frame(frame: &'a Frame) -> LineMessage<'a> {
+        LineMessage {
             group: frame.id.pgn(),
             source: frame.id.source(),
             destination: frame.id.destination().unwrap_or(GLOBAL_ADDRESS),

@@ -1,10 +1,10 @@
 //! Decides which lines of a log are printed, by the options of a subcommand.
 
-use crate::messages::Message;
+use crate::messages::LineMessage;
 use check_text::Names;
 use log_listen::{Broken, Listener};
+use log_options::LineFilter;
 use log_replay::Turn;
-use log_words::LineFilter;
 use std::alloc::{AllocError, Global};
 use std::io::Write;
 use vt_can::{Action, Frame, Line, LineFault};
@@ -84,11 +84,11 @@ impl<'a> Sieve<'a> {
             _ if self.takes_all() => true,
             // A packet that is left out or held makes no message whole.
             Ok(Line::Frame { frame, .. }) if matches!(turn, Turn::Never | Turn::Later) => {
-                self.fits_message(Message::of_frame(frame))
+                self.fits_message(LineMessage::of_frame(frame))
             }
             Ok(Line::Frame { frame, .. }) => self.hear(frame)?,
             Ok(Line::Operator(action)) => self.fits_action(*action),
-            _ => false,
+            Ok(Line::Skipped(_) | Line::Comment) | Err(_) => false,
         };
         Ok(())
     }
@@ -133,13 +133,13 @@ impl<'a> Sieve<'a> {
     fn hear(&mut self, frame: &Frame) -> Result<bool, AllocError> {
         self.broken.clear();
         let whole = self.listener.hear(frame, &mut self.broken)?;
-        if self.fits_message(Message::of_frame(frame)) {
+        if self.fits_message(LineMessage::of_frame(frame)) {
             return Ok(true);
         }
         let Some(whole) = whole else {
             return Ok(false);
         };
-        Ok(self.fits_message(Message {
+        Ok(self.fits_message(LineMessage {
             group: whole.pgn,
             source: whole.source,
             destination: whole.destination,
@@ -150,25 +150,25 @@ impl<'a> Sieve<'a> {
     /// Whether one of the frames that the terminal sends fits.
     fn fits_output(&self, outputs: &[Output]) -> bool {
         outputs.iter().any(|output| match output {
-            Output::Frame(frame) => self.fits_message(Message::of_frame(frame)),
+            Output::Frame(frame) => self.fits_message(LineMessage::of_frame(frame)),
             Output::Refused(_) => false,
         })
     }
 
     /// Whether a message fits each part of the filter.
-    fn fits_message(&self, message: Message<'_>) -> bool {
+    fn fits_message(&self, message: LineMessage<'_>) -> bool {
         self.fits_address(message) && self.fits_function(message) && self.fits_objects(message)
     }
 
     /// Whether a message is from or to one of the addresses.
-    fn fits_address(&self, message: Message<'_>) -> bool {
+    fn fits_address(&self, message: LineMessage<'_>) -> bool {
         let addresses = &self.filter.addresses;
         let is_end = |address: &u8| *address == message.source || *address == message.destination;
         addresses.is_empty() || addresses.iter().any(is_end)
     }
 
     /// Whether a message has one of the functions.
-    fn fits_function(&self, message: Message<'_>) -> bool {
+    fn fits_function(&self, message: LineMessage<'_>) -> bool {
         let functions = &self.filter.functions;
         let of_message = message.function();
         functions.is_empty()
@@ -178,7 +178,7 @@ impl<'a> Sieve<'a> {
     }
 
     /// Whether a message names one of the objects.
-    fn fits_objects(&self, message: Message<'_>) -> bool {
+    fn fits_objects(&self, message: LineMessage<'_>) -> bool {
         if self.filter.objects.is_empty() {
             return true;
         }

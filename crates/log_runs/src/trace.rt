@@ -2,9 +2,9 @@
 
 use crate::sieve::Sieve;
 use crate::traced_line::TracedLine;
+use log_options::{Format, LineFilter, TraceOptions};
 use log_replay::{Messages, Replay, ReplayPass, Turn};
 use log_trace::Tracer;
-use log_words::{Format, LineFilter, TraceOptions};
 use std::alloc::{AllocError, Global};
 use std::io::{self, Write};
 use vt_can::{Line, LineFault};
@@ -115,22 +115,19 @@ impl Trace<'_> {
             text,
             ..
         } = self;
-        let (time, frame) = match reading {
-            Ok(Line::Frame { time, frame }) if !turn.is_for(reading, terminal) => (*time, frame),
-            _ => return tracer.trace_line(number, reading, terminal, text),
+        let Ok(Line::Frame { time, frame }) = reading else {
+            return tracer.trace_line(number, reading, terminal, text);
         };
-        match turn {
-            Turn::Never => {
-                let why = "left out, as it came again or out of order";
-                tracer.trace_unreceived(number, time, frame, why, terminal, text)
-            }
-            Turn::Later => {
-                let why = "held until the packets before it are received";
-                tracer.trace_unreceived(number, time, frame, why, terminal, text)
-            }
-            Turn::Now | Turn::Own | Turn::Late => {
-                tracer.trace_own_frame(number, time, frame, terminal, text)
-            }
+        if turn.is_for(reading, terminal) {
+            return tracer.trace_line(number, reading, terminal, text);
         }
+        let why = match turn {
+            Turn::Never => "left out, as it came again or out of order",
+            Turn::Later => "held until the packets before it are received",
+            Turn::Now | Turn::Own | Turn::Late => {
+                return tracer.trace_own_frame(number, *time, frame, terminal, text);
+            }
+        };
+        tracer.trace_unreceived(number, *time, frame, why, terminal, text)
     }
 }

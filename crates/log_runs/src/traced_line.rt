@@ -62,7 +62,7 @@ impl<'a> TracedLine<'a> {
         match reading {
             Ok(Line::Frame { time, frame }) => self.put_frame(*time, frame, &mut line)?,
             Ok(Line::Operator(_)) => self.put_other("operator", &mut line)?,
-            _ => self.put_other("other", &mut line)?,
+            Ok(Line::Skipped(_) | Line::Comment) | Err(_) => self.put_other("other", &mut line)?,
         }
         line.put_number("line", self.number)?;
         line.put("outputs", self.outputs()?)?;

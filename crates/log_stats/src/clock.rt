@@ -13,14 +13,14 @@ const MOST_AHEAD: u64 = 10_000_000;
 
 /// Steps of a log's clock in one direction.
 #[derive(Clone, Copy, Default)]
-pub struct Steps {
+pub struct ClockSteps {
     /// How many there are, and the line of the first.
     pub found: Occurrences,
     /// The greatest of them, in microseconds.
     pub greatest: u64,
 }
 
-impl Steps {
+impl ClockSteps {
     /// Counts a step of so many microseconds at a line.
     fn note(&mut self, line: u64, step: u64) {
         self.found.note(line);
@@ -50,9 +50,9 @@ pub struct Clock {
     /// The time of the last frame, in microseconds.
     last: Option<u64>,
     /// Times that are earlier than that of the frame before.
-    pub back: Steps,
+    pub back: ClockSteps,
     /// Times that are more than ten seconds later than that of the frame before.
-    pub ahead: Steps,
+    pub ahead: ClockSteps,
 }
 
 impl Clock {
@@ -86,10 +86,10 @@ impl fmt::Display for Clock {
 /// Writes the line of the steps in a direction, if there are any.
 fn write_steps<W: fmt::Write>(
     f: &mut fmt::Formatter<W>,
-    steps: Steps,
+    steps: ClockSteps,
     direction: &str,
 ) -> fmt::Result {
-    let Steps { found, greatest } = steps;
+    let ClockSteps { found, greatest } = steps;
     if found.count == 0 {
         return Ok(());
     }

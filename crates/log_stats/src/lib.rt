@@ -21,7 +21,7 @@ mod stats;
 mod timing;
 
 pub use busy_seconds::{BusySecond, BusySeconds};
-pub use clock::{Clock, Steps};
+pub use clock::{Clock, ClockSteps};
 pub use groups::Groups;
 pub use line_counts::LineCounts;
 pub use stats::{put_numbers, run_stats};

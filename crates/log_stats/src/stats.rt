@@ -3,10 +3,10 @@
 use crate::Timing;
 use crate::fields::Fields;
 use check_text::Names;
+use log_options::{Format, StatsOptions};
 use log_reach::{Reach, ReachText};
 use log_replay::{Messages, Replay, ReplayPass, Turn, take};
 use log_traffic::Traffic;
-use log_words::{Format, StatsOptions};
 use std::alloc::Global;
 use std::io::{self, Write};
 use vt_can::{Line, LineFault};
@@ -85,7 +85,9 @@ impl<F, W, E> ReplayPass<F, W, E> for Run {
                 let sent = self.traffic.take(number, *time, frame)?;
                 self.timing.take(number, *time, frame, sent.as_ref())?;
             }
-            _ => self.timing.pass_over(number, &reading),
+            Ok(Line::Operator(_) | Line::Skipped(_) | Line::Comment) | Err(_) => {
+                self.timing.pass_over(number, &reading);
+            }
         }
         self.outputs.clear();
         self.reach.before(&reading, &self.terminal);

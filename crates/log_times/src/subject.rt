@@ -46,9 +46,10 @@ pub(crate) fn answered_by(message: Message<'_>) -> Subject {
 /// The object that the answer to a request has to name.
 fn object_in_answer(request: &[u8]) -> Option<u16> {
     let command = Command::read(request)?;
-    let object = match command {
-        Command::ChangeActiveMask { mask, .. } => mask,
-        _ => command.object()?,
+    let object = if let Command::ChangeActiveMask { mask, .. } = command {
+        mask
+    } else {
+        command.object()?
     };
     Some(object.raw())
 }

@@ -2,8 +2,8 @@
 
 use crate::actions::{action_in, put_action, put_fields};
 use log_listen::{Broken, Listener};
+use log_options::{Format, OperatorOptions};
 use log_replay::{Log, Messages, Pass, TakeLine};
-use log_words::{Format, OperatorOptions};
 use std::alloc::{AllocError, Global};
 use std::io::{self, Write};
 use vt_can::assigned::{TP_CM, TP_RTS, VT_TO_ECU};

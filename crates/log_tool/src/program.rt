@@ -3,27 +3,27 @@
 use crate::operator::run_operator;
 use log_bench::run_test;
 use log_compare::run_compare;
+use log_options::Options;
 use log_page::run_report;
 use log_pools::run_pools;
 use log_replay::Messages;
 use log_runs::{run_draw, run_trace};
 use log_stats::run_stats;
-use log_words::Options;
 use std::alloc::Global;
 use std::convert::AsStr;
 use std::io::{self, Write};
 use vt_cli::{List, Open, Save, Status, refuse};
 
-/// Runs the program on the words of its command line, of which the first is its name. `errors` receives a sentence for a wrong
+/// Runs the program on the arguments of its command line, of which the first is its name. `errors` receives a sentence for a wrong
 /// command line and for each file that cannot be read or written. An error is returned if `out` cannot be written or memory is refused.
 pub fn run<S: AsStr, F: Open + Save + List, W: Write, E: Messages>(
     alloc: Global,
-    words: &[S],
+    arguments: &[S],
     files: &mut F,
     out: &mut W,
     errors: &mut E,
 ) -> io::Result<Status> {
-    let options = match Options::parse(alloc, words) {
+    let options = match Options::parse(alloc, arguments) {
         Ok(options) => options,
         Err(refusal) => return refuse(&refusal, out, errors),
     };

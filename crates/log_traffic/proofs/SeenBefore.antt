@@ -8,7 +8,7 @@ use Rattle.std.proofs.lemmas.List.Folds.{list_any-append, list_any_none}
 use Rattle.std.proofs.lemmas.Bool.{and_left, cases_lt, le-leb, lt-leb}
 use Rattle.log_traffic.specs.declared.sightings.Sighting.{Sighting}
 use Rattle.log_traffic.specs.declared.sightings.Sightings.{Sightings}
-use Rattle.log_traffic.specs.declared.span.Span.{Span}
+use Rattle.log_traffic.specs.declared.span.FrameSpan.{FrameSpan}
 use Rattle.log_traffic.specs.Sightings.{is_same, is_soon_before, is_seen_twice, AreInOrder, IsTooOld, HasSeen, AreLeft}
 
 -- one more frame is gone
@@ -191,7 +191,7 @@ twice_next latest time taken rest frame old later seen left now few soon =
     ∙ seen_among time (seen.past ++ left.gone) rest frame now in_order few soon forgotten
 
 -- the latest time of a log, by its span
-pub latest_before : (span : Option Span) (time : ℕ) → IfSome span (λ (span : Span). span.last_time ≤ time)
-    → unwrap_or (option_map (λ (span : Span). span.last_time) span) 0 ≤ time
+pub latest_before : (span : Option FrameSpan) (time : ℕ) → IfSome span (λ (span : FrameSpan). span.last_time ≤ time)
+    → unwrap_or (option_map (λ (span : FrameSpan). span.last_time) span) 0 ≤ time
 latest_before None time later = omega arith
 latest_before (Some span) time later = later

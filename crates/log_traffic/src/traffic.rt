@@ -12,7 +12,7 @@ use crate::load::load_of;
 use crate::report::TrafficReport;
 use crate::sightings::Sightings;
 use crate::sources::Sources;
-use crate::span::Span;
+use crate::span::FrameSpan;
 use crate::transfers::TransferCounter;
 use log_listen::SentMessage;
 use std::alloc::{AllocError, Global};
@@ -25,7 +25,7 @@ use vt_can::Frame;
 #[derive(Drop)]
 pub struct Traffic {
     sources: Sources,
-    span: Option<Span>,
+    span: Option<FrameSpan>,
     transfers: TransferCounter,
     sightings: Sightings,
 }
@@ -62,7 +62,7 @@ impl Traffic {
         ensures answer { IfOk result (λ sent. (frames : List CanFrame) → HasTaken frames self.old → IsAnswer frames frame.now sent) }
     {
         self.sources.add_frame(frame.id.source(), frame.bytes.len());
-        let span = Span::with_frame_at(line, time, self.span);
+        let span = FrameSpan::with_frame_at(line, time, self.span);
         self.span = Some(span);
         self.sightings.take(span.last_time, frame)?;
         let sent = self.transfers.take(line, span.last_time, frame)?;

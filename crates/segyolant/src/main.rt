@@ -3,10 +3,10 @@
 //! docs/POOLS.md, "Every fault at once", has the command lines, the statuses and the codes.
 #![tactic(auto)]
 
-use check_tool::{Style, run};
+use check_tool::{MessageStyle, run};
 use std::io::{self, BufWriter, IsTerminal};
 use std::process::ExitCode;
-use vt_cli::{Files, Status, exit_code, words_of};
+use vt_cli::{Files, Status, arguments_of, exit_code};
 
 /// The name of the program.
 const NAME: &str = "segyolant";
@@ -16,24 +16,31 @@ fn main(rt: HostRuntime) -> ExitCode {
     exit_code(&rt, NAME, run)
 }
 
-/// Runs the program on the words of the command line, with the streams of the system.
+/// Runs the program on the arguments of the command line, with the streams of the system.
 fn run_words(rt: &HostRuntime) -> io::Result<Status> {
-    let Some(words) = words_of(rt, NAME)? else {
+    let Some(arguments) = arguments_of(rt, NAME)? else {
         return Ok(Status::NotJudged);
     };
     let alloc = rt.alloc();
-    let words = words.as_slice();
+    let arguments = arguments.as_slice();
     let mut files = Files::new(rt, NAME);
     let mut out = BufWriter::new(alloc, io::writer(rt))?;
     let mut errors = rt.stderr();
-    run(alloc, words, look_of(rt), &mut files, &mut out, &mut errors)
+    run(
+        alloc,
+        arguments,
+        style_of(rt),
+        &mut files,
+        &mut out,
+        &mut errors,
+    )
 }
 
 /// In colours if the standard output is a terminal.
-fn look_of(rt: &HostRuntime) -> Style {
+fn style_of(rt: &HostRuntime) -> MessageStyle {
     if rt.stdout().is_terminal() {
-        Style::Coloured
+        MessageStyle::Coloured
     } else {
-        Style::Plain
+        MessageStyle::Plain
     }
 }

@@ -32,7 +32,7 @@ pub struct Subcommand<'a> {
 }
 
 impl<'a> CommandLine<'a> {
-    /// The command of the program for `clap`. Without any word it shows the help, and with words but no subcommand it is refused. An
+    /// The command of the program for `clap`. Without arguments it shows the help, and with some but no subcommand it is refused. An
     /// error is returned if memory is refused.
     pub fn command(&self, alloc: Global) -> Result<Command<'a>, AllocError> {
         let mut command = Command::new(alloc, self.name)

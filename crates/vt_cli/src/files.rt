@@ -1,6 +1,6 @@
 //! The files of the system, and its standard input.
 
-ghost use Rattle.std.specs.Prelude.{◌≡◌};
+ghost use Rattle.std.specs.Prelude.{◌≡◌, ℕ, List, Option, Some, None, IfOk, IfSome};
 
 use std::fs::{self, File};
 use std::io::{self, Error, ErrorKind, Read, Stdin, Write};
@@ -21,7 +21,12 @@ pub trait Program {
 pub trait Open: Program {
     type Reader: Read + Drop;
 
-    fn open(&mut self, path: &str) -> io::Result<Self::Reader>;
+    // The bytes of the file under a path, where they are known.
+    ghost file: { Self → List ℕ → Option (List ℕ) } = { λ _ _. None };
+
+    fn open(&mut self, path: &str) -> io::Result<Self::Reader>
+        ensures bytes { IfOk result (λ reader. IfSome (file self.old path.now) (λ bytes. Self.Reader.remaining reader ≡ Some bytes)) }
+        ensures stay { file self.new ≡ file self.old };
 
     /// The number of bytes of a file that gives the same ones each time it is opened. `None` for any other, such as the standard input, a
     /// pipe or a device, and for one that is not there.

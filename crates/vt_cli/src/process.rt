@@ -1,15 +1,15 @@
-//! The process of a program: the words of its command line, and its exit status.
+//! The process of a program: the arguments of its command line, and its exit status.
 
 use crate::status::Status;
 use std::fmt;
 use std::io::{self, Error, ErrorKind, Write};
 use std::process::ExitCode;
 
-/// The words of the command line, of which the first is the program's name. `None` if one of them is not UTF-8: then the error output
+/// The arguments of the command line, of which the first is the program's name. `None` if one of them is not UTF-8: then the error output
 /// receives a sentence that says so.
-pub fn words_of(rt: &HostRuntime, program: &str) -> io::Result<Option<Vec<String>>> {
+pub fn arguments_of(rt: &HostRuntime, program: &str) -> io::Result<Option<Vec<String>>> {
     match std::env::args(rt) {
-        Ok(words) => Ok(Some(words.collect(rt.alloc())?)),
+        Ok(arguments) => Ok(Some(arguments.collect(rt.alloc())?)),
         Err(error) if error.kind() == ErrorKind::InvalidData => {
             let _ = writeln!(
                 rt.stderr(),

@@ -3,8 +3,7 @@ use Rattle.std.proofs.Common.{◌≡◌, ℕ, Bool, true, false, ◌&&◌, cond,
 use Rattle.std.proofs.lemmas.Bool.{eqb-true}
 use Rattle.std.specs.List.{AllByRecursion}
 use Rattle.vt_commands.specs.declared.command.Command.{Command}
-use Rattle.vt_commands.specs.Commands.{CommandRow, rows, byte, command_among, FunctionIsFirst}
-use Rattle.vt_commands.specs.Functions.{function_of}
+use Rattle.vt_commands.specs.Commands.{CommandRow, rows, byte, command_among, FunctionIsFirst, function_of}
 
 -- the commands of a row have its function
 abbrev IsNamed : CommandRow → Type 0

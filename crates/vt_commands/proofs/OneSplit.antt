@@ -5,8 +5,7 @@ use Rattle.std.proofs.lemmas.List.{length-append, length-take, length-drop, take
 use Rattle.std.proofs.lemmas.Bool.{le-leb, leb-true}
 use Rattle.std.specs.List.{AllByRecursion, flat_map}
 use Rattle.std.specs.Prelude.{◌==◌}
-use Rattle.vt_commands.specs.Commands.{byte, word}
-use Rattle.vt_commands.specs.Functions.{CHANGE_CHILD_POSITION, CHANGE_STRING_VALUE}
+use Rattle.vt_commands.specs.Commands.{byte, word, CHANGE_CHILD_POSITION, CHANGE_STRING_VALUE}
 use Rattle.vt_commands.specs.Pieces.{IsPiece, IsCut, IsSplit, CutIsOne, command_length, cut, cut_within}
 
 lengths : (a b : Bool) (n : ℕ) → 8 ≤ cond a 9 (cond b (max 8 n) 8)

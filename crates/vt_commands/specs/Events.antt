@@ -2,10 +2,14 @@
 -- raises (docs/PROFILE.md, "Event numbers", "What a command may raise").
 use Rattle.std.specs.Prelude.{ℕ, Bool, nat_le, ◌&&◌, ◌==◌, if◌then◌else◌, List, [], ◌∷◌, Option, Some, None}
 use Rattle.vt_commands.specs.declared.command.Command.{Command}
-use Rattle.vt_commands.specs.declared.command.Command.TheVariants.{HideShow, EnableDisable, ControlAudio, SetVolume, ChangeChildLocation, ChangeSize, ChangeBackgroundColour, ChangeNumericValue, ChangeEndPoint, ChangeFontAttributes, ChangeLineAttributes, ChangeFillAttributes, ChangeActiveMask, ChangeSoftKeyMask, ChangeAttribute, ChangePriority, ChangeListItem, DeletePool, ChangeStringValue, ChangeChildPosition, ExecuteMacro}
+use Rattle.vt_commands.specs.declared.command.Command.TheVariants.{HideShow, EnableDisable, ChangeActiveMask}
 use Rattle.vt_commands.specs.declared.event.Event.{Event}
 use Rattle.vt_commands.specs.declared.event.Event.TheVariants as events
 use Rattle.vt_commands.specs.declared.raising.Raised.{Raised}
+use Rattle.vt_commands.specs.declared.row.Raises.{Raises}
+use Rattle.vt_commands.specs.declared.row.Raises.TheVariants.{One, ByState, ActiveMask}
+use Rattle.vt_commands.specs.Commands.{Columns, columns_at, function_of}
+use Rattle.vt_commands.specs.Targets.{object_of}
 
 abbrev pub event_number : Event → ℕ
 event_number events.RunByName = 0
@@ -66,26 +70,24 @@ raise id event = record { id = id; event = event }
 abbrev pub by_state : ℕ → ℕ → Event → Event → List Raised
 by_state id state off on = if state == 1 then raise id on ∷ [] else if state == 0 then raise id off ∷ [] else []
 
+-- an event of the object of a command
+abbrev pub on_object : Event → Option ℕ → List Raised
+on_object event None = []
+on_object event (Some id) = raise id event ∷ []
+
+-- the events that a command raises by this column of its row: only a command with a state raises one of two, and only Change Active Mask
+-- those of a change to another mask
+abbrev pub raised_by : Raises → Command → List Raised
+raised_by (One event) command = on_object event (object_of command)
+raised_by (ByState off on) (HideShow id state) = by_state id state off on
+raised_by (ByState off on) (EnableDisable id state) = by_state id state off on
+raised_by ActiveMask (ChangeActiveMask set mask) = raise set events.ActiveMask ∷ raise mask events.Show ∷ []
+raised_by raises command = []
+
+abbrev pub raised_in : Option Columns → Command → List Raised
+raised_in None command = []
+raised_in (Some columns) command = raised_by columns.raises command
+
 -- the events that a command raises by its row
 abbrev pub row_events : Command → List Raised
-row_events (HideShow id state) = by_state id state events.Hide events.Show
-row_events (EnableDisable id state) = by_state id state events.Disable events.Enable
-row_events (ControlAudio count frequency on off) = []
-row_events (SetVolume volume) = []
-row_events (ChangeChildLocation parent child dx dy) = raise parent events.ChildLocation ∷ []
-row_events (ChangeSize id width height) = raise id events.Size ∷ []
-row_events (ChangeBackgroundColour id colour) = raise id events.BackgroundColour ∷ []
-row_events (ChangeNumericValue id value) = raise id events.Value ∷ []
-row_events (ChangeEndPoint id width height direction) = raise id events.EndPoint ∷ []
-row_events (ChangeFontAttributes id colour size type style) = raise id events.Font ∷ []
-row_events (ChangeLineAttributes id colour width art) = raise id events.Line ∷ []
-row_events (ChangeFillAttributes id type colour pattern) = raise id events.Fill ∷ []
-row_events (ChangeActiveMask set mask) = raise set events.ActiveMask ∷ raise mask events.Show ∷ []
-row_events (ChangeSoftKeyMask type mask keys) = raise mask events.SoftKeyMask ∷ []
-row_events (ChangeAttribute id number value) = raise id events.Attribute ∷ []
-row_events (ChangePriority id priority) = raise id events.Priority ∷ []
-row_events (ChangeListItem id index item) = []
-row_events DeletePool = []
-row_events (ChangeStringValue id length text) = raise id events.Value ∷ []
-row_events (ChangeChildPosition parent child x y) = raise parent events.ChildPosition ∷ []
-row_events (ExecuteMacro id) = raise id events.RunByName ∷ []
+row_events command = raised_in (columns_at (function_of command)) command

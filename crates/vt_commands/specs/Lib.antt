@@ -1,7 +1,6 @@
 -- The specifications that the contracts of vt_commands use.
 pub mod Commands
 pub mod Events
-pub mod Functions
 pub mod Pieces
 pub mod Rows
 pub mod Targets

@@ -2,8 +2,7 @@
 use Rattle.std.specs.Prelude.{◌≡◌, ◌<◌, ◌↔◌, ℕ, zero, suc, ◌+◌, max, nat_le, List, [], ◌∷◌, ◌++◌, length, take, drop, ◌==◌, if◌then◌else◌, Option, Some, None}
 use Rattle.std.specs.Option.{option_map}
 use Rattle.std.specs.List.{AllByRecursion, flat_map}
-use Rattle.vt_commands.specs.Commands.{byte, word}
-use Rattle.vt_commands.specs.Functions.{CHANGE_CHILD_POSITION, CHANGE_STRING_VALUE}
+use Rattle.vt_commands.specs.Commands.{byte, word, CHANGE_CHILD_POSITION, CHANGE_STRING_VALUE}
 
 -- the number of bytes of the command at the front: 9 for Change Child Position, 5 and its text but at least 8 for
 -- Change String Value, 8 for every other command

@@ -7,9 +7,8 @@ use Rattle.vt_commands.specs.declared.event.Event.TheVariants as events
 use Rattle.vt_commands.specs.declared.row.Raises.{Raises}
 use Rattle.vt_commands.specs.declared.row.Raises.TheVariants.{Nothing, One, ByState, ActiveMask}
 use Rattle.vt_commands.specs.declared.row.CommandRow.{CommandRow}
-use Rattle.vt_commands.specs.Commands.{Columns, columns_at}
+use Rattle.vt_commands.specs.Commands.{Columns, columns_at, function_of}
 use Rattle.vt_commands.specs.Events.{raise, by_state, row_events}
-use Rattle.vt_commands.specs.Functions.{function_of}
 use Rattle.vt_commands.specs.Targets.{object_of}
 
 -- the columns of a row

@@ -207,10 +207,10 @@ const OPTIONS_OF_A_LIST: Attribute = Attribute {
 pub fn attribute(kind: Kind, number: u8) -> Option<Attribute>
     ensures { result ≡ attribute_at kind number }
 {
-    match kind {
-        Kind::InputList if number == 5 => Some(OPTIONS_OF_A_LIST),
-        _ => numbered(attributes_of(kind), number),
+    if kind == Kind::InputList && number == 5 {
+        return Some(OPTIONS_OF_A_LIST);
     }
+    numbered(attributes_of(kind), number)
 }
 
 /// The attributes of a kind, numbered from 1. For an Input List only those before its missing number 4.

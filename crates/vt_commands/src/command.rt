@@ -2,11 +2,9 @@
 
 ghost use Rattle.std.specs.Prelude.{◌≡◌, ◌≢◌, ◌≤◌, ◌+◌, length, ◌↔◌};
 ghost use Rattle.vt_commands.specs.Commands as commands;
-ghost use Rattle.vt_commands.specs.Commands.{command_at};
-ghost use Rattle.vt_commands.specs.Functions as functions;
-ghost use Rattle.vt_commands.specs.Functions.{function_of};
+ghost use Rattle.vt_commands.specs.Commands.{command_at, function_of};
 
-use crate::function;
+use crate::row::function;
 use byteorder::{ByteOrder, LittleEndian};
 use vt_kinds::{LongText, ObjectId};
 
@@ -181,7 +179,7 @@ impl<'a> Command<'a> {
 
 /// Decodes Change String Value, of at least five bytes.
 fn string_value<'a>(bytes: &'a [u8]) -> Option<Command<'a>>
-    ensures { commands.byte bytes.now 0 ≡ functions.CHANGE_STRING_VALUE → result ≡ command_at bytes.now }
+    ensures { commands.byte bytes.now 0 ≡ commands.CHANGE_STRING_VALUE → result ≡ command_at bytes.now }
 {
     if bytes.len() < 5 {
         return None;
@@ -198,7 +196,7 @@ fn string_value<'a>(bytes: &'a [u8]) -> Option<Command<'a>>
 
 /// Decodes Change Child Position, of at least nine bytes.
 fn child_position<'a>(bytes: &[u8]) -> Option<Command<'a>>
-    ensures { commands.byte bytes.now 0 ≡ functions.CHANGE_CHILD_POSITION → result ≡ command_at bytes.now }
+    ensures { commands.byte bytes.now 0 ≡ commands.CHANGE_CHILD_POSITION → result ≡ command_at bytes.now }
 {
     if bytes.len() < 9 {
         return None;
@@ -213,7 +211,7 @@ fn child_position<'a>(bytes: &[u8]) -> Option<Command<'a>>
 
 /// Decodes a command of eight bytes.
 fn eight_bytes<'a>(bytes: &[u8]) -> Option<Command<'a>>
-    ensures { commands.byte bytes.now 0 ≢ functions.CHANGE_STRING_VALUE → commands.byte bytes.now 0 ≢ functions.CHANGE_CHILD_POSITION → result ≡ command_at bytes.now }
+    ensures { commands.byte bytes.now 0 ≢ commands.CHANGE_STRING_VALUE → commands.byte bytes.now 0 ≢ commands.CHANGE_CHILD_POSITION → result ≡ command_at bytes.now }
 {
     if bytes.len() < 8 {
         return None;

@@ -17,7 +17,6 @@
 mod attributes;
 mod command;
 mod event;
-pub mod function;
 pub mod laws;
 mod pieces;
 mod raising;
@@ -29,5 +28,5 @@ pub use command::Command;
 pub use event::Event;
 pub use pieces::split_command;
 pub use raising::{Raised, row_events};
-pub use row::{CommandRow, Raises};
+pub use row::{CommandRow, Raises, function};
 pub use target::{Target, targets};

@@ -3,7 +3,7 @@
 ghost use Rattle.std.specs.Prelude.{◌≡◌, ◌<◌, ℕ, List, length, IfSome, IfNone};
 ghost use Rattle.vt_commands.specs.Pieces.{IsSplit, command_length};
 
-use crate::function::{CHANGE_CHILD_POSITION, CHANGE_STRING_VALUE};
+use crate::row::function::{CHANGE_CHILD_POSITION, CHANGE_STRING_VALUE};
 use byteorder::{ByteOrder, LittleEndian};
 
 /// Splits a macro's bytes after its first command: returns that command's bytes with its padding, and the remaining

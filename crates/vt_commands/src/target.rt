@@ -122,13 +122,11 @@ fn object_or_null(id: ObjectId, kinds: Kinds) -> Option<Target>
 fn pointer_value(kind: Option<Kind>, value: u32) -> Option<Target>
     ensures { option_to_list result ≡ pointer_targets kind value }
 {
-    match kind? {
-        Kind::ObjectPointer => {
-            let named = ObjectId::from_raw((value % 65_536) as u16);
-            object_or_null(named, Kinds::AllButPointers)
-        }
-        _ => None,
+    if kind? != Kind::ObjectPointer {
+        return None;
     }
+    let named = ObjectId::from_raw((value % 65_536) as u16);
+    object_or_null(named, Kinds::AllButPointers)
 }
 
 /// The new value of a reference attribute, in Change Attribute.

@@ -11,10 +11,10 @@ use Rattle.vt_stores.specs.Stores.{ObjectMap}
 use Rattle.vt_shown.specs.ShownElements.{number_shown}
 use Rattle.vt_machine.specs.OperatorActions.{is_enabled}
 use Rattle.vt_machine.specs.OperatorEntries.{kept_at, number_place, text_at, text_place}
-use Rattle.vt_dialogs.specs.declared.limits.Limits.{Limits}
+use Rattle.vt_dialogs.specs.declared.limits.InputLimits.{InputLimits}
 
 -- the limits of an input that accepts nothing
-abbrev pub no_limits : Seen → Limits
+abbrev pub no_limits : Seen → InputLimits
 no_limits object = record {
   kind = kind_number (kind_of object);
   enabled = unwrap_or (is_enabled (Some object)) false;
@@ -41,7 +41,7 @@ abbrev pub length_in : ObjectMap → ℕ → List ℕ → ℕ
 length_in store variable own = if variable == null_id then length own else lesser_length own (text_at store variable)
 
 -- the limits of an input; other objects have none
-abbrev pub limits_in : ObjectMap → Option Seen → Option Limits
+abbrev pub limits_in : ObjectMap → Option Seen → Option InputLimits
 limits_in store (Some (objects.InputBoolean o)) =
     Some (record (no_limits (objects.InputBoolean o)) { value = value_in store o.variable o.value; least = 0; greatest = 1 })
 limits_in store (Some (objects.InputString o)) = Some (record (no_limits (objects.InputString o)) { length = length_in store o.variable o.text })
@@ -66,9 +66,9 @@ limits_in store _ = None
 -- The limits are those of the terminal: it accepts a number or a text from the operator exactly where they allow it, once the input is
 -- shown, and nothing where there are none. A text needs the variable of its input, which a store in order has.
 pub record LimitsAreTheTerminals : Type 0 where
-  pub numbers : (store : ObjectMap) (id n : ℕ) (object : Seen) (limits : Limits) → limits_in store (Some object) ≡ Some limits
+  pub numbers : (store : ObjectMap) (id n : ℕ) (object : Seen) (limits : InputLimits) → limits_in store (Some object) ≡ Some limits
       → is_ok (number_place id n (Some object)) ≡ (limits.enabled && (nat_le limits.least n && nat_le n limits.greatest))
-  pub texts : (store : ObjectMap) (id : ℕ) (o : InputString (List ℕ)) (kept text : List ℕ) (limits : Limits)
+  pub texts : (store : ObjectMap) (id : ℕ) (o : InputString (List ℕ)) (kept text : List ℕ) (limits : InputLimits)
       → finite.get store id ≡ Some (objects.InputString o) → text_at store (kept_at id o.variable) ≡ Some kept
       → limits_in store (Some (objects.InputString o)) ≡ Some limits
       → is_ok (text_place store id text (Some (objects.InputString o))) ≡ (limits.enabled && nat_le (length text) limits.length)

@@ -15,7 +15,7 @@ use vt_shown::number_shown;
 
 /// What an input accepts, and how its number is shown.
 #[derive(Clone, Copy, PartialEq, Eq)]
-pub struct Limits {
+pub struct InputLimits {
     /// The number of its kind: 7 Input Boolean, 8 Input String, 9 Input Number, 10 Input List.
     pub kind: u8,
     /// Whether the operator may enter anything.
@@ -39,7 +39,7 @@ pub struct Limits {
 }
 
 /// The limits of the input with an ID, or `None` if no input has it.
-pub fn limits_of<S: Store>(store: &S, id: ObjectId) -> Option<Limits>
+pub fn limits_of<S: Store>(store: &S, id: ObjectId) -> Option<InputLimits>
     ensures { result ≡ limits_in (S.contents store.now) (finite.get (S.contents store.now) id) }
 {
     match store.get(id) {
@@ -51,11 +51,11 @@ pub fn limits_of<S: Store>(store: &S, id: ObjectId) -> Option<Limits>
     }
 }
 
-fn of_boolean<S: Store>(store: &S, o: &InputBoolean) -> Limits
+fn of_boolean<S: Store>(store: &S, o: &InputBoolean) -> InputLimits
     ensures { Some result ≡ limits_in (S.contents store.now) (Some (objects.InputBoolean o.now)) }
 {
     let value = number_shown(store, o.variable, u32::from(o.value));
-    Limits {
+    InputLimits {
         kind: Kind::InputBoolean.number(),
         enabled: o.enabled != 0,
         places: 0,
@@ -69,10 +69,10 @@ fn of_boolean<S: Store>(store: &S, o: &InputBoolean) -> Limits
     }
 }
 
-fn of_string<S: Store>(store: &S, o: &InputString<Vec<u8>>) -> Limits
+fn of_string<S: Store>(store: &S, o: &InputString<Vec<u8>>) -> InputLimits
     ensures { Some result ≡ limits_in (S.contents store.now) (Some (seen (objects.InputString o.now))) }
 {
-    Limits {
+    InputLimits {
         kind: Kind::InputString.number(),
         enabled: o.enabled != 0,
         places: 0,
@@ -113,10 +113,10 @@ fn kept_length<S: Store>(store: &S, id: ObjectId) -> Option<usize>
     }
 }
 
-fn of_number<S: Store>(store: &S, o: &InputNumber) -> Limits
+fn of_number<S: Store>(store: &S, o: &InputNumber) -> InputLimits
     ensures { Some result ≡ limits_in (S.contents store.now) (Some (objects.InputNumber o.now)) }
 {
-    Limits {
+    InputLimits {
         kind: Kind::InputNumber.number(),
         enabled: o.options_two % 2 == 1,
         places: o.scale.places(),
@@ -130,12 +130,12 @@ fn of_number<S: Store>(store: &S, o: &InputNumber) -> Limits
     }
 }
 
-fn of_list<S: Store>(store: &S, o: &InputList) -> Limits
+fn of_list<S: Store>(store: &S, o: &InputList) -> InputLimits
     ensures { Some result ≡ limits_in (S.contents store.now) (Some (objects.InputList o.now)) }
 {
     let items = o.items.len();
     let value = number_shown(store, o.variable, u32::from(o.value));
-    Limits {
+    InputLimits {
         kind: Kind::InputList.number(),
         enabled: o.options % 2 == 1,
         places: 0,

@@ -33,10 +33,12 @@ pub fn change_in<S: Store>(
 fn without_object(command: &Command<'_>) -> Result<(), u8>
     ensures { (store : ObjectMap) → HasResult result (effects.without_object store command.now) }
 {
-    match *command {
-        Command::SetVolume { volume } if volume > 100 => Err(error::OTHER),
-        _ => Ok(()),
+    if let Command::SetVolume { volume } = *command {
+        if volume > 100 {
+            return Err(error::OTHER);
+        }
     }
+    Ok(())
 }
 
 /// Changes the object of a command.

@@ -159,8 +159,8 @@ fn other_id(command: &Command<'_>) -> Option<ObjectId>
 fn value_error(command: &Command<'_>) -> u8
     ensures { result ≡ effects.value_error command.now }
 {
-    match command {
-        Command::ChangeNumericValue { .. } => error::VALUE,
-        _ => error::ITEM,
+    if let Command::ChangeNumericValue { .. } = command {
+        return error::VALUE;
     }
+    error::ITEM
 }

@@ -88,10 +88,7 @@ fn shows_width(kind: Kind) -> bool
 fn shows_height(kind: Kind) -> bool
     ensures { result ≡ looks.shows_height kind }
 {
-    match kind {
-        Kind::Picture => false,
-        _ => shows_width(kind),
-    }
+    kind != Kind::Picture && shows_width(kind)
 }
 
 fn shows_options(kind: Kind) -> bool
@@ -118,10 +115,10 @@ fn has_hidden_state(object: &Object<Vec<u8>>, state: u8) -> bool
     requires { state ≤ 1 }
     ensures { result ≡ looks.has_hidden_state state (seen object.now) }
 {
-    match object {
-        Object::Container(o) => o.hidden == 1 - state,
-        _ => false,
-    }
+    let Object::Container(o) = object else {
+        return false;
+    };
+    o.hidden == 1 - state
 }
 
 /// Whether an input is disabled in state 0, or enabled in state 1.
@@ -160,8 +157,8 @@ fn has_value(object: &Object<Vec<u8>>, value: u32) -> bool
 fn has_active(object: &Object<Vec<u8>>, mask: ObjectId) -> bool
     ensures { result ≡ looks.has_active mask (seen object.now) }
 {
-    match object {
-        Object::WorkingSet(o) => o.active_mask == mask,
-        _ => false,
-    }
+    let Object::WorkingSet(o) = object else {
+        return false;
+    };
+    o.active_mask == mask
 }

@@ -48,12 +48,13 @@ fn has_that_kind<S: Store>(store: &S, pointed: &Pointed) -> bool
     ensures kind { result ≡ true → IsOfThatKind (S.contents store.now) pointed.now }
     ensures named { result ≡ true → finite.get (S.contents store.now) null_id ≡ None }
 {
-    match store.get(pointed.pointer) {
-        Some(Object::ObjectPointer(pointer)) if !pointer.value.is_null() => {
-            kind_in(store, pointer.value) == pointed.kind
-        }
-        _ => false,
+    let Some(Object::ObjectPointer(pointer)) = store.get(pointed.pointer) else {
+        return false;
+    };
+    if pointer.value.is_null() {
+        return false;
     }
+    kind_in(store, pointer.value) == pointed.kind
 }
 
 fn all_allow<S: Store>(store: &S, pointed: &Pointed) -> bool

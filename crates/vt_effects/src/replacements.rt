@@ -76,20 +76,20 @@ fn replaced_item<S: Store>(
 pub(crate) fn pointer_value<S: Store>(store: &S, id: ObjectId) -> Option<ObjectId>
     ensures { result ≡ effects.pointer_value (finite.get (S.contents store.now) id) }
 {
-    match store.get(id) {
-        Some(Object::ObjectPointer(pointer)) => Some(pointer.value),
-        _ => None,
-    }
+    let Some(Object::ObjectPointer(pointer)) = store.get(id) else {
+        return None;
+    };
+    Some(pointer.value)
 }
 
 /// The item at an index of a list, or `None` if the object is no list or has no such item.
 fn item<S: Store>(store: &S, id: ObjectId, index: u8) -> Option<ObjectId>
     ensures { result ≡ item_at index (finite.get (S.contents store.now) id) }
 {
-    match store.get(id) {
-        Some(Object::InputList(list)) => list.items.as_slice().get(usize::from(index)).copied(),
-        _ => None,
-    }
+    let Some(Object::InputList(list)) = store.get(id) else {
+        return None;
+    };
+    list.items.as_slice().get(usize::from(index)).copied()
 }
 
 /// Restores the ID that a command has replaced.
@@ -115,10 +115,9 @@ fn restore(object: &mut Object<Vec<u8>>, command: &Command<'_>, before: ObjectId
 fn restore_item(list: &mut InputList, command: &Command<'_>, before: ObjectId)
     ensures { objects.InputList list.new ≡ restored command.now before (objects.InputList list.old) }
 {
-    match *command {
-        Command::ChangeListItem { index, .. } if index < list.items.len() => {
+    if let Command::ChangeListItem { index, .. } = *command {
+        if index < list.items.len() {
             list.items.set(index, before);
         }
-        _ => {}
     }
 }

@@ -90,13 +90,13 @@ pub(crate) fn alarm_of(terminal: &Terminal) -> Option<Alarm>
     let address = terminal.shown()?;
     let live = terminal.set(address)?;
     let mask = live.active_mask();
-    match live.get(mask) {
-        Some(Object::AlarmMask(alarm)) => Some(Alarm {
-            address,
-            mask,
-            priority: alarm.priority,
-            acoustic: alarm.acoustic,
-        }),
-        _ => None,
-    }
+    let Some(Object::AlarmMask(alarm)) = live.get(mask) else {
+        return None;
+    };
+    Some(Alarm {
+        address,
+        mask,
+        priority: alarm.priority,
+        acoustic: alarm.acoustic,
+    })
 }

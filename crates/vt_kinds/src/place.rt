@@ -33,17 +33,15 @@ impl Place {
         match self {
             Place::ActiveMask => Kinds::Masks,
             Place::SoftKeyMask => Kinds::SoftKeyMasks,
-            Place::Child(_) => match kind {
-                Kind::WorkingSet => Kinds::DrawnInWorkingSet,
-                _ => Kinds::Drawn,
-            },
+            Place::Child(_) if kind == Kind::WorkingSet => Kinds::DrawnInWorkingSet,
+            Place::Child(_) => Kinds::Drawn,
             Place::Key(_) => Kinds::Keys,
             Place::Font => Kinds::Fonts,
             Place::InputAttributes => Kinds::InputAttributes,
-            Place::Variable => match kind {
-                Kind::InputString | Kind::OutputString => Kinds::StringVariables,
-                _ => Kinds::NumberVariables,
-            },
+            Place::Variable if matches!(kind, Kind::InputString | Kind::OutputString) => {
+                Kinds::StringVariables
+            }
+            Place::Variable => Kinds::NumberVariables,
             Place::TargetVariable => Kinds::NumberVariables,
             Place::Item(_) => Kinds::Drawn,
             Place::LineAttributes => Kinds::LineAttributes,

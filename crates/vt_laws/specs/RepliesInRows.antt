@@ -3,8 +3,7 @@ use Rattle.std.specs.Prelude.{◌≡◌, ℕ, List, take, drop, slice_get, Optio
 use Rattle.byteorder.specs.Endian.{little_bytes}
 use Rattle.vt_commands.specs.declared.command.Command.{Command}
 use Rattle.vt_commands.specs.declared.command.Command.TheVariants.{ChangeActiveMask}
-use Rattle.vt_commands.specs.Commands.{Columns, columns_at}
-use Rattle.vt_commands.specs.Functions.{function_of}
+use Rattle.vt_commands.specs.Commands.{Columns, columns_at, function_of}
 use Rattle.vt_commands.specs.Targets.{object_of}
 use Rattle.vt_server.specs.message.CommandReplies.{command_reply}
 

@@ -55,10 +55,10 @@ fn draw_soft_keys<S: Store>(store: &S, id: ObjectId, page: &mut Page) -> Result<
 fn keys_of(object: &Object<Vec<u8>>) -> &[ObjectId]
     ensures { result.now ≡ keys_of (Some (seen object.now)) }
 {
-    match object {
-        Object::SoftKeyMask(o) => o.keys.as_slice(),
-        _ => &[],
-    }
+    let Object::SoftKeyMask(o) = object else {
+        return &[];
+    };
+    o.keys.as_slice()
 }
 
 /// Draws keys, each from its own upper left corner.

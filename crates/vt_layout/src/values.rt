@@ -17,8 +17,8 @@ pub(crate) fn text_shown<'a, S: Store>(
     if variable.is_null() {
         return Some(own);
     }
-    match store.get(variable) {
-        Some(Object::StringVariable(o)) => Some(o.text.as_slice()),
-        _ => None,
-    }
+    let Some(Object::StringVariable(o)) = store.get(variable) else {
+        return None;
+    };
+    Some(o.text.as_slice())
 }

@@ -33,7 +33,7 @@ fn main(rt: HostRuntime) -> io::Result<ExitCode> {
     Ok(ExitCode::from(code))
 }
 
-/// Runs the program on the words of the command line, and returns its status.
+/// Runs the program on the arguments of the command line, and returns its status.
 fn run_words(rt: &HostRuntime) -> io::Result<u8> {
     let alloc = rt.alloc();
     let words: Vec<String> = match std::env::args(rt) {

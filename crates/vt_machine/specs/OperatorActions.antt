@@ -7,7 +7,7 @@ use Rattle.vt_kinds.specs.declared.object.Object.TheVariants as objects
 use Rattle.vt_commands.specs.declared.event.Event.TheVariants as events
 use Rattle.vt_commands.specs.declared.raising.Raised.{Raised}
 use Rattle.vt_commands.specs.Events.{raise}
-use Rattle.vt_commands.specs.Functions.{SOFT_KEY_ACTIVATION, BUTTON_ACTIVATION}
+use Rattle.vt_commands.specs.Commands.{SOFT_KEY_ACTIVATION, BUTTON_ACTIVATION}
 use Rattle.vt_kinds.specs.Records.{Seen}
 use Rattle.vt_machine.specs.declared.live.HeldKey.{HeldKey}
 use Rattle.vt_machine.specs.declared.operator.Acted.{Acted}

@@ -7,7 +7,7 @@ use Rattle.vt_kinds.specs.declared.object.Object.TheVariants as objects
 use Rattle.vt_commands.specs.declared.event.Event.TheVariants as events
 use Rattle.vt_commands.specs.declared.raising.Raised.{Raised}
 use Rattle.vt_commands.specs.Events.{raise}
-use Rattle.vt_commands.specs.Functions.{NUMERIC_VALUE, STRING_VALUE}
+use Rattle.vt_commands.specs.Commands.{NUMERIC_VALUE, STRING_VALUE}
 use Rattle.vt_kinds.specs.Ids.{null_id}
 use Rattle.vt_kinds.specs.Records.{Seen}
 use Rattle.vt_stores.specs.Stores.{ObjectMap}

@@ -132,10 +132,10 @@ fn has_same_shape(new: &Object<&[u8]>, old: &Object<Vec<u8>>) -> bool
 fn macro_bytes<B: AsSlice<u8>>(object: &Object<B>) -> &[u8]
     ensures { result.now ≡ macro_bytes (seen object.now) }
 {
-    match object {
-        Object::Macro(o) => o.bytes.as_slice(),
-        _ => &[],
-    }
+    let Object::Macro(o) = object else {
+        return &[];
+    };
+    o.bytes.as_slice()
 }
 
 /// Whether slots have the same IDs, in the same order.

@@ -1,7 +1,7 @@
 -- The audio commands that a working set has done, counted, with the last of each.
 use Rattle.std.specs.Prelude.{ℕ, ◌+◌, ◌%◌}
 use Rattle.vt_commands.specs.declared.command.Command.{Command}
-use Rattle.vt_commands.specs.declared.command.Command.TheVariants.{HideShow, EnableDisable, ControlAudio, SetVolume, ChangeChildLocation, ChangeSize, ChangeBackgroundColour, ChangeNumericValue, ChangeEndPoint, ChangeFontAttributes, ChangeLineAttributes, ChangeFillAttributes, ChangeActiveMask, ChangeSoftKeyMask, ChangeAttribute, ChangePriority, ChangeListItem, DeletePool, ChangeStringValue, ChangeChildPosition, ExecuteMacro}
+use Rattle.vt_commands.specs.declared.command.Command.TheVariants.{ControlAudio, SetVolume}
 use Rattle.vt_macros.specs.declared.audio.Audio.{Audio}
 use Rattle.vt_macros.specs.declared.audio.Signal.{Signal}
 
@@ -26,22 +26,4 @@ with_volume audio volume = record { signals = audio.signals; signal = audio.sign
 abbrev pub noted : Audio → Command → Audio
 noted audio (ControlAudio count frequency on off) = sounded audio (record { activations = count; frequency = frequency; on = on; off = off })
 noted audio (SetVolume volume) = with_volume audio volume
-noted audio (HideShow id state) = audio
-noted audio (EnableDisable id state) = audio
-noted audio (ChangeChildLocation parent child dx dy) = audio
-noted audio (ChangeSize id width height) = audio
-noted audio (ChangeBackgroundColour id colour) = audio
-noted audio (ChangeNumericValue id value) = audio
-noted audio (ChangeEndPoint id width height direction) = audio
-noted audio (ChangeFontAttributes id colour size type style) = audio
-noted audio (ChangeLineAttributes id colour width art) = audio
-noted audio (ChangeFillAttributes id type colour pattern) = audio
-noted audio (ChangeActiveMask set mask) = audio
-noted audio (ChangeSoftKeyMask type mask keys) = audio
-noted audio (ChangeAttribute id number value) = audio
-noted audio (ChangePriority id priority) = audio
-noted audio (ChangeListItem id index item) = audio
-noted audio DeletePool = audio
-noted audio (ChangeStringValue id length text) = audio
-noted audio (ChangeChildPosition parent child x y) = audio
-noted audio (ExecuteMacro id) = audio
+noted audio command = audio

@@ -54,44 +54,24 @@ impl Audio {
     pub fn note(&mut self, command: &Command<'_>)
         ensures { self.new ≡ noted self.old command.now }
     {
-        match *command {
-            Command::ControlAudio {
-                count,
+        if let Command::ControlAudio {
+            count,
+            frequency,
+            on,
+            off,
+        } = *command
+        {
+            self.signals = self.signals.wrapping_add(1);
+            self.signal = Signal {
+                activations: count,
                 frequency,
                 on,
                 off,
-            } => {
-                self.signals = self.signals.wrapping_add(1);
-                self.signal = Signal {
-                    activations: count,
-                    frequency,
-                    on,
-                    off,
-                };
-            }
-            Command::SetVolume { volume } => {
-                self.volumes = self.volumes.wrapping_add(1);
-                self.volume = volume;
-            }
-            Command::HideShow { .. }
-            | Command::EnableDisable { .. }
-            | Command::ChangeChildLocation { .. }
-            | Command::ChangeSize { .. }
-            | Command::ChangeBackgroundColour { .. }
-            | Command::ChangeNumericValue { .. }
-            | Command::ChangeEndPoint { .. }
-            | Command::ChangeFontAttributes { .. }
-            | Command::ChangeLineAttributes { .. }
-            | Command::ChangeFillAttributes { .. }
-            | Command::ChangeActiveMask { .. }
-            | Command::ChangeSoftKeyMask { .. }
-            | Command::ChangeAttribute { .. }
-            | Command::ChangePriority { .. }
-            | Command::ChangeListItem { .. }
-            | Command::DeletePool
-            | Command::ChangeStringValue { .. }
-            | Command::ChangeChildPosition { .. }
-            | Command::ExecuteMacro { .. } => {}
+            };
+        }
+        if let Command::SetVolume { volume } = *command {
+            self.volumes = self.volumes.wrapping_add(1);
+            self.volume = volume;
         }
     }
 }

@@ -13,22 +13,20 @@ use vt_objects::{Command, Event, Object, ObjectId, Raised, Store, row_events};
 pub fn events_of<S: Store>(store: &S, command: &Command<'_>) -> ArrayVec<Raised, 3>
     ensures { result.items ≡ machines.events_of (S.contents store.now) command.now }
 {
-    match *command {
-        Command::ChangeActiveMask { working_set, mask } => {
-            mask_events(active_mask(store, working_set), working_set, mask)
-        }
-        _ => by_row(command),
+    if let Command::ChangeActiveMask { working_set, mask } = *command {
+        return mask_events(active_mask(store, working_set), working_set, mask);
     }
+    by_row(command)
 }
 
 /// The active mask of a working set. NULL if the object is not a working set.
 pub fn active_mask<S: Store>(store: &S, working_set: ObjectId) -> ObjectId
     ensures { result ≡ machines.mask_of (finite.get (S.contents store.now) working_set) }
 {
-    match store.get(working_set) {
-        Some(Object::WorkingSet(set)) => set.active_mask,
-        _ => ObjectId::NULL,
-    }
+    let Some(Object::WorkingSet(set)) = store.get(working_set) else {
+        return ObjectId::NULL;
+    };
+    set.active_mask
 }
 
 fn mask_events(active: ObjectId, working_set: ObjectId, mask: ObjectId) -> ArrayVec<Raised, 3>

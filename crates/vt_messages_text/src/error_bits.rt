@@ -5,14 +5,14 @@ use vt_commands::CommandRow;
 
 /// The outcome of a command by the error byte of its reply: `done`, or `refused: ` and a phrase for each bit that is set.
 #[derive(Clone, Copy, Drop)]
-pub(crate) struct Outcome {
+pub(crate) struct OutcomeWords {
     /// The function of the command.
     pub(crate) function: u8,
     /// The error byte.
     pub(crate) error: u8,
 }
 
-impl fmt::Display for Outcome {
+impl fmt::Display for OutcomeWords {
     fn fmt<W: fmt::Write>(&self, f: &mut fmt::Formatter<W>) -> fmt::Result {
         if self.error == 0 {
             return f.write_str("done");

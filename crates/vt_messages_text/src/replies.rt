@@ -1,6 +1,6 @@
 //! The replies of terminals in words.
 
-use crate::error_bits::Outcome;
+use crate::error_bits::OutcomeWords;
 use crate::objects::{Objects, id_of};
 use crate::told::ToldSentence;
 use std::fmt;
@@ -86,7 +86,7 @@ impl ReplySentence<'_> {
         match error_of(bytes) {
             Some(error) => {
                 let name = function_name(function).unwrap_or("command");
-                write!(f, "{name}: {}", Outcome { function, error })
+                write!(f, "{name}: {}", OutcomeWords { function, error })
             }
             None => write!(
                 f,

@@ -16,5 +16,5 @@ mod program;
 mod sentences;
 
 pub use options::{Options, Preload, UsageError};
-pub use program::{Open, Status, run};
-pub use vt_cli::Files;
+pub use program::{Status, run};
+pub use vt_cli::{Files, Open};

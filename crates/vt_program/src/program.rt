@@ -18,33 +18,13 @@ use crate::sentences::ReplaySentence;
 use std::alloc::Global;
 use std::convert::AsStr;
 use std::io::{self, Read, Write};
-use vt_cli::{Files, Opened};
+use vt_cli::Open;
 use vt_judge::{NotAccepted, judge};
 use vt_kinds::{Kind, ObjectId};
 use vt_logs::{Notes, ReplayFault, Sink, Stream, replay_with_notes};
 use vt_pool::{Pool, PoolFault, read_pool};
 use vt_server::Terminal;
 use vt_verify::Accepted;
-
-/// Opens files by their paths.
-pub trait Open {
-    type Reader: Read + Drop;
-
-    // The bytes of the file under a path, where they are known.
-    ghost file: { Self → List ℕ → Option (List ℕ) } = { λ _ _. None };
-
-    fn open(&mut self, path: &str) -> io::Result<Self::Reader>
-        ensures bytes { IfOk result (λ reader. IfSome (file self.old path.now) (λ bytes. Self.Reader.remaining reader ≡ Some bytes)) }
-        ensures stay { file self.new ≡ file self.old };
-}
-
-impl Open for Files<'_> {
-    type Reader = Opened;
-
-    fn open(&mut self, path: &str) -> io::Result<Opened> {
-        vt_cli::Open::open(self, path)
-    }
-}
 
 /// The status with which a run ends.
 #[derive(Clone, Copy, PartialEq, Eq)]
@@ -136,7 +116,11 @@ fn refuse<W: Sink, E: Write>(
             return Ok(Status::Done);
         }
         UsageError::Memory => Status::Fault,
-        _ => Status::Usage,
+        UsageError::Words(_)
+        | UsageError::Address { .. }
+        | UsageError::Name(_)
+        | UsageError::OwnerIsOwn(_)
+        | UsageError::Alone => Status::Usage,
     };
     let _ = write!(errors, "{refusal}");
     Ok(status)
@@ -186,7 +170,7 @@ fn print_fault<W: Sink, E: Write>(
                 }
             }
         }
-        _ => {
+        Fault::File { .. } | Fault::Memory => {
             let _ = writeln!(errors, "vt_replay: {fault}");
         }
     }

@@ -187,10 +187,10 @@ impl Terminal {
         ensures { result ≡ choosing.alarm_in (spec.pool_of (state_of self.now) address) }
     {
         let live = self.contents.pool(address)?;
-        match live.get(live.active_mask()) {
-            Some(Object::AlarmMask(mask)) => Some(mask.priority),
-            _ => None,
-        }
+        let Some(Object::AlarmMask(mask)) = live.get(live.active_mask()) else {
+            return None;
+        };
+        Some(mask.priority)
     }
 }
 

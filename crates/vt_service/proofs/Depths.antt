@@ -2,7 +2,7 @@
 use Rattle.std.proofs.Common.{◌≡◌, ◌≤◌, ℕ, Bool, true, false, List, [], ◌∷◌, map, Option, Some, None, nat_lt, if◌then◌else◌, refl, sym, subst, arith}
 use Rattle.serde_json.specs.Data.{Data, depth, items_depth, null}
 use Rattle.serde_json.specs.View.{items_of}
-use Rattle.vt_dialogs.specs.declared.limits.Limits.{Limits}
+use Rattle.vt_dialogs.specs.declared.limits.InputLimits.{InputLimits}
 use Rattle.vt_kinds.specs.Ids.{null_id}
 use Rattle.vt_names.specs.Registry.{Set}
 use Rattle.draw_picture.specs.declared.listing.ListedElement.{ListedElement}
@@ -48,7 +48,7 @@ sets_depth : (s : State) (sets : List Set) → items_depth (items_of (map (set_d
 sets_depth s [] = omega arith
 sets_depth s (set ∷ sets) = omega (arith, set_depth s set, sets_depth s sets)
 
-limits_depth : (limits : Option Limits) → depth (limits_if limits) ≤ 1
+limits_depth : (limits : Option InputLimits) → depth (limits_if limits) ≤ 1
 limits_depth None = omega arith
 limits_depth (Some limits) = omega arith
 

@@ -5,7 +5,7 @@ use Rattle.std.specs.Option.{option_map}
 use Rattle.byteorder.specs.Endian.{big_bytes}
 use Rattle.serde_json.specs.Data.{Data, array, boolean, member, no_members, null, object, string}
 use Rattle.serde_json.specs.View.{items_of}
-use Rattle.vt_dialogs.specs.declared.limits.Limits.{Limits}
+use Rattle.vt_dialogs.specs.declared.limits.InputLimits.{InputLimits}
 use Rattle.vt_dialogs.specs.declared.typed.Typed.{Typed}
 use Rattle.vt_kinds.specs.Ids.{null_id}
 use Rattle.vt_machine.specs.SetStates.{SetState, active_in}
@@ -81,7 +81,7 @@ abbrev pub object_data : State → ℕ → ℕ → Data
 object_data s address id =
     object (member (codes "record") (hex_data (record_in (pool_by s address) id)) (member (codes "text") (hex_data (text_by (pool_by s address) id)) no_members))
 
-abbrev pub limits_data : Limits → Data
+abbrev pub limits_data : InputLimits → Data
 limits_data l =
     object (member (codes "decimals") (number_data l.decimals) (member (codes "enabled") (boolean l.enabled)
     (member (codes "items") (number_data l.items) (member (codes "kind") (number_data l.kind)
@@ -89,7 +89,7 @@ limits_data l =
     (member (codes "minimum") (number_data l.least) (member (codes "offset") (signed_data l.offset)
     (member (codes "places") (number_data l.places) (member (codes "value") (number_data l.value) no_members))))))))))
 
-abbrev pub limits_if : Option Limits → Data
+abbrev pub limits_if : Option InputLimits → Data
 limits_if None = null
 limits_if (Some limits) = limits_data limits
 

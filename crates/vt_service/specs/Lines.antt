@@ -6,7 +6,7 @@ use Rattle.serde_json.specs.Read.{read}
 use Rattle.vt_can.specs.lines.WrittenForms.{frame_text}
 use Rattle.vt_logs.specs.Texts.{refusal_name}
 use Rattle.vt_server.specs.declared.output.Output.TheVariants.{Frame, Refused}
-use Rattle.vt_session.specs.Outputs.{Item, Sent, Told}
+use Rattle.vt_session.specs.Outputs.{HostItem, Sent, Told}
 use Rattle.vt_service.specs.Events.{event_data}
 use Rattle.vt_service.specs.Values.{text_data}
 
@@ -15,7 +15,7 @@ abbrev pub lines_data : List (String Global) → List (Option Data)
 lines_data lines = map (λ line. read (string_bytes line)) lines
 
 -- an output or an event
-abbrev pub item_data : Item → Data
+abbrev pub item_data : HostItem → Data
 item_data (Sent (Frame frame)) = object (member (codes "send") (text_data (frame_text frame)) no_members)
 item_data (Sent (Refused fault)) = object (member (codes "refused") (string (refusal_name fault)) no_members)
 item_data (Told event) = event_data event

@@ -16,8 +16,8 @@ use Rattle.vt_service.specs.declared.members.Member.TheVariants as members
 use Rattle.vt_service.specs.declared.profile.Fonts.{Fonts}
 use Rattle.vt_service.specs.declared.profile.Hardware.{Hardware}
 use Rattle.vt_service.specs.declared.profile.SoftKeys.{SoftKeys}
-use Rattle.vt_service.specs.declared.request.Kind.{Kind}
-use Rattle.vt_service.specs.declared.request.Kind.TheVariants as kinds
+use Rattle.vt_service.specs.declared.request.RequestKind.{RequestKind}
+use Rattle.vt_service.specs.declared.request.RequestKind.TheVariants as kinds
 use Rattle.vt_service.specs.declared.request.CommandKind.{CommandKind}
 use Rattle.vt_service.specs.declared.request.CommandKind.TheVariants.{Begin, Preload, Frame as FrameKind, Tick, Act, Text, Claim, Status}
 use Rattle.vt_service.specs.declared.request.ActKind.{ActKind}
@@ -62,12 +62,12 @@ question_name Raw = codes "raw"
 question_name Touch = codes "touch"
 question_name Words = codes "words"
 
-abbrev pub kind_name : Kind → List ℕ
+abbrev pub kind_name : RequestKind → List ℕ
 kind_name (kinds.Command kind) = command_name kind
 kind_name (kinds.Question kind) = question_name kind
 
 -- The member `do` of a request names its kind.
-abbrev pub Names : Data → Kind → Type 0
+abbrev pub Names : Data → RequestKind → Type 0
 Names d kind = option_and_then as_str (get (codes "do") d) ≡ Some (kind_name kind)
 
 -- ---- members, one after the other: the first that is missing or has another form is told
@@ -207,11 +207,11 @@ copies_bytes Status = false
 abbrev pub IsNoCommand : Data → CommandKind → Malformed → Type 0
 IsNoCommand d kind e = ((e ≡ malformed.NoMemory) × (copies_bytes kind ≡ true)) ⊎ (command_in d kind ≡ Err e)
 
-abbrev pub IsNoRequest : Data → Kind → Malformed → Type 0
+abbrev pub IsNoRequest : Data → RequestKind → Malformed → Type 0
 IsNoRequest d (kinds.Command kind) e = IsNoCommand d kind e
 IsNoRequest d (kinds.Question kind) e = question_in d kind ≡ Err e
 
 -- Why a value reads as no request: it names none, or it is none of the kind that it names.
 abbrev pub IsRefused : Data → Malformed → Type 0
 IsRefused d e =
-    ((e ≡ malformed.UnknownRequest) × ((kind : Kind) → Names d kind → ⊥)) ⊎ ((kind : Kind) × Names d kind × IsNoRequest d kind e)
+    ((e ≡ malformed.UnknownRequest) × ((kind : RequestKind) → Names d kind → ⊥)) ⊎ ((kind : RequestKind) × Names d kind × IsNoRequest d kind e)

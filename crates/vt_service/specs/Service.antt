@@ -4,7 +4,7 @@ use Rattle.serde_json.specs.Data.{Data}
 use Rattle.serde_json.specs.Find.{as_number, as_u64, get}
 use Rattle.serde_json.specs.Read.{read}
 use Rattle.vt_session.specs.declared.session.Session.{Session}
-use Rattle.vt_session.specs.Outputs.{Item}
+use Rattle.vt_session.specs.Outputs.{HostItem}
 use Rattle.vt_session.specs.Sessions.{Stays, state, waiting}
 use Rattle.vt_service.specs.Answers.{IsAnswer, answer_data, refusal_data}
 use Rattle.vt_service.specs.Asking.{IsValue}

@@ -15,7 +15,7 @@ use crate::request::Question;
 use draw_picture::ListedElement;
 use serde_json::Value;
 use std::alloc::{AllocError, Global};
-use vt_dialogs::{Limits, Typed};
+use vt_dialogs::{InputLimits, Typed};
 use vt_machine::Live;
 use vt_names::Set;
 use vt_objects::{ObjectId, SortedStore};
@@ -241,7 +241,7 @@ fn id_if(id: Option<ObjectId>) -> Cell<'static>
     }
 }
 
-fn limits_value(alloc: Global, limits: Limits) -> Result<Value, AllocError>
+fn limits_value(alloc: Global, limits: InputLimits) -> Result<Value, AllocError>
     ensures { IfOk result (λ v. view v ≡ asking.limits_data limits) }
 {
     object_of(

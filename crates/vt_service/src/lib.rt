@@ -20,5 +20,5 @@ mod request;
 mod service;
 
 pub use members::{Malformed, Member};
-pub use request::{ActKind, Command, CommandKind, Kind, Question, QuestionKind, Request};
+pub use request::{ActKind, Command, CommandKind, Question, QuestionKind, Request, RequestKind};
 pub use service::{new_session, serve};

@@ -17,7 +17,7 @@ use vt_can::{Frame, write_frame};
 use vt_logs::refusal_name;
 use vt_server::{OperatorFault, Output};
 use vt_session::Session;
-use vt_session::outputs::{Item, latest, next};
+use vt_session::outputs::{HostItem, latest, next};
 
 /// Removes all outputs and events that wait, and appends a line for each.
 pub(crate) fn take_outputs(session: &mut Session, lines: &mut Vec<String>) -> Result<(), AllocError>
@@ -36,12 +36,12 @@ pub(crate) fn take_outputs(session: &mut Session, lines: &mut Vec<String>) -> Re
 }
 
 /// An output or an event.
-fn item_json(alloc: Global, item: &Item<'_>) -> Result<Value, AllocError>
+fn item_json(alloc: Global, item: &HostItem<'_>) -> Result<Value, AllocError>
     ensures { IfOk result (λ v. view v ≡ item_data (item_value item.now)) }
 {
     match item {
-        Item::Sent(output) => output_json(alloc, output),
-        Item::Told(event) => event_value(alloc, *event),
+        HostItem::Sent(output) => output_json(alloc, output),
+        HostItem::Told(event) => event_value(alloc, *event),
     }
 }
 

@@ -5,7 +5,7 @@ ghost use Rattle.serde_json.specs.View.{view};
 ghost use Rattle.vt_service.specs.Requests.{IsNoCommand, IsRefused, Names, Reads, act_name, action_in, command_in, command_name, command_value, place_in, question_in, question_name};
 ghost use Rattle.vt_service.specs.declared.request.ActKind.{ActKind};
 ghost use Rattle.vt_service.specs.declared.request.CommandKind.{CommandKind};
-ghost use Rattle.vt_service.specs.declared.request.Kind.{Kind};
+ghost use Rattle.vt_service.specs.declared.request.RequestKind.{RequestKind};
 ghost use Rattle.vt_service.specs.declared.request.QuestionKind.{QuestionKind};
 
 use crate::members::{
@@ -13,7 +13,7 @@ use crate::members::{
     typed_in,
 };
 use crate::profile::profile_in;
-use crate::request::{ActKind, Command, CommandKind, Kind, Question, QuestionKind, Request};
+use crate::request::{ActKind, Command, CommandKind, Question, QuestionKind, Request, RequestKind};
 use serde_json::Value;
 use std::alloc::Global;
 use vt_can::Action;
@@ -24,20 +24,20 @@ pub(crate) fn read(alloc: Global, request: &Value) -> Result<Request, Malformed>
     ensures err { IfErr result (IsRefused (view request.now)) }
 {
     match kind_in(request) {
-        Some(Kind::Command(kind)) => Ok(Request::Command(command_in(alloc, request, kind)?)),
-        Some(Kind::Question(kind)) => Ok(Request::Question(question_in(request, kind)?)),
+        Some(RequestKind::Command(kind)) => Ok(Request::Command(command_in(alloc, request, kind)?)),
+        Some(RequestKind::Question(kind)) => Ok(Request::Question(question_in(request, kind)?)),
         None => Err(Malformed::UnknownRequest),
     }
 }
 
 /// The kind that a request names, if it names one.
-fn kind_in(request: &Value) -> Option<Kind>
-    ensures { MatchOption result ((kind : Kind) → Names (view request.now) kind → ⊥) (λ kind. Names (view request.now) kind) }
+fn kind_in(request: &Value) -> Option<RequestKind>
+    ensures { MatchOption result ((kind : RequestKind) → Names (view request.now) kind → ⊥) (λ kind. Names (view request.now) kind) }
 {
     let name = request.get("do").and_then(Value::as_str)?;
     match command_named(name) {
-        Some(kind) => Some(Kind::Command(kind)),
-        None => question_named(name).map(Kind::Question),
+        Some(kind) => Some(RequestKind::Command(kind)),
+        None => question_named(name).map(RequestKind::Question),
     }
 }
 

@@ -6,7 +6,7 @@ use vt_server::Profile;
 
 /// The kind of a request, which its member `do` names.
 #[derive(Clone, Copy, PartialEq, Eq)]
-pub enum Kind {
+pub enum RequestKind {
     /// A command for the terminal.
     Command(CommandKind),
     /// A question about the terminal.

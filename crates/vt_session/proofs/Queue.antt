@@ -10,7 +10,7 @@ use Rattle.vt_server.specs.Outputs.{outputs_of}
 use Rattle.vt_server.specs.States.{TakesInputs}
 use Rattle.vt_server.specs.Steps.{JudgedInput, after_all, sent_by_all}
 use Rattle.vt_server.specs.Terminals.{State}
-use Rattle.vt_session.specs.Outputs.{Item, Sent, Told}
+use Rattle.vt_session.specs.Outputs.{HostItem, Sent, Told}
 
 -- Without outputs and events nothing waits.
 pub none_waits : (outputs : List Output) (events : List HostEvent) (next : ℕ) → outputs ≡ [] → events ≡ [] → next ≡ 0
@@ -36,13 +36,13 @@ among_two zero less = inl refl
 among_two (suc zero) less = inr refl
 among_two (suc (suc n)) less = absurd (omega (arith, less))
 
-split_at : (items : List Item) (n : ℕ) (item : Item) → slice_get items n ≡ Some item → drop n items ≡ item ∷ drop (suc n) items
+split_at : (items : List HostItem) (n : ℕ) (item : HostItem) → slice_get items n ≡ Some item → drop n items ≡ item ∷ drop (suc n) items
 split_at [] n item is = absurd cc
 split_at (o ∷ items) zero item is = cc
 split_at (o ∷ items) (suc n) item is = split_at items n item is
 
 -- the item at an index, and the items after it
-pub taken_at : (items : List Item) (n : ℕ) (item : Item) → slice_get items n ≡ Some item
+pub taken_at : (items : List HostItem) (n : ℕ) (item : HostItem) → slice_get items n ≡ Some item
     → (drop n items ≡ item ∷ drop (n + 1) items) × (slice_get items (n + 1 - 1) ≡ Some item)
 taken_at items n item is =
     let next : suc n ≡ n + 1 = omega arith in
@@ -54,18 +54,18 @@ pub not_first : (n : ℕ) → eqb (n + 1) 0 ≡ false
 not_first n = ne_eqb (n + 1) 0 (λ none. omega (arith, none))
 
 -- An index after all items has none after it.
-pub beyond_items : (items : List Item) (n : ℕ) → None ≡ slice_get items n → drop n items ≡ []
+pub beyond_items : (items : List HostItem) (n : ℕ) → None ≡ slice_get items n → drop n items ≡ []
 beyond_items [] zero none = refl
 beyond_items [] (suc n) none = refl
 beyond_items (o ∷ items) zero none = absurd cc
 beyond_items (o ∷ items) (suc n) none = beyond_items items n none
 
-pub known_none : (f : Item → ℕ) (o : Option Item) → None ≡ option_map f o → None ≡ o
+pub known_none : (f : HostItem → ℕ) (o : Option HostItem) → None ≡ option_map f o → None ≡ o
 known_none f None is = refl
 known_none f (Some item) is = absurd cc
 
 -- the item of which a number is known
-pub known_item : (f : Item → ℕ) (o : Option Item) (number : ℕ) → Some number ≡ option_map f o → (item : Item) × ((o ≡ Some item) × (number ≡ f item))
+pub known_item : (f : HostItem → ℕ) (o : Option HostItem) (number : ℕ) → Some number ≡ option_map f o → (item : HostItem) × ((o ≡ Some item) × (number ≡ f item))
 known_item f None number is = absurd cc
 known_item f (Some item) number is = (item, (refl, cc))
 

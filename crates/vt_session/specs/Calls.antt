@@ -9,7 +9,7 @@ use Rattle.vt_server.specs.shown.Screens.{IsScreenOf, redraws}
 use Rattle.vt_server.specs.shown.ShownSet.{display, status_frame}
 use Rattle.vt_session.specs.declared.session.Session.{Session}
 use Rattle.vt_session.specs.Inputs.{action_input, frame_input, text_input, tick_input}
-use Rattle.vt_session.specs.Outputs.{Item, kind_of, id_of, count_of, data_of, word_at}
+use Rattle.vt_session.specs.Outputs.{HostItem, kind_of, id_of, count_of, data_of, word_at}
 use Rattle.vt_session.specs.Sessions.{Answers, AnswersWhen, SendsBy, Stays, closed, latest, state, waiting}
 
 -- ---- inputs
@@ -37,7 +37,7 @@ SendsStatus before after status = SendsBy (closed before) before (status_frame (
 -- ---- outputs
 
 -- The next output or event is taken, if one waits.
-abbrev pub NextsBy : List Item → Session → Session → ℕ → Type 0
+abbrev pub NextsBy : List HostItem → Session → Session → ℕ → Type 0
 NextsBy [] before after kind = (kind ≡ 0) × ((waiting after ≡ []) × (latest after ≡ None))
 NextsBy (item ∷ rest) before after kind = (kind ≡ kind_of item) × ((waiting after ≡ rest) × (latest after ≡ Some item))
 

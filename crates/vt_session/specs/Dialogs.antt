@@ -11,7 +11,7 @@ use Rattle.vt_machine.specs.SetStates.{SetState}
 use Rattle.vt_dialogs.specs.Limits.{limits_in}
 use Rattle.vt_dialogs.specs.Texts.{text_in}
 use Rattle.vt_dialogs.specs.TypedNumbers.{IsRaw}
-use Rattle.vt_dialogs.specs.declared.limits.Limits.{Limits}
+use Rattle.vt_dialogs.specs.declared.limits.InputLimits.{InputLimits}
 use Rattle.vt_dialogs.specs.declared.typed.Typed.{Typed}
 use Rattle.vt_session.specs.declared.session.Session.{Session}
 use Rattle.vt_session.specs.Calls.{number_of}
@@ -21,22 +21,22 @@ use Rattle.vt_session.specs.Sessions.{state}
 -- ---- limits
 
 -- the value, the least, the greatest and the offset
-abbrev pub limit_numbers : Limits → List ℕ
+abbrev pub limit_numbers : InputLimits → List ℕ
 limit_numbers l = l.value ∷ l.least ∷ l.greatest ∷ cast_unsigned w32 l.offset ∷ []
 
 -- limits in 24 bytes: the kind, whether the input is enabled, the places of its scale, its decimals, its items, the most bytes of a text, two
 -- bytes of 0, and in four bytes each the value, the least, the greatest and the offset
-abbrev pub limits_bytes : Limits → List ℕ
+abbrev pub limits_bytes : InputLimits → List ℕ
 limits_bytes l =
     (l.kind ∷ number_of l.enabled ∷ l.places ∷ l.decimals ∷ l.items ∷ l.length ∷ 0 ∷ 0 ∷ [])
     ++ flat_map (little_bytes 4) (limit_numbers l)
 
-abbrev pub bytes_if : Option Limits → List ℕ
+abbrev pub bytes_if : Option InputLimits → List ℕ
 bytes_if None = []
 bytes_if (Some limits) = limits_bytes limits
 
 -- the limits of an input of a set
-abbrev pub limits_by : Option SetState → ℕ → Option Limits
+abbrev pub limits_by : Option SetState → ℕ → Option InputLimits
 limits_by None id = None
 limits_by (Some set) id = if nat_lt id null_id then limits_in set.objects (finite.get set.objects id) else None
 

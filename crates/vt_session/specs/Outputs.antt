@@ -11,16 +11,16 @@ use Rattle.vt_server.specs.declared.output.Output.{Output}
 use Rattle.vt_server.specs.declared.output.Output.TheVariants.{Frame, Refused}
 
 -- what a host takes: an output of the terminal, or an event
-pub data Item : Type 0 where
-  Sent : (output : Output) → Item
-  Told : (event : HostEvent) → Item
+pub data HostItem : Type 0 where
+  Sent : (output : Output) → HostItem
+  Told : (event : HostEvent) → HostItem
 
 -- 1 for a frame, 2 for a refusal to the operator, 3 for an event
 abbrev pub kind_of_output : Output → ℕ
 kind_of_output (Frame frame) = 1
 kind_of_output (Refused fault) = 2
 
-abbrev pub kind_of : Item → ℕ
+abbrev pub kind_of : HostItem → ℕ
 kind_of (Sent output) = kind_of_output output
 kind_of (Told event) = 3
 
@@ -40,14 +40,14 @@ fault_number faults.Busy = 8
 fault_number faults.NoSet = 9
 
 -- the identifier of a frame, the number of a refusal, or the kind of an event
-abbrev pub id_of : Option Item → ℕ
+abbrev pub id_of : Option HostItem → ℕ
 id_of None = 0
 id_of (Some (Sent (Frame frame))) = frame.id
 id_of (Some (Sent (Refused fault))) = fault_number fault
 id_of (Some (Told event)) = kind_of_event event
 
 -- the number of data bytes, or the address of an event
-abbrev pub count_of : Option Item → ℕ
+abbrev pub count_of : Option HostItem → ℕ
 count_of None = 0
 count_of (Some (Sent (Frame frame))) = length frame.bytes.items
 count_of (Some (Sent (Refused fault))) = 0
@@ -64,7 +64,7 @@ abbrev pub word_at : List ℕ → ℕ → ℕ
 word_at bytes at = little_number 8 (eight_of (drop at bytes))
 
 -- the data bytes, or the numbers of an event
-abbrev pub data_of : Option Item → ℕ
+abbrev pub data_of : Option HostItem → ℕ
 data_of None = 0
 data_of (Some (Sent (Frame frame))) = word_at frame.bytes.items 0
 data_of (Some (Sent (Refused fault))) = 0

@@ -15,7 +15,7 @@ use Rattle.vt_session.specs.declared.session.Session.{Session}
 use Rattle.vt_host_events.specs.Events.{IsObserving, TellsEvents}
 use Rattle.vt_host_events.specs.declared.observer.Observer.{Observer}
 use Rattle.vt_session.specs.Inputs.{frame_of, tick_at, time_of}
-use Rattle.vt_session.specs.Outputs.{Item, Sent, Told}
+use Rattle.vt_session.specs.Outputs.{HostItem, Sent, Told}
 use Rattle.vt_session.specs.Looks.{KeepsPicture, LooksOn}
 use Rattle.vt_session.specs.Statuses.{DONE, NO_MEMORY, NO_SUCH, WAITING, NOT_BEGUN}
 
@@ -24,15 +24,15 @@ abbrev pub state : Session → State
 state session = state_of session.terminal
 
 -- the outputs of the last input, and behind them its events
-abbrev pub items : Session → List Item
+abbrev pub items : Session → List HostItem
 items session = map Sent session.outputs.items ++ map Told session.observer.events.items
 
 -- the outputs and events that wait to be taken
-abbrev pub waiting : Session → List Item
+abbrev pub waiting : Session → List HostItem
 waiting session = drop session.next (items session)
 
 -- the one taken last, of which the calls of outputs tell
-abbrev pub latest : Session → Option Item
+abbrev pub latest : Session → Option HostItem
 latest session = if session.next == 0 then None else slice_get (items session) (session.next - 1)
 
 -- Why a session takes no input, if it takes none: its own address is none that a node may have, or outputs wait.

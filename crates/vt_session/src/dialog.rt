@@ -11,7 +11,7 @@ ghost use Rattle.vt_session.specs.Readings.{pool_by};
 use crate::reading::{object_id, pool_at, write_numbers};
 use crate::session::Session;
 use std::alloc::AllocError;
-use vt_dialogs::{Limits, Typed, limits_of, raw_of, write_text};
+use vt_dialogs::{InputLimits, Typed, limits_of, raw_of, write_text};
 use vt_objects::Object;
 use vt_server::Terminal;
 
@@ -47,7 +47,7 @@ fn write_limits(
 }
 
 /// The limits of an input of the set at an address, if there is such an input.
-pub fn limits_at(terminal: &Terminal, address: u32, id: u32) -> Option<Limits>
+pub fn limits_at(terminal: &Terminal, address: u32, id: u32) -> Option<InputLimits>
     ensures { result ≡ limits_by (pool_by (state_of terminal.now) address) id }
 {
     let live = pool_at(terminal, address)?;
@@ -55,7 +55,7 @@ pub fn limits_at(terminal: &Terminal, address: u32, id: u32) -> Option<Limits>
 }
 
 /// Appends limits in 24 bytes.
-fn write_bytes(text: &mut Vec<u8>, limits: &Limits) -> Result<(), AllocError>
+fn write_bytes(text: &mut Vec<u8>, limits: &InputLimits) -> Result<(), AllocError>
     ensures { OnOk result (text.new.items ≡ text.old.items ++ limits_bytes limits.now) }
 {
     text.extend_from_slice(&[
@@ -72,7 +72,7 @@ fn write_bytes(text: &mut Vec<u8>, limits: &Limits) -> Result<(), AllocError>
 }
 
 /// The raw value shown, the least and the greatest one accepted, and the offset.
-fn numbers_of(limits: &Limits) -> [u32; 4]
+fn numbers_of(limits: &InputLimits) -> [u32; 4]
     ensures { result ≡ limit_numbers limits.now }
 {
     [

@@ -39,7 +39,7 @@ fn next_of_none(session: &mut Session) -> u32
 
 /// What a host takes: an output of the terminal, or an event.
 #[derive(Clone, Copy)]
-pub enum Item<'a> {
+pub enum HostItem<'a> {
     /// A frame to send, or a refusal to the operator.
     Sent(&'a Output),
     /// An event.
@@ -47,16 +47,16 @@ pub enum Item<'a> {
 }
 
 /// The output or event at an index.
-fn item_at(session: &Session, index: usize) -> Option<Item<'_>>
+fn item_at(session: &Session, index: usize) -> Option<HostItem<'_>>
     ensures item { option_map item_value result ≡ slice_get (items session.now) index }
     ensures within { is_some result ≡ true → index < length session.now.outputs.items + length session.now.observer.events.items }
 {
     let count = session.outputs.len();
     if index < count {
-        return Some(Item::Sent(&session.outputs[index]));
+        return Some(HostItem::Sent(&session.outputs[index]));
     }
     match session.observer.events.get(index - count) {
-        Some(event) => Some(Item::Told(*event)),
+        Some(event) => Some(HostItem::Told(*event)),
         None => None,
     }
 }
@@ -67,15 +67,15 @@ fn kind_at(session: &Session, index: usize) -> Option<u32>
     ensures within { is_some result ≡ true → index < length session.now.outputs.items + length session.now.observer.events.items }
 {
     match item_at(session, index) {
-        Some(Item::Sent(Output::Frame(_))) => Some(1),
-        Some(Item::Sent(Output::Refused(_))) => Some(2),
-        Some(Item::Told(_)) => Some(3),
+        Some(HostItem::Sent(Output::Frame(_))) => Some(1),
+        Some(HostItem::Sent(Output::Refused(_))) => Some(2),
+        Some(HostItem::Told(_)) => Some(3),
         None => None,
     }
 }
 
 /// The output or event taken last.
-pub fn latest(session: &Session) -> Option<Item<'_>>
+pub fn latest(session: &Session) -> Option<HostItem<'_>>
     ensures { option_map item_value result ≡ latest session.now }
 {
     if session.next == 0 {
@@ -89,9 +89,9 @@ pub fn output_id(session: &mut Session) -> u32
     ensures { TellsId session.old session.new result }
 {
     match latest(session) {
-        Some(Item::Sent(Output::Frame(frame))) => frame.id.raw(),
-        Some(Item::Sent(Output::Refused(fault))) => fault_number(*fault),
-        Some(Item::Told(event)) => kind_of_event(event),
+        Some(HostItem::Sent(Output::Frame(frame))) => frame.id.raw(),
+        Some(HostItem::Sent(Output::Refused(fault))) => fault_number(*fault),
+        Some(HostItem::Told(event)) => kind_of_event(event),
         None => 0,
     }
 }
@@ -101,9 +101,9 @@ pub fn output_count(session: &mut Session) -> u32
     ensures { TellsCount session.old session.new result }
 {
     match latest(session) {
-        Some(Item::Sent(Output::Frame(frame))) => frame.bytes.len() as u32,
-        Some(Item::Sent(Output::Refused(_))) => 0,
-        Some(Item::Told(event)) => u32::from(address_of_event(event)),
+        Some(HostItem::Sent(Output::Frame(frame))) => frame.bytes.len() as u32,
+        Some(HostItem::Sent(Output::Refused(_))) => 0,
+        Some(HostItem::Told(event)) => u32::from(address_of_event(event)),
         None => 0,
     }
 }
@@ -113,9 +113,9 @@ pub fn output_data(session: &mut Session) -> u64
     ensures { TellsData session.old session.new result }
 {
     match latest(session) {
-        Some(Item::Sent(Output::Frame(frame))) => word_at(frame.bytes.as_slice(), 0),
-        Some(Item::Sent(Output::Refused(_))) => 0,
-        Some(Item::Told(event)) => numbers_of_event(event),
+        Some(HostItem::Sent(Output::Frame(frame))) => word_at(frame.bytes.as_slice(), 0),
+        Some(HostItem::Sent(Output::Refused(_))) => 0,
+        Some(HostItem::Told(event)) => numbers_of_event(event),
         None => 0,
     }
 }

@@ -15,8 +15,7 @@ use Rattle.vt_kinds.specs.Attributes.{attribute_at}
 use Rattle.vt_stores.specs.Stores.{ObjectMap}
 use Rattle.vt_commands.specs.declared.command.Command.{Command}
 use Rattle.vt_commands.specs.declared.command.Command.TheVariants.{HideShow, EnableDisable, ControlAudio, SetVolume, ChangeChildLocation, ChangeSize, ChangeBackgroundColour, ChangeNumericValue, ChangeEndPoint, ChangeFontAttributes, ChangeLineAttributes, ChangeFillAttributes, ChangeActiveMask, ChangeSoftKeyMask, ChangeAttribute, ChangePriority, ChangeListItem, DeletePool, ChangeStringValue, ChangeChildPosition, ExecuteMacro}
-use Rattle.vt_commands.specs.Commands.{Columns, columns_at}
-use Rattle.vt_commands.specs.Functions.{function_of}
+use Rattle.vt_commands.specs.Commands.{Columns, columns_at, function_of}
 use Rattle.vt_commands.specs.Targets.{object_of}
 use Rattle.vt_effects.specs.Errors.{bit}
 use Rattle.vt_effects.specs.Changes.{if_passed, stands_in, for_child, put_children, in_parent, put_attribute, other_id, changed}

@@ -15,7 +15,7 @@ use Rattle.vt_commands.specs.declared.command.Command.TheVariants.{HideShow, Ena
 use Rattle.vt_commands.specs.declared.event.Event.TheVariants as events
 use Rattle.vt_commands.specs.declared.event.Event.{Event}
 use Rattle.vt_commands.specs.Events.{raise, by_state, event_at, row_events}
-use Rattle.vt_commands.specs.Functions.{function_of}
+use Rattle.vt_commands.specs.Commands.{function_of}
 use Rattle.vt_commands.specs.Targets.{object_of}
 use Rattle.vt_effects.specs.Changes.{is_one_of}
 use Rattle.vt_effects.specs.Errors as errors

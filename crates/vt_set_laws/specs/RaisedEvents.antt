@@ -10,7 +10,7 @@ use Rattle.vt_commands.specs.declared.command.Command.{Command}
 use Rattle.vt_commands.specs.declared.command.Command.TheVariants.{HideShow, EnableDisable}
 use Rattle.vt_commands.specs.declared.raising.Raised.{Raised}
 use Rattle.vt_commands.specs.Events.{event_at}
-use Rattle.vt_commands.specs.Functions.{function_of}
+use Rattle.vt_commands.specs.Commands.{function_of}
 use Rattle.vt_commands.specs.Targets.{object_of}
 use Rattle.vt_effects.specs.Effects.{effect}
 use Rattle.vt_effects.specs.Soundness.{IsSound}

@@ -3,8 +3,7 @@
 use Rattle.std.specs.Prelude.{◌≡◌, ℕ, Contains, Option, Some, Err}
 use Rattle.vt_stores.specs.Stores.{ObjectMap}
 use Rattle.vt_commands.specs.declared.command.Command.{Command}
-use Rattle.vt_commands.specs.Commands.{Columns, columns_at}
-use Rattle.vt_commands.specs.Functions.{function_of}
+use Rattle.vt_commands.specs.Commands.{Columns, columns_at, function_of}
 use Rattle.vt_effects.specs.Errors.{bit}
 use Rattle.vt_effects.specs.Effects.{effect}
 

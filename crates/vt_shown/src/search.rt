@@ -85,12 +85,10 @@ fn search_soft_keys<S: Store>(
     ensures not_found { result ≡ false → slice_index_or marks.new sought false ≡ slice_index_or marks.old sought false }
     ensures all { result ≡ false → Searched (S.contents store.now) (keys_of (finite.get (S.contents store.now) keys)) marks.old marks.new }
 {
-    match store.get(keys) {
-        Some(Object::SoftKeyMask(o)) => {
-            search_keys(store, levels, marks, o.keys.as_slice(), sought)
-        }
-        _ => false,
-    }
+    let Some(Object::SoftKeyMask(o)) = store.get(keys) else {
+        return false;
+    };
+    search_keys(store, levels, marks, o.keys.as_slice(), sought)
 }
 
 /// Searches soft keys.

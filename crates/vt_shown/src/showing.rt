@@ -43,8 +43,8 @@ pub fn number_shown<S: Store>(store: &S, variable: ObjectId, own: u32) -> Option
     if variable.is_null() {
         return Some(own);
     }
-    match store.get(variable) {
-        Some(Object::NumberVariable(o)) => Some(o.value),
-        _ => None,
-    }
+    let Some(Object::NumberVariable(o)) = store.get(variable) else {
+        return None;
+    };
+    Some(o.value)
 }

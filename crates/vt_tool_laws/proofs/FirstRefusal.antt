@@ -40,8 +40,8 @@ use Rattle.check_inspect.specs.Lists.{all_failing}
 use Rattle.check_inspect.specs.Costs.{costs_too_much, event_costs_too_much, macro_finding, event_finding, over_findings}
 use Rattle.check_inspect.specs.Findings.{circle_finding, working_set_ids, set_findings, IsDeepest, cut_findings, command_findings, value_finding, value_findings, target_findings, AreOfTriggers, slot_findings, macro_findings, AreFindings}
 use Rattle.check_inspect.specs.Findings.AreOfTriggers.{Cut, Circles, Costs}
-use Rattle.check_inspect.specs.Inspections.{is_none}
-use Rattle.check_reading.specs.Readings.{FoundAt, entry_of, found_from, objects_of}
+use Rattle.check_inspect.specs.Inspections.{is_none, is_judged}
+use Rattle.check_reading.specs.Readings.{FoundAt, entry_of, found_from, passed_from, objects_of}
 use Rattle.check_inspect.specs.References.{function_of, missing_at, wrong_kinds_at, slots_at, slot_values_at, own_references_at, failing_targets_at}
 use Rattle.vt_chains.proofs.Elements.{Contains-head}
 use Rattle.check_inspect.proofs.lemmas.Whole.{none_fails, all_whole, none_first, references_are, none_missing}
@@ -52,7 +52,7 @@ use Rattle.vt_tool_laws.proofs.NoneOver.{map_none, both_none}
 use Rattle.vt_tool_laws.proofs.Nothing.{same_list, ids_are, one_id, none_value, some_value, rules_hold, last_objects}
 use Rattle.vt_tool_laws.proofs.Truths.{fails}
 use Rattle.vt_tool_laws.proofs.SameReferences.{values_are, macro_references_are}
-use Rattle.vt_tool_laws.proofs.WholeReadings.{whole_outcome}
+use Rattle.vt_tool_laws.proofs.WholeReadings.{whole_outcome, judged_if_none}
 use Rattle.vt_tool_laws.proofs.WholeReadings.Outcome.{Whole, Faulty}
 
 first_fails : {A : Type 0} (test : A → Bool) (xs : List A) (x : A) (rest : List A) → all_failing test xs ≡ x ∷ rest → first_failing test xs ≡ Some x
@@ -326,7 +326,7 @@ pub first_refusal : FirstIsTheRefusal
 first_refusal bytes i records refusal is whole parts refused by_rule =
     elim (whole_outcome is.steps bytes is.reading) as (λ _. (first : Finding) × (others : List Finding) × (i.findings.items ≡ first ∷ others)
     × ((same : Refusal) × (refusal_of first ≡ Some same) × SaysTheSame refusal same)) [
-      | Whole faults unread own joins ↦
+      | Whole faults passed unread own joins ↦
           let found = found_from 0 is.steps in
           let of_all : AreFindings true i.objects is.of_rules is.left_out =
           subst (λ (b : Bool). AreFindings b i.objects is.of_rules is.left_out) (ap is_none unread) is.are_findings in
@@ -334,7 +334,9 @@ first_refusal bytes i records refusal is whole parts refused by_rule =
           let objects : i.objects ≡ by_rising_id (reverse records) =
           is.objects ∙ last_objects found ∙ ap (λ (rs : List PoolEntry). by_rising_id (reverse rs)) (sym same) in
           let theirs = subst (λ (o : Objects). IsRefused terminal o refusal) (sym objects) refused in
-          let all : i.findings.items ≡ is.of_rules = is.found ∙ ap (λ fs. map findings.Record fs ++ is.of_rules) faults in
+          let all : i.findings.items ≡ is.of_rules =
+          is.found ∙ ap (λ fs. map findings.Record fs ++ filter (is_judged (passed_from 0 is.steps)) is.of_rules) faults
+          ∙ judged_if_none (passed_from 0 is.steps) is.of_rules passed in
           nothing_or is.of_rules _
           (λ none. absurd (by_rule (refusals_true terminal i.objects refusal (rules_hold i.objects is.of_rules is.left_out of_all none) theirs)))
           (λ g others made.

@@ -30,14 +30,14 @@ use Rattle.check_inspect.specs.declared.inspection.Note.{Note}
 use Rattle.check_inspect.specs.Lists.{all_failing}
 use Rattle.check_inspect.specs.Findings.{circle_finding, working_set_ids, set_findings, IsDeepest, cut_findings, command_findings, value_finding, value_findings, target_findings, AreOfTriggers, slot_findings, macro_findings, AreFindings}
 use Rattle.check_inspect.specs.Findings.AreOfTriggers.{Cut, Circles, Costs}
-use Rattle.check_inspect.specs.Inspections.{is_none}
-use Rattle.check_reading.specs.Readings.{FoundAt, entry_of, found_from, faults_from, objects_of}
+use Rattle.check_inspect.specs.Inspections.{is_none, is_judged}
+use Rattle.check_reading.specs.Readings.{FoundAt, entry_of, found_from, faults_from, passed_from, objects_of}
 use Rattle.check_inspect.specs.References.{function_of, missing_at, wrong_kinds_at, slots_at, slot_values_at, own_references_at, failing_targets_at}
 use Rattle.check_inspect.proofs.lemmas.Whole.{none_fails, all_whole, none_first, references_are, none_missing}
 use Rattle.vt_tool_laws.specs.InspectLaws.{IsAcceptablePool, FindsNothing}
 use Rattle.vt_tool_laws.proofs.NoneOver.{map_none, both_none, within, none_over}
 use Rattle.vt_tool_laws.proofs.SameReferences.{values_are, macro_references_are}
-use Rattle.vt_tool_laws.proofs.WholeReadings.{whole_outcome}
+use Rattle.vt_tool_laws.proofs.WholeReadings.{whole_outcome, judged_if_none}
 use Rattle.vt_tool_laws.proofs.WholeReadings.Outcome.{Whole, Faulty}
 
 -- ---- working sets
@@ -199,8 +199,10 @@ last_objects found = ap by_rising_id (entries_back found)
 pub nothing_found : FindsNothing
 nothing_found bytes i is =
     elim (whole_outcome is.steps bytes is.reading) as (λ _. (i.findings.items ≡ []) ↔ IsAcceptablePool bytes) [
-      | Whole faults unread records joins ↦
+      | Whole faults passed unread records joins ↦
           let found = found_from 0 is.steps in
+          let of_pool : i.findings.items ≡ map findings.Record (faults_from 0 is.steps) ++ is.of_rules =
+          is.found ∙ ap (λ (l : List Finding). map findings.Record (faults_from 0 is.steps) ++ l) (judged_if_none (passed_from 0 is.steps) is.of_rules passed) in
           let of_all : AreFindings true i.objects is.of_rules is.left_out =
           subst (λ (b : Bool). AreFindings b i.objects is.of_rules is.left_out) (ap is_none unread) is.are_findings in
           let objects = is.objects ∙ last_objects found in (
@@ -209,15 +211,15 @@ nothing_found bytes i is =
               whole = records;
               parts = joins;
               acceptable = subst (IsAcceptable terminal) objects
-                  (rules_hold i.objects is.of_rules is.left_out of_all (both_none (map findings.Record (faults_from 0 is.steps)) is.of_rules (sym is.found ∙ none)).1);
+                  (rules_hold i.objects is.of_rules is.left_out of_all (both_none (map findings.Record (faults_from 0 is.steps)) is.of_rules (sym of_pool ∙ none)).1);
             },
             λ pool.
                 let same = joined_one pool.records (map entry_of found) pool.whole records (sym pool.parts ∙ joins) in
                 let holds = subst (IsAcceptable terminal) (ap (λ (rs : List PoolEntry). by_rising_id (reverse rs)) same ∙ sym objects) pool.acceptable in
-                is.found ∙ ap₂ (λ (fs : List PoolFault) (l : List Finding). map findings.Record fs ++ l) faults (none_found i.objects is.of_rules is.left_out of_all holds),
+                of_pool ∙ ap₂ (λ (fs : List PoolFault) (l : List Finding). map findings.Record fs ++ l) faults (none_found i.objects is.of_rules is.left_out of_all holds),
           )
       | Faulty fault others faults is_one known ↦ (
-        λ none. let never = ap (λ (fs : List PoolFault). map findings.Record fs ++ is.of_rules) (sym faults) ∙ sym is.found ∙ none in absurd cc,
+        λ none. let never = ap (λ (fs : List PoolFault). map findings.Record fs ++ filter (is_judged (passed_from 0 is.steps)) is.of_rules) (sym faults) ∙ sym is.found ∙ none in absurd cc,
         λ pool. absurd (known (want_of_memory bytes fault pool.records pool.whole pool.parts is_one)),
       )
     ]

@@ -12,9 +12,13 @@ use vt_objects::{Command, Object, ObjectId};
 pub fn named_macro(id: ObjectId, object: &Object<Vec<u8>>) -> Option<&[u8]>
     ensures { option_map (λ bytes. bytes.now) result ≡ macro_bytes_in id (fixed (seen object.now)) }
 {
-    match object {
-        Object::Macro(o) if id.raw() <= 255 => Some(o.bytes.as_slice()),
-        _ => None,
+    let Object::Macro(o) = object else {
+        return None;
+    };
+    if id.raw() <= 255 {
+        Some(o.bytes.as_slice())
+    } else {
+        None
     }
 }
 

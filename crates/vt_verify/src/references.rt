@@ -61,16 +61,14 @@ fn passes_both(objects: &SortedStore, reference: Reference) -> bool
 fn value_fits(objects: &SortedStore, reference: Reference, object: &Object<Vec<u8>>) -> bool
     ensures { IsTrue result → first_failing (fits (shape_of objects.now)) (pointed reference (Some (seen object.now))) ≡ None }
 {
-    match object {
-        Object::ObjectPointer(pointer) => {
-            let value = Reference {
-                id: pointer.value,
-                ..reference
-            };
-            value.passes(Test::Fits, objects)
-        }
-        _ => true,
-    }
+    let Object::ObjectPointer(pointer) = object else {
+        return true;
+    };
+    let value = Reference {
+        id: pointer.value,
+        ..reference
+    };
+    value.passes(Test::Fits, objects)
 }
 
 /// The first slot, by rising ID, that refers to a missing object.
@@ -146,11 +144,11 @@ fn wrong_or_points_wrong(objects: &SortedStore, reference: Reference) -> Option<
 pub fn pointed(objects: &SortedStore, reference: Reference) -> Option<Reference>
     ensures { option_to_list result ≡ pointed reference (object_at objects.now reference.id) }
 {
-    match objects.get(reference.id)? {
-        Object::ObjectPointer(pointer) => Some(Reference {
-            id: pointer.value,
-            ..reference
-        }),
-        _ => None,
-    }
+    let Object::ObjectPointer(pointer) = objects.get(reference.id)? else {
+        return None;
+    };
+    Some(Reference {
+        id: pointer.value,
+        ..reference
+    })
 }

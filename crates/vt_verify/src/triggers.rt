@@ -161,13 +161,10 @@ fn put_items(
 fn put_most(items: &mut Vec<Item>, command: &Command<'_>) -> Result<(), AllocError>
     ensures { OnOk result (items.new.items ≡ items.old.items ++ (if changes_mask command.now then Item.Most ∷ [] else [])) }
 {
-    match command {
-        Command::ChangeActiveMask { .. } => {
-            items.push(Item::Most)?;
-            Ok(())
-        }
-        _ => Ok(()),
+    if let Command::ChangeActiveMask { .. } = command {
+        items.push(Item::Most)?;
     }
+    Ok(())
 }
 
 /// Appends the group of an event, if it has one.

@@ -1,11 +1,10 @@
 //! The pool on top of which another is uploaded.
 
-use crate::program::is_read;
-use check_inspect::{Note, inspect};
-use check_text::{Item, ItemLine};
+use check_inspect::Note;
+use check_text::{Item, ItemLine, is_read};
 use std::alloc::{AllocError, Global};
 use std::io::{self, Write};
-use vt_cli::{Open, read_pool_file};
+use vt_cli::{InspectedFile, Open};
 
 /// The pool on top of which another is uploaded, such as that of a language. It has no bytes if none is given.
 #[derive(Drop)]
@@ -31,14 +30,16 @@ impl<'a> Base<'a> {
                 bytes: Vec::new(alloc),
             }));
         };
-        let Some(bytes) = read_pool_file(alloc, path, files, errors)? else {
+        let Some(pool) = InspectedFile::read(alloc, path, files, errors)? else {
             return Ok(None);
         };
-        let inspection = inspect(alloc, bytes.as_slice())?;
-        if !is_read(&inspection, path, errors) {
+        if !is_read(&pool.inspection, path, errors) {
             return Ok(None);
         }
-        Ok(Some(Base { path, bytes }))
+        Ok(Some(Base {
+            path,
+            bytes: pool.bytes,
+        }))
     }
 
     /// The bytes of the base, and those of a pool behind them.
@@ -73,7 +74,7 @@ impl<'a> Base<'a> {
 fn is_whole(item: Item<'_>) -> bool {
     match item {
         Item::Finding(finding) => finding.place().is_none(),
-        Item::Note(Note::UnknownTriggers | Note::UnknownCosts) => true,
+        Item::Note(Note::UnknownTriggers | Note::UnknownCosts | Note::PassedOver) => true,
         Item::Note(Note::Unread { .. })
         | Item::Clash(_)
         | Item::Replaced(_)

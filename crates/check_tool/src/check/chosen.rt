@@ -1,10 +1,11 @@
 //! Which findings are told, and with which severity.
 
-use check_inspect::FindingPlace;
+use check_inspect::{Finding, FindingPlace};
+use check_options::{ALL_WARNINGS, Choice};
 use check_text::{CheckedPool, Item, Severity, code_of, severity_of, warning_object};
-use check_words::{ALL_WARNINGS, Choice};
 use std::alloc::{AllocError, Global};
 use vt_objects::ObjectId;
+use vt_pool::PoolFault;
 
 /// Which findings are told, and with which severity.
 #[derive(Drop)]
@@ -13,6 +14,8 @@ pub(crate) struct Chosen<'a> {
     ignore: Vec<Choice<'a>>,
     deny: Vec<Choice<'a>>,
     warn: Vec<Choice<'a>>,
+    /// Whether what this terminal alone asks for is left out.
+    is_for_any: bool,
     /// Whether a run with a warning ends with status 1.
     pub(crate) denies_warnings: bool,
 }
@@ -24,6 +27,8 @@ pub(crate) struct ChosenWords<'a, 'b> {
     pub(crate) ignore: &'b [&'a str],
     pub(crate) deny: &'b [&'a str],
     pub(crate) warn: &'b [&'a str],
+    /// Whether what this terminal alone asks for is left out.
+    pub(crate) is_for_any: bool,
 }
 
 impl<'a> Chosen<'a> {
@@ -34,14 +39,16 @@ impl<'a> Chosen<'a> {
             ignore: choices_of(alloc, words.ignore)?,
             deny: choices_of(alloc, words.deny)?,
             warn: choices_of(alloc, words.warn)?,
+            is_for_any: words.is_for_any,
             denies_warnings: words.deny.iter().any(|word| *word == ALL_WARNINGS),
         })
     }
 
-    /// Whether an item is told: it is selected, or all are, and it is not ignored.
+    /// Whether an item is told: it is selected, or all are, and it is not ignored, nor left out for other terminals.
     pub(crate) fn is_told(&self, source: &CheckedPool<'_>, item: Item<'_>) -> bool {
         (self.select.is_empty() || is_chosen(&self.select, source, item))
             && !is_chosen(&self.ignore, source, item)
+            && !(self.is_for_any && is_of_this_terminal(source, item))
     }
 
     /// The severity of an item: its own, or the one that is chosen for it.
@@ -69,6 +76,24 @@ fn is_chosen(choices: &[Choice<'_>], source: &CheckedPool<'_>, item: Item<'_>) -
         choice.code.is_none_or(|word| code.is_called(word))
             && choice.object.is_none_or(|word| is_of(source, item, word))
     })
+}
+
+/// Whether an item is about what this terminal alone asks for: a type that it leaves out and passes over, unless bytes are unread, one of its
+/// scales, or its number of steps (docs/POOLS.md, "Other terminals").
+fn is_of_this_terminal(source: &CheckedPool<'_>, item: Item<'_>) -> bool {
+    match item {
+        Item::Finding(
+            Finding::Record(PoolFault::UnknownType { at } | PoolFault::LeftOutType { at }),
+        ) => source.is_passed(*at) && source.is_read(),
+        Item::Finding(Finding::Record(PoolFault::Scale { .. }) | Finding::OverBudget { .. }) =>
+            true,
+        Item::Finding(_)
+        | Item::Clash(_)
+        | Item::Replaced(_)
+        | Item::Warning(_)
+        | Item::Value(_)
+        | Item::Note(_) => false,
+    }
 }
 
 /// Whether an item is about the object with an ID or a name.

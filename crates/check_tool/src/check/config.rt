@@ -1,7 +1,7 @@
 //! Files of settings, `segyolant.toml`.
 
 use check_needs::Area;
-use check_words::{area, is_choice};
+use check_options::{area, is_choice};
 use std::alloc::{AllocError, Global};
 use std::fmt;
 use std::io::{self, ErrorKind, Write};
@@ -33,6 +33,7 @@ pub(crate) struct Config<'a> {
     pub(crate) deny: Vec<&'a str>,
     pub(crate) warn: Vec<&'a str>,
     pub(crate) baseline: Option<&'a str>,
+    pub(crate) is_for_any: Option<bool>,
 }
 
 /// A setting that is wrong.
@@ -53,7 +54,7 @@ impl fmt::Display for WrongSetting<'_> {
         match self {
             WrongSetting::Name(name) => write!(
                 f,
-                "no setting is called {name}; expected size, key-size, keys, names, select, ignore, deny, warn or baseline"
+                "no setting is called {name}; expected size, key-size, keys, names, select, ignore, deny, warn, baseline or for"
             ),
             WrongSetting::Form { name, expected } => write!(f, "{name}: expected {expected}"),
             WrongSetting::Choice { name, word } => write!(
@@ -185,6 +186,7 @@ impl<'a> Config<'a> {
             deny: Vec::new(alloc),
             warn: Vec::new(alloc),
             baseline: None,
+            is_for_any: None,
         }
     }
 
@@ -209,6 +211,7 @@ impl<'a> Config<'a> {
                 value,
                 "the path of a file, such as \"known.json\"",
             )?),
+            "for" => self.is_for_any = Some(is_any_in(name, value)?),
             _ => return Err(WrongSetting::Name(name)),
         }
         Ok(())
@@ -221,6 +224,16 @@ fn text_in<'a>(
     expected: &'a str,
 ) -> Result<&'a str, WrongSetting<'a>> {
     value.as_str().ok_or(WrongSetting::Form { name, expected })
+}
+
+/// Whether a pool is checked for any terminal.
+fn is_any_in<'a>(name: &'a str, value: &'a Value) -> Result<bool, WrongSetting<'a>> {
+    let expected = "\"this\" or \"any\"";
+    match text_in(name, value, expected)? {
+        "this" => Ok(false),
+        "any" => Ok(true),
+        _ => Err(WrongSetting::Form { name, expected }),
+    }
 }
 
 fn area_in<'a>(name: &'a str, value: &'a Value) -> Result<Area, WrongSetting<'a>> {

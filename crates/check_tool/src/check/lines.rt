@@ -2,31 +2,32 @@
 
 use crate::check::base::Base;
 use crate::check::sarif::put_result;
-use crate::program::{Style, put_message};
 use check_json::{item_json, summary_json, totals_json};
-use check_text::{CheckedPool, GithubLine, Item, Severity, Summary, Totals};
-use check_words::Format;
+use check_options::Format;
+use check_text::{
+    CheckedPool, GithubLine, Item, MessageStyle, Severity, Summary, Totals, put_message,
+};
 use std::alloc::Global;
 use std::io::{self, Write};
 
 /// The form of the lines. The results of SARIF have no counts.
 #[derive(Clone, Copy, PartialEq, Eq)]
 pub(crate) enum Lines {
-    Text(Style),
+    Text(MessageStyle),
     Json,
     Github,
     Sarif,
 }
 
 impl Lines {
-    /// The form of the lines: those for people have the look of the output, and those in a report of JUnit no colours.
-    pub(crate) fn new(format: Format, look: Style) -> Lines {
+    /// The form of the lines: those for people have the style of the output, and those in a report of JUnit no colours.
+    pub(crate) fn new(format: Format, style: MessageStyle) -> Lines {
         match format {
-            Format::Text => Lines::Text(look),
+            Format::Text => Lines::Text(style),
             Format::Json => Lines::Json,
             Format::Github => Lines::Github,
             Format::Sarif => Lines::Sarif,
-            Format::Junit => Lines::Text(Style::Plain),
+            Format::Junit => Lines::Text(MessageStyle::Plain),
         }
     }
 
@@ -44,7 +45,7 @@ impl Lines {
         message.severity = severity;
         base.place(item, &mut message);
         match self {
-            Lines::Text(look) => put_message(&message, look, out),
+            Lines::Text(style) => put_message(&message, style, out),
             Lines::Json => {
                 let line = item_json(alloc, source, &message, item)?;
                 writeln!(out, "{line}")

@@ -4,8 +4,8 @@ use crate::check::chosen::{Chosen, ChosenWords};
 use crate::check::config::{Config, path_beside};
 use crate::check::known::Known;
 use check_needs::{Sizes, TERMINAL_SIZES};
+use check_options::CheckOptions;
 use check_text::Names;
-use check_words::CheckOptions;
 use std::alloc::{AllocError, Global};
 use std::io::{self, Write};
 use vt_cli::{Open, read_names};
@@ -35,6 +35,7 @@ impl<'a> Settings<'a> {
             ignore: given(&options.ignore, &config.ignore),
             deny: given(&options.deny, &config.deny),
             warn: given(&options.warn, &config.warn),
+            is_for_any: options.is_for_any.or(config.is_for_any).unwrap_or(false),
         };
         let usual = TERMINAL_SIZES;
         Ok(Settings {

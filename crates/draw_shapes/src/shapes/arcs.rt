@@ -5,7 +5,7 @@ ghost use Rattle.std.specs.List.{flat_map};
 ghost use Rattle.draw_svg.specs.Elements.{point_text};
 ghost use Rattle.draw_shapes.specs.Arcs.{angles, arc, arc_back, in_quarter, IsOval, projected, point_on, sine, sweep};
 
-use draw_svg::{Point, push_point};
+use draw_svg::{SvgPoint, push_point};
 use std::alloc::AllocError;
 
 /// An ellipse: its centre, and half its width and its height, in tenths of a pixel.
@@ -99,7 +99,7 @@ fn turned_by(turn: u8, step: u8) -> u8
 
 /// The point of an ellipse at an angle, counterclockwise from the right.
 #[tactic(auto, unfolding(crate::specs::Arcs::point_on))]
-pub(crate) fn point_on(oval: Oval, step: u8) -> Point
+pub(crate) fn point_on(oval: Oval, step: u8) -> SvgPoint
     requires { IsOval oval }
     ensures { result ≡ point_on oval step }
 {
@@ -107,19 +107,19 @@ pub(crate) fn point_on(oval: Oval, step: u8) -> Point
     let fall = sine(QUARTER - step % QUARTER);
     let (right, down) = (oval.x, oval.y);
     match step / QUARTER {
-        0 => Point {
+        0 => SvgPoint {
             x: right + projected(oval.radius_x, fall),
             y: down.saturating_sub(projected(oval.radius_y, rise)),
         },
-        1 => Point {
+        1 => SvgPoint {
             x: right.saturating_sub(projected(oval.radius_x, rise)),
             y: down.saturating_sub(projected(oval.radius_y, fall)),
         },
-        2 => Point {
+        2 => SvgPoint {
             x: right.saturating_sub(projected(oval.radius_x, fall)),
             y: down + projected(oval.radius_y, rise),
         },
-        _ => Point {
+        _ => SvgPoint {
             x: right + projected(oval.radius_x, rise),
             y: down + projected(oval.radius_y, fall),
         },

@@ -9,7 +9,7 @@ ghost use Rattle.draw_shapes.specs.Ellipses as ellipses;
 use crate::pen::{Pen, fill_of, pen_of};
 use crate::shapes::arcs::{Oval, push_arc, sweep};
 use crate::shapes::lines::{drawn_with, half, half_of};
-use draw_svg::{Attribute, Element, Paint, Point, close_points, empty, open_points, push_point};
+use draw_svg::{Attribute, Element, Paint, SvgPoint, close_points, empty, open_points, push_point};
 use std::alloc::AllocError;
 use vt_objects::{Ellipse, Store};
 
@@ -110,7 +110,7 @@ fn draw_section(
     let oval = oval_of(pen, ellipse);
     push_point(
         text,
-        Point {
+        SvgPoint {
             x: oval.x,
             y: oval.y,
         },

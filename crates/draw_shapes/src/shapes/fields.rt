@@ -46,10 +46,10 @@ pub(crate) struct Field {
 pub(crate) fn look_of<S: Store>(store: &S, font: ObjectId) -> Option<Look>
     ensures { result ≡ fields.look_of (finite.get (S.contents store.now) font) }
 {
-    match store.get(font) {
-        Some(Object::Font(o)) => look_with(o.size, o.colour, o.style),
-        _ => None,
-    }
+    let Some(Object::Font(o)) = store.get(font) else {
+        return None;
+    };
+    look_with(o.size, o.colour, o.style)
 }
 
 fn look_with(size: u8, colour: u8, style: u8) -> Option<Look>

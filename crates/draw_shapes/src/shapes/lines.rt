@@ -9,7 +9,9 @@ ghost use Rattle.draw_shapes.specs.Pens.{drawn_with, far, half};
 ghost use Rattle.draw_shapes.specs.Lines.{inside_attributes, line_attributes, line_points, line_shapes, middle, point, polygon_shapes, rectangle_shapes, sides};
 
 use crate::pen::{NO_PEN, Pen, fill_of, pen_of};
-use draw_svg::{Attribute, Element, Paint, along, close_points, empty, open_points, push_point};
+use draw_svg::{
+    Attribute, Element, Paint, SvgPoint, along, close_points, empty, open_points, push_point,
+};
 use std::alloc::AllocError;
 use vt_objects::{Line, Point, Polygon, Rectangle, Store};
 
@@ -80,7 +82,7 @@ fn line_attributes(pen: Pen) -> [Attribute; 5]
 }
 
 /// The ends of a line: from the upper left corner to the lower right one, or from the lower left to the upper right.
-fn line_points(pen: Pen, line: &Line) -> [draw_svg::Point; 2]
+fn line_points(pen: Pen, line: &Line) -> [SvgPoint; 2]
     ensures { result ≡ line_points pen line.now }
 {
     let near = half(pen);
@@ -91,8 +93,8 @@ fn line_points(pen: Pen, line: &Line) -> [draw_svg::Point; 2]
         (bottom, near)
     };
     [
-        draw_svg::Point { x: near, y: first },
-        draw_svg::Point { x: right, y: last },
+        SvgPoint { x: near, y: first },
+        SvgPoint { x: right, y: last },
     ]
 }
 
@@ -159,8 +161,8 @@ fn draw_sides(text: &mut Vec<u8>, pen: Pen, rectangle: &Rectangle) -> Result<(),
 fn draw_side(
     text: &mut Vec<u8>,
     pen: Pen,
-    first: draw_svg::Point,
-    last: draw_svg::Point,
+    first: SvgPoint,
+    last: SvgPoint,
 ) -> Result<(), AllocError>
     ensures { OnOk result (text.new.items ≡ text.old.items ++ led_along Polyline (drawn_with None pen) (first ∷ last ∷ [])) }
 {
@@ -172,10 +174,10 @@ fn draw_side(
     )
 }
 
-fn at(x: u32, y: u32) -> draw_svg::Point
+fn at(x: u32, y: u32) -> SvgPoint
     ensures { result ≡ point x y }
 {
-    draw_svg::Point { x, y }
+    SvgPoint { x, y }
 }
 
 pub(crate) fn draw_polygon<S: Store>(
@@ -209,10 +211,10 @@ fn push_points(text: &mut Vec<u8>, points: &[Point]) -> Result<(), AllocError>
     Ok(())
 }
 
-fn middle(point: Point) -> draw_svg::Point
+fn middle(point: Point) -> SvgPoint
     ensures { result ≡ middle point }
 {
-    draw_svg::Point {
+    SvgPoint {
         x: tenths(point.x) + 5,
         y: tenths(point.y) + 5,
     }

@@ -11,7 +11,7 @@ ghost use Rattle.draw_shapes.specs.Texts as fields;
 use crate::bits::has_bit;
 use crate::shapes::fields::{Field, Look, draw_field, look_of};
 use check_needs::Area;
-use draw_svg::{Attribute, Element, Paint, Point, along};
+use draw_svg::{Attribute, Element, Paint, SvgPoint, along};
 use std::alloc::AllocError;
 use vt_objects::{
     Decimal, InputBoolean, InputList, InputNumber, InputString, Object, ObjectId, OutputNumber,
@@ -34,10 +34,10 @@ pub fn text_shown<'a, S: Store>(store: &'a S, variable: ObjectId, own: &'a [u8])
     if variable.is_null() {
         return Some(own);
     }
-    match store.get(variable) {
-        Some(Object::StringVariable(o)) => Some(o.text.as_slice()),
-        _ => None,
-    }
+    let Some(Object::StringVariable(o)) = store.get(variable) else {
+        return None;
+    };
+    Some(o.text.as_slice())
 }
 
 pub(crate) fn draw_input_string<S: Store>(
@@ -215,15 +215,15 @@ fn draw_check_mark(out: &mut Vec<u8>, look: Option<Look>, width: u32) -> Result<
             Attribute::StrokeWidth(width / 10 + 1),
         ],
         &[
-            Point {
+            SvgPoint {
                 x: width / 5,
                 y: width / 2,
             },
-            Point {
+            SvgPoint {
                 x: width * 9 / 20,
                 y: width * 3 / 4,
             },
-            Point {
+            SvgPoint {
                 x: width * 17 / 20,
                 y: width / 4,
             },

@@ -6,7 +6,7 @@ ghost use Rattle.vt_effects.specs.Changes as changes;
 ghost use Rattle.vt_effects.specs.Changes.{HasResult, left};
 
 use crate::error;
-use vt_kinds::Object;
+use vt_kinds::{Kinds, Object};
 
 /// Shows a container (state 1) or hides it (state 0).
 pub(crate) fn hide_show(object: &mut Object<Vec<u8>>, state: u8) -> Result<(), u8>
@@ -28,12 +28,8 @@ pub(crate) fn enable_disable(object: &mut Object<Vec<u8>>, state: u8) -> Result<
     ensures result { HasResult result (changes.enable_disable state (seen object.old)) }
     ensures object { seen object.new ≡ left (seen object.old) (changes.enable_disable state (seen object.old)) }
 {
-    match object {
-        Object::InputBoolean(_)
-        | Object::InputString(_)
-        | Object::InputNumber(_)
-        | Object::InputList(_) => {}
-        _ => return Err(error::OBJECT_ID),
+    if !Kinds::Inputs.contains(object.kind()) {
+        return Err(error::OBJECT_ID);
     }
     if state > 1 {
         return Err(error::STATE);

@@ -12,10 +12,7 @@ use vt_objects::{Command, ObjectId};
 pub(crate) fn deletes(command: &Command<'_>) -> bool
     ensures { result ≡ deletes command.now }
 {
-    match command {
-        Command::DeletePool => true,
-        _ => false,
-    }
+    matches!(command, Command::DeletePool)
 }
 
 /// The error byte of a command's outcome: 0 if it was done.

@@ -54,10 +54,12 @@ pub(crate) fn text_fault(
         return fault;
     }
     // An input that accepts the text has a text at least as long.
-    match live.get(id) {
-        Some(Object::InputString(input)) if text.len() <= input.text.as_slice().len() => None,
-        _ => unreachable!(),
+    if let Some(Object::InputString(input)) = live.get(id) {
+        if text.len() <= input.text.as_slice().len() {
+            return None;
+        }
     }
+    unreachable!()
 }
 
 /// A message of at most eight bytes, filled to eight with `FF`.

@@ -6,7 +6,7 @@ use Rattle.check_reading.proofs.records.read_records.Given as goal
 abbrev pub invariant-loop-at : goal.invariant-loop-at
 invariant-loop-at l = record {
   inside : l.at ≤ length l.mended.items;
-  reading : IsReadingOn l.bytes (drop l.at l.mended.items) l.at l.left (map found_at l.found.items) l.faults.items;
+  reading : IsReadingOn l.bytes (drop l.at l.mended.items) l.at l.left (map found_at l.found.items) l.faults.items l.passed.items;
 }
 
 abbrev pub decreases-loop-at : goal.decreases-loop-at

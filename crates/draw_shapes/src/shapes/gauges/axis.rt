@@ -7,7 +7,7 @@ ghost use Rattle.draw_shapes.specs.Gauges.{across, along_axis, begins_at_zero, i
 use crate::bits::has_bit;
 use crate::shapes::gauges::values::draw_between;
 use crate::shapes::lines::tenths;
-use draw_svg::{Attribute, Point};
+use draw_svg::{Attribute, SvgPoint};
 use std::alloc::AllocError;
 use vt_objects::LinearBar;
 
@@ -74,40 +74,40 @@ pub(crate) fn draw_across(
         draw_between(
             text,
             attributes,
-            Point { x: place, y: 0 },
-            Point { x: place, y: end },
+            SvgPoint { x: place, y: 0 },
+            SvgPoint { x: place, y: end },
         )
     } else {
         let end = most.min(tenths(bar.width));
         draw_between(
             text,
             attributes,
-            Point { x: 0, y: place },
-            Point { x: end, y: place },
+            SvgPoint { x: 0, y: place },
+            SvgPoint { x: end, y: place },
         )
     }
 }
 
 /// The corners of the part of a bar between two lengths.
-pub(crate) fn part_between(bar: &LinearBar, m: u32, n: u32) -> [Point; 4]
+pub(crate) fn part_between(bar: &LinearBar, m: u32, n: u32) -> [SvgPoint; 4]
     ensures { result ≡ part_between bar.now m n }
 {
     let (first, last) = (along_axis(bar, m), along_axis(bar, n));
     if is_horizontal(bar) {
         let end = tenths(bar.height);
         [
-            Point { x: first, y: 0 },
-            Point { x: last, y: 0 },
-            Point { x: last, y: end },
-            Point { x: first, y: end },
+            SvgPoint { x: first, y: 0 },
+            SvgPoint { x: last, y: 0 },
+            SvgPoint { x: last, y: end },
+            SvgPoint { x: first, y: end },
         ]
     } else {
         let end = tenths(bar.width);
         [
-            Point { x: 0, y: first },
-            Point { x: 0, y: last },
-            Point { x: end, y: last },
-            Point { x: end, y: first },
+            SvgPoint { x: 0, y: first },
+            SvgPoint { x: 0, y: last },
+            SvgPoint { x: end, y: last },
+            SvgPoint { x: end, y: first },
         ]
     }
 }

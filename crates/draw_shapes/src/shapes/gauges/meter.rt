@@ -12,7 +12,7 @@ use crate::shapes::gauges::values::{
     draw_arc, draw_between, plain_line, share, shown, tick_at, turned,
 };
 use crate::shapes::lines::half_of;
-use draw_svg::{Attribute, Element, Paint, Point, empty};
+use draw_svg::{Attribute, Element, Paint, SvgPoint, empty};
 use std::alloc::AllocError;
 use vt_objects::{Meter, Store};
 
@@ -173,7 +173,7 @@ fn draw_needle<S: Store>(text: &mut Vec<u8>, store: &S, meter: &Meter) -> Result
     draw_between(
         text,
         &plain_line(meter.needle_colour, NEEDLE_WIDTH),
-        Point {
+        SvgPoint {
             x: centre,
             y: centre,
         },

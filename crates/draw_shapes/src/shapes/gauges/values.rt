@@ -7,7 +7,7 @@ ghost use Rattle.draw_shapes.specs.Arcs.{arc, IsOval};
 ghost use Rattle.draw_shapes.specs.Gauges.{line, share, shown, plain_line, tick_at, turned};
 
 use crate::shapes::arcs::{Oval, STEPS, push_arc};
-use draw_svg::{Attribute, Element, Paint, Point, along, close_points, open_points};
+use draw_svg::{Attribute, Element, Paint, SvgPoint, along, close_points, open_points};
 use std::alloc::AllocError;
 use vt_objects::{ObjectId, Store};
 use vt_shown::number_shown;
@@ -77,8 +77,8 @@ pub(crate) fn plain_line(colour: u8, width: u32) -> [Attribute; 3]
 pub(crate) fn draw_between(
     text: &mut Vec<u8>,
     attributes: &[Attribute],
-    first: Point,
-    last: Point,
+    first: SvgPoint,
+    last: SvgPoint,
 ) -> Result<(), AllocError>
     ensures { OnOk result (text.new.items ≡ text.old.items ++ text_of (line attributes.now first last)) }
 {

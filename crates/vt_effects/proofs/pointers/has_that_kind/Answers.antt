@@ -3,8 +3,8 @@ use Rattle.vt_kinds.specs.Records.{seen}
 use Rattle.vt_effects.specs.Effects.{pointer_value}
 use Rattle.vt_effects.proofs.pointers.has_that_kind.Goals as goal
 
-pub returns-in-Some-ObjectPointer-clause-kind : goal.returns-in-Some-ObjectPointer-clause-kind
-returns-in-Some-ObjectPointer-clause-kind g c is = record {
+pub returns-clause-kind : goal.returns-clause-kind
+returns-clause-kind g c is = record {
   value = c.in-Some-ObjectPointer.pointer.value;
   held = ap pointer_value (sym c.in-Some-ObjectPointer.ensures.value) ∙ ap (λ o. pointer_value (Some (seen o))) c.in-Some-ObjectPointer.field-0-is;
   there = search rules;

@@ -2,7 +2,7 @@ use Rattle.std.proofs.Common.{◌<◌, ◌+◌, ◌-◌, Bool, List, None, lengt
 use Rattle.std.specs.List.{slice_get}
 use Rattle.vt_session.specs.declared.session.Session.{Session}
 use Rattle.vt_session.specs.Calls.{NextsBy}
-use Rattle.vt_session.specs.Outputs.{Item, kind_of}
+use Rattle.vt_session.specs.Outputs.{HostItem, kind_of}
 use Rattle.vt_session.specs.Sessions.{items}
 use Rattle.vt_session.proofs.Queue.{beyond_items, known_item, known_none, taken_at, not_first}
 use Rattle.vt_session.proofs.outputs.next.Goals as goal
@@ -26,7 +26,7 @@ returns c =
     let item = known.0 in
     let taken = taken_at (items before) before.next item known.1.0 in
     record {
-      taken = subst (λ (all : List Item). NextsBy all before after c.in-Some.kind) (sym taken.0) (
+      taken = subst (λ (all : List HostItem). NextsBy all before after c.in-Some.kind) (sym taken.0) (
         known.1.1,
         (refl, ap (λ (b : Bool). cond b None (slice_get (items before) (before.next + 1 - 1))) (not_first before.next) ∙ taken.1),
       );

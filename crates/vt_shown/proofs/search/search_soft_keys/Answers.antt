@@ -4,8 +4,8 @@ use Rattle.vt_shown.specs.ShownMarks.{MarksShown}
 use Rattle.vt_shown.specs.ShownElements.{keys_of}
 use Rattle.vt_shown.proofs.search.search_soft_keys.Goals as goal
 
-pub returns-in-Some-SoftKeyMask-clause-shown : goal.returns-in-Some-SoftKeyMask-clause-shown
-returns-in-Some-SoftKeyMask-clause-shown g c =
+pub returns-clause-shown : goal.returns-clause-shown
+returns-clause-shown g c =
     let m = g.S.Store.contents c.args.store.now in
     let is : c.as_slice.result.now ≡ keys_of (finite.get m c.args.keys) =
     c.as_slice.ensures.value ∙ ap keys_of (rw c.in-Some-SoftKeyMask.field-0-is at c.in-Some-SoftKeyMask.ensures.value) in

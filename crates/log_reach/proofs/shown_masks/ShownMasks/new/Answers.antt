@@ -1,4 +1,0 @@
-use Rattle.log_reach.proofs.shown_masks.ShownMasks.new.Goals as goal
-
-pub returns : goal.returns
-returns c address mask = c.new.ensures (address, mask)
