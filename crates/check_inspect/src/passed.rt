@@ -48,6 +48,16 @@ fn is_judged(ids: &IndexSet<ObjectId>, finding: &Finding) -> bool
         Finding::Missing(found) | Finding::MacroMissing(found) => {
             !ids.contains(&found.reference.id)
         }
-        _ => true,
+        Finding::Record(_)
+        | Finding::NoWorkingSet
+        | Finding::TwoWorkingSets { .. }
+        | Finding::WrongKind(_)
+        | Finding::TooDeep { .. }
+        | Finding::MacroBytes { .. }
+        | Finding::MacroCommand { .. }
+        | Finding::MacroKind(_)
+        | Finding::MacroValue { .. }
+        | Finding::MacroCircle { .. }
+        | Finding::OverBudget { .. } => true,
     }
 }
