@@ -1,4 +1,5 @@
-"""Pictures of pools that are made to be dear: they end at their limits (docs/PROFILE.md, "The picture of a mask")."""
+"""Pools that are made to be dear or long: their pictures end at their limits (docs/PROFILE.md, "The picture of a mask"), and a file that is too
+long is refused before it is read."""
 import subprocess
 import tempfile
 
@@ -30,9 +31,24 @@ def pictures_end(programs):
                 yield f'{what}: status {ran.returncode}, {len(ran.stdout)} bytes, {ran.stderr[-200:]!r}'
 
 
+def long_files_are_refused(programs):
+    """A file of more than 32 MiB is no pool, from a file or a pipe."""
+    with tempfile.TemporaryDirectory() as folder:
+        with open(f'{folder}/long.iop', 'wb') as file:
+            file.truncate(1 << 30)
+        for words, given in [(['check', 'long.iop'], None), (['check', '-'], bytes((1 << 25) + 1)), (['draw', 'long.iop'], None)]:
+            ran = subprocess.run([programs['segyolant'], *words], cwd=folder, capture_output=True, timeout=60, input=given)
+            told = f'segyolant: {words[1]}: the file has more than 33554432 bytes, and no longer pool is read; expected an object pool\n'
+            if ran.returncode != 2 or ran.stdout or ran.stderr != told.encode():
+                yield f'{" ".join(words)}: status {ran.returncode}, {ran.stdout[-200:]!r}, {ran.stderr[-200:]!r}'
+
+
 def results(_top, programs, only):
     """The name of each test, and what differs."""
-    if only not in 'limits/pictures_end':
-        return []
-    differing = list(pictures_end(programs))
-    return [('limits/pictures_end', ['scripts/testing/limits.py: pictures_end', *(f'  {it}' for it in differing)] if differing else [])]
+    found = []
+    for test in [pictures_end, long_files_are_refused]:
+        name = f'limits/{test.__name__}'
+        if only in name:
+            differing = list(test(programs))
+            found.append((name, [f'scripts/testing/limits.py: {test.__name__}', *(f'  {it}' for it in differing)] if differing else []))
+    return found

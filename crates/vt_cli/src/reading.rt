@@ -5,6 +5,12 @@ use check_text::{LinesWithoutId, Names, NamesRead};
 use std::alloc::Global;
 use std::io::{self, ErrorKind, Read, Write};
 
+/// The most bytes of an object pool that is read: far more than terminals have memory for.
+const MOST_BYTES: u64 = 33_554_432;
+
+/// The bytes that are read at once, at most.
+const CHUNK: usize = 65_536;
+
 /// The bytes of a file. `None` if it cannot be read: then `errors` receives the reason.
 pub fn read_file<F: Open, E: Write>(
     alloc: Global,
@@ -27,23 +33,69 @@ pub fn read_file<F: Open, E: Write>(
     }
 }
 
-/// The bytes of the file of an object pool. `None` if it cannot be read: then `errors` receives the reason. If the file is a text,
-/// `errors` receives a sentence that says so: each pool has a byte that no text has, the kind 0 of its Working Set.
+/// The bytes of the file of an object pool. `None` if it cannot be read, or is longer than a pool may be: then `errors` receives the
+/// reason. A file that is too long is not read to its end. If the file is a text, `errors` receives a sentence that says so: each pool has
+/// a byte that no text has, the kind 0 of its Working Set.
 pub fn read_pool_file<F: Open, E: Write>(
     alloc: Global,
     path: &str,
     files: &mut F,
     errors: &mut E,
 ) -> io::Result<Option<Vec<u8>>> {
-    let bytes = read_file(alloc, path, files, errors)?;
-    if bytes.as_ref().is_some_and(|bytes| is_text(bytes)) {
+    if files.size(path).is_some_and(|size| size > MOST_BYTES) {
+        tell_too_long(path, files.name(), errors);
+        return Ok(None);
+    }
+    let mut bytes = Vec::new(alloc);
+    let read = match files.open(path) {
+        Ok(mut file) => read_up_to(alloc, &mut file, &mut bytes),
+        Err(error) => Err(error),
+    };
+    match read {
+        Ok(()) => {}
+        Err(error) if error.kind() == ErrorKind::OutOfMemory => return Err(error),
+        Err(error) => {
+            let _ = writeln!(errors, "{}: {path}: {error}", files.name());
+            return Ok(None);
+        }
+    }
+    if bytes.len() as u64 > MOST_BYTES {
+        tell_too_long(path, files.name(), errors);
+        return Ok(None);
+    }
+    if is_text(&bytes) {
         let _ = writeln!(
             errors,
             "{}: {path}: the file is a text; expected the bytes of an object pool, such as those of an .iop file",
             files.name()
         );
     }
-    Ok(bytes)
+    Ok(Some(bytes))
+}
+
+/// Appends the bytes of an input, up to its end or to more than `MOST_BYTES` of them.
+fn read_up_to<R: Read>(alloc: Global, input: &mut R, bytes: &mut Vec<u8>) -> io::Result<()> {
+    let mut chunk = vec![in alloc; 0; CHUNK]?;
+    for _ in 0..=MOST_BYTES {
+        if bytes.len() as u64 > MOST_BYTES {
+            break;
+        }
+        match input.read(&mut chunk) {
+            Ok(0) => break,
+            Ok(count) => bytes.extend_from_slice(chunk.get(..count).unwrap_or(&[]))?,
+            Err(error) if error.kind() == ErrorKind::Interrupted => {}
+            Err(error) => return Err(error),
+        }
+    }
+    Ok(())
+}
+
+/// Writes to `errors` that a file is longer than an object pool may be.
+fn tell_too_long<E: Write>(path: &str, program: &str, errors: &mut E) {
+    let _ = writeln!(
+        errors,
+        "{program}: {path}: the file has more than {MOST_BYTES} bytes, and no longer pool is read; expected an object pool"
+    );
 }
 
 /// Whether bytes are a text that is not empty: graphic characters and blanks, and bytes above 127; or the beginning of one in UTF-16, a
