@@ -1,6 +1,6 @@
 """What segyolant_log prints of a log that comes through a pipe, that is long, or whose lines are.
 
-Of the standard input of trace and draw each line is written before more are read. Any other pipe gives what a file with the same bytes does.
+Of the standard input of trace, draw and pools each line is written before more are read. Any other pipe gives what a file with the same bytes does.
 A file is read anew in each pass, in pieces, so its size needs no memory, and no line is cut where a piece ends.
 """
 import os
@@ -97,19 +97,22 @@ class Pipes:
                 yield f'{name}: status {status}, {len(content)} bytes, copied {len(copy)}, {said!r}'
 
     def a_long_log(self):
-        """The size of a log in a file needs no memory."""
-        short, long = self.memory_for(0), self.memory_for(40)
-        if long > short + (8 << 10):
-            yield f'pools: {short} kB for a line, {long} kB for 40 MB'
+        """The size of a log in a file needs no memory, and for pools neither does that of the standard input."""
+        for log in ('my.log', '-'):
+            short, long = self.memory_for(log, 0), self.memory_for(log, 40)
+            if long > short + (8 << 10):
+                yield f'pools {log}: {short} kB for a line, {long} kB for 40 MB'
 
-    def memory_for(self, megabytes):
+    def memory_for(self, log, megabytes):
         """The most memory, in kB, that pools takes for a log of comments and a frame. (The process has the memory of this one at first.)"""
         with open(f'{self.folder}/my.log', 'wb') as file:
             file.write(FIRST)
             for _ in range(megabytes * 256):
                 file.write(b'# ' + b'x' * 4093 + b'\n')
-        ran = subprocess.Popen([self.program, 'pools', 'my.log'], cwd=self.folder, stdin=subprocess.DEVNULL)
-        return os.wait4(ran.pid, 0)[2].ru_maxrss
+        with subprocess.Popen(['cat', 'my.log'], cwd=self.folder, stdout=subprocess.PIPE) as cat:
+            ran = subprocess.Popen([self.program, 'pools', log], cwd=self.folder, stdin=cat.stdout)
+            cat.stdout.close()
+            return os.wait4(ran.pid, 0)[2].ru_maxrss
 
 
 TESTS = ('lines_come_at_once', 'a_named_pipe', 'lines_are_whole', 'a_long_log')

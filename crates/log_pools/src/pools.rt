@@ -16,7 +16,8 @@ use vt_can::{Frame, Line, LineFault};
 use vt_cli::{Open, Save, Status, make_folder, read_names, save_file, tell_replaced};
 use vt_frames_text::PoolRequest;
 
-/// Prints every upload of a log, and the verdict on it.
+/// Prints every upload of a log, and the verdict on it. The standard input is not held in memory: an upload is printed when its last line
+/// has come.
 pub fn run_pools<F: Open + Save, W: Write, E: Messages>(
     alloc: Global,
     options: &PoolsOptions<'_>,
@@ -27,7 +28,7 @@ pub fn run_pools<F: Open + Save, W: Write, E: Messages>(
     let Some(names) = read_names(alloc, options.names.as_slice(), files, errors)? else {
         return Ok(Status::NotJudged);
     };
-    let Some(log) = Log::open(alloc, options.log, options.interface, files, errors)? else {
+    let Some(log) = Log::follow(alloc, options.log, options.interface, files, errors)? else {
         return Ok(Status::NotJudged);
     };
     let folder = options.folder.map(|folder| folder.trim_end_matches('/'));

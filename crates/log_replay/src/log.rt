@@ -85,7 +85,21 @@ impl<'a> Log<'a> {
         }))
     }
 
-    /// The standard input, which is read only in a replay, as it comes.
+    /// As `open`, but the standard input is not read before the pass over it, which takes its lines as they come and is the only one.
+    pub fn follow<F: Open, E: Write>(
+        alloc: Global,
+        path: &'a str,
+        interface: Option<&'a str>,
+        files: &mut F,
+        errors: &mut E,
+    ) -> io::Result<Option<Log<'a>>> {
+        if path == "-" {
+            return Ok(Some(Log::input(alloc, interface)));
+        }
+        Log::open(alloc, path, interface, files, errors)
+    }
+
+    /// The standard input, which is read only in a pass, as it comes.
     pub(crate) fn input(alloc: Global, interface: Option<&'a str>) -> Log<'a> {
         Log {
             alloc,
@@ -127,7 +141,10 @@ impl<'a> Log<'a> {
         let reader = &reading.reader;
         reader.tell_lines(self.path, files, errors);
         if !reader.has_frames() {
-            self.tell_no_frame(files, errors)?;
+            match self.origin {
+                Origin::Input => self.tell_without_frame(reader, files, errors),
+                Origin::File(_) | Origin::Held(_) => self.tell_no_frame(files, errors)?,
+            }
         }
         Ok(reader.has_frames())
     }
@@ -215,17 +232,28 @@ impl<'a> Log<'a> {
         if self.can_be_read_again() && !self.each_line(&mut all, files, &mut nothing, errors)? {
             return Ok(());
         }
-        let hint = all.reader.hint();
+        self.tell_without_frame(&all.reader, files, errors);
+        Ok(())
+    }
+
+    /// Writes to `errors` that the log has no frame, or none of its interface, and the likely cause by what was read of it.
+    fn tell_without_frame<F: Program, E: Write>(
+        &self,
+        read: &LogReader<'_>,
+        files: &F,
+        errors: &mut E,
+    ) {
+        let hint = read.hint();
         let Some(interface) = self.interface else {
             tell_no_frame(self.path, hint, files, errors);
-            return Ok(());
+            return;
         };
         let (name, path) = (files.name(), self.path);
         if let Some(what) = hint.and_then(LineHint::form) {
             let _ = writeln!(errors, "{name}: {path}: {what}");
-            return Ok(());
+            return;
         }
-        let _ = match all.reader.interfaces() {
+        let _ = match read.interfaces() {
             Some(there) => writeln!(
                 errors,
                 "{name}: {path}: no frame of {interface} could be read; the log has frames of {there}"
@@ -235,7 +263,6 @@ impl<'a> Log<'a> {
                 "{name}: {path}: no frame of {interface} could be read; expected --interface with an interface of the log"
             ),
         };
-        Ok(())
     }
 }
 
