@@ -7,6 +7,7 @@ mod frame_line;
 mod hex_pairs;
 mod line;
 mod places;
+mod usual;
 mod write;
 
 pub use line::{Action, Line, LineFault, Skipped, parse_line};

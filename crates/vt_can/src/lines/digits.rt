@@ -7,7 +7,7 @@ ghost use Rattle.hex.specs.Hex.{decode_of, is_hex_digit};
 ghost use Rattle.vt_can.specs.lines.Actions.{IsNumber};
 ghost use Rattle.vt_can.specs.lines.Line.{AreDigits, IsFraction, id_of, data_reading};
 
-use crate::lines::hex_pairs::decode;
+use crate::lines::hex_pairs::{decode, decode_eight, decode_sixteen};
 use crate::lines::line::LineFault;
 use arrayvec::ArrayVec;
 
@@ -78,10 +78,7 @@ pub fn raw_id(text: &[u8]) -> Option<u32>
         (list_all is_hex_digit text.now ≡ false)
         (λ raw. (list_all is_hex_digit text.now ≡ true) × (raw ≡ id_of (decode_of text.now))) }
 {
-    let mut bytes = [0; 4];
-    if !decode(text, &mut bytes) {
-        return None;
-    }
+    let bytes = decode_eight(text)?;
     Some(u32::from_be_bytes(bytes))
 }
 
@@ -91,6 +88,12 @@ pub fn data_bytes(text: &[u8]) -> Result<ArrayVec<u8, 8>, LineFault>
         (λ v. (decode_of text.now ≡ Ok v.items) × (length v.items ≤ 8))
         (λ e. (time id : ℕ) → data_reading time id (decode_of text.now) ≡ Err e) }
 {
+    if text.len() == 16 {
+        return match decode_sixteen(text) {
+            Some(bytes) => Ok(ArrayVec::from(bytes)),
+            None => Err(LineFault::Hex),
+        };
+    }
     if text.len() % 2 == 1 {
         return Err(LineFault::Hex);
     }

@@ -2,12 +2,13 @@
 
 ghost use Rattle.std.specs.Prelude.{◌↔◌, IsTrue};
 ghost use Rattle.vt_can.specs.lines.Readings.{reading_of};
-ghost use Rattle.vt_can.specs.lines.Line.{IsContent, IsComment, ReadsAs};
+ghost use Rattle.vt_can.specs.lines.Line.{IsContent, IsComment, IsRead, ReadsAs};
 
 use crate::frames::Frame;
 use crate::lines::action::action;
 use crate::lines::fields::{shape_of, time_of};
 use crate::lines::frame_line::read_frame_line;
+use crate::lines::usual::usual_frame;
 use thiserror::Error;
 
 /// A log line that has been read.
@@ -78,6 +79,16 @@ pub fn parse_line(line: &[u8]) -> Result<Line<'_>, LineFault>
     ensures { ReadsAs line.now (reading_of result) }
 {
     let content = content_of(line);
+    match usual_frame(content) {
+        Some((time, frame)) => Ok(Line::Frame { time, frame }),
+        None => read_content(content),
+    }
+}
+
+// Reads the content of a line in any form.
+fn read_content(content: &[u8]) -> Result<Line<'_>, LineFault>
+    ensures { IsRead content.now (reading_of result) }
+{
     if is_comment(content) {
         return Ok(Line::Comment);
     }

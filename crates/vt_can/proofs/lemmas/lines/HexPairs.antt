@@ -14,7 +14,7 @@ use Rattle.vt_can.specs.declared.lines.hex_pairs.TheConstants.{HEX_VALUES}
 
 -- ---- the table
 
-abbrev value_or_255 : ℕ → ℕ
+abbrev pub value_or_255 : ℕ → ℕ
 value_or_255 c = unwrap_or (hex_digit_value c) 255
 
 table_is : HEX_VALUES ≡ map value_or_255 (range_with_len 0 256)
@@ -24,7 +24,7 @@ table_is = refl
 abbrev pub IsValue : ℕ → ℕ → Type 0
 IsValue c v = MatchOption (hex_digit_value c) (v ≡ 255) (λ x. v ≡ x)
 
-match_unwrap : (o : Option ℕ) → MatchOption o (unwrap_or o 255 ≡ 255) (λ x. unwrap_or o 255 ≡ x)
+pub match_unwrap : (o : Option ℕ) → MatchOption o (unwrap_or o 255 ≡ 255) (λ x. unwrap_or o 255 ≡ x)
 match_unwrap (Some x) = refl
 match_unwrap None = refl
 
@@ -42,7 +42,7 @@ some_from None v is small = absurd (omega arith)
 digit-read : (c v : ℕ) → IsValue c v → v < 16 → hex_digit_value c ≡ Some v
 digit-read c v is small = some_from (hex_digit_value c) v is small
 
-value-small : (c x : ℕ) → hex_digit_value c ≡ Some x → x < 16
+pub value-small : (c x : ℕ) → hex_digit_value c ≡ Some x → x < 16
 value-small c x h = grind (arith)
 
 small_from : (c : ℕ) (o : Option ℕ) (v : ℕ) → hex_digit_value c ≡ o → MatchOption o (v ≡ 255) (λ x. v ≡ x) → is_some o ≡ true → v < 16
@@ -52,7 +52,7 @@ small_from c None v at is some = cc some
 digit-small : (c v : ℕ) → IsValue c v → is_hex_digit c ≡ true → v < 16
 digit-small c v is digit = small_from c (hex_digit_value c) v refl is digit
 
-pair-read : (a b i v w : ℕ) → IsValue a v → IsValue b w → v < 16 → w < 16 → pair_value a b i ≡ Ok (v * 16 + w)
+pub pair-read : (a b i v w : ℕ) → IsValue a v → IsValue b w → v < 16 → w < 16 → pair_value a b i ≡ Ok (v * 16 + w)
 pair-read a b i v w va wb small small' =
     let first = digit-read a v va small in
     let second = digit-read b w wb small' in

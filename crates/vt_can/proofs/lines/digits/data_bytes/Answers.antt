@@ -14,3 +14,6 @@ returns-then-len-gt8 c =
 
 pub returns-then-not-decode : goal.returns-then-not-decode
 returns-then-not-decode c = data-bad c.args.text.now (sym c.decode.ensures.digits ∙ c.if-not-decode.true)
+
+pub returns-in-None : goal.returns-in-None
+returns-in-None c = data-bad c.args.text.now c.in-None.ensures
