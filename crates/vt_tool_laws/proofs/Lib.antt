@@ -14,6 +14,7 @@ pub mod LastRecords
 pub mod ListedMarks
 pub mod NoneOver
 pub mod Nothing
+pub mod OneMessage
 mod OneReplay
 pub mod Parts
 pub mod PlacedMarks

@@ -60,3 +60,8 @@ TransportMessagesAreHeard = MessagesAreHeard transport.protocol false
 
 abbrev pub ExtendedMessagesAreHeard : Type 0
 ExtendedMessagesAreHeard = MessagesAreHeard extended.protocol true
+
+-- A frame makes at most one message whole, in one channel.
+abbrev pub MessagesAreOne : Type 0
+MessagesAreOne = (frames : List Frame) (frame : Frame) (channel other : ℕ) (message another : Message)
+    → CompletesAt frames frame channel message → CompletesAt frames frame other another → (channel ≡ other) × (message ≡ another)

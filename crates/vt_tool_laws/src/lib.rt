@@ -7,7 +7,7 @@
 #![tactic(auto)]
 
 ghost use Rattle.vt_tool_laws.specs.InspectLaws.{FindingsAreTrue, FindsNothing, FirstIsTheFault, FirstIsTheRefusal, LastRecordsCount, NoCulpritIsLeftOut};
-ghost use Rattle.vt_tool_laws.specs.ListenLaws.{TransportMessagesAreHeard, ExtendedMessagesAreHeard};
+ghost use Rattle.vt_tool_laws.specs.ListenLaws.{TransportMessagesAreHeard, ExtendedMessagesAreHeard, MessagesAreOne};
 ghost use Rattle.vt_tool_laws.specs.PictureLaws.{CutMarksAreFirst, ElementsAreInPlace, ElementsAreTheDrawing, ListsShowThePicture, MarksAreDrawn, PicturesAreWrittenOnce, PicturesShowTheDrawing, ShapesReferToTheirPicture};
 ghost use Rattle.vt_tool_laws.specs.Certain.{ReplaysAreOne};
 ghost use Rattle.vt_tool_laws.specs.Promises.{ReplaysNeverStick};
@@ -53,6 +53,11 @@ pub fn transport_messages_are_heard()
 /// with the same bytes, unless the receiver's node has aborted the message itself.
 pub fn extended_messages_are_heard()
     ensures { ExtendedMessagesAreHeard }
+{}
+
+/// A frame makes at most one message whole, in one channel. So what a listener delivers is a function of the frames that it received.
+pub fn messages_are_one()
+    ensures { MessagesAreOne }
 {}
 
 /// The marks of entries are the elements of their drawing, in its order and at its places.
