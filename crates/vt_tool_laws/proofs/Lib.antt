@@ -14,11 +14,13 @@ pub mod LastRecords
 pub mod ListedMarks
 pub mod NoneOver
 pub mod Nothing
+pub mod Offsets
 pub mod OneMessage
 mod OneReplay
 pub mod Parts
 pub mod PlacedMarks
 pub mod Places
+pub mod Positions
 pub mod SameReferences
 pub mod Transport
 pub mod Truths

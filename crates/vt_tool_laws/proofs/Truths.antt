@@ -35,11 +35,11 @@ use Rattle.vt_tool_laws.proofs.Nothing.{ids_are}
 
 -- ---- elements of lists that are made of others
 
-in_either : {X : Type 0} (P : Type 0) (xs ys : List X) (y : X) → Contains (xs ++ ys) y → (Contains xs y → P) → (Contains ys y → P) → P
+pub in_either : {X : Type 0} (P : Type 0) (xs ys : List X) (y : X) → Contains (xs ++ ys) y → (Contains xs y → P) → (Contains ys y → P) → P
 in_either P xs ys y inside first second = elim (Contains-append_cases xs ys y inside) as (λ _. P) [ inl h ↦ first h | inr h ↦ second h ]
 
 module _ {X Y : Type 0} (f : X → Y) where
-  in_map : (xs : List X) (y : Y) → Contains (map f xs) y → (x : X) × Contains xs x × (f x ≡ y)
+  pub in_map : (xs : List X) (y : Y) → Contains (map f xs) y → (x : X) × Contains xs x × (f x ≡ y)
   in_map [] y inside = absurd (Contains-nil y inside)
   in_map (x ∷ xs) y inside =
       cons_case ((z : X) × Contains (x ∷ xs) z × (f z ≡ y)) (f x) y (map f xs) inside
@@ -54,7 +54,7 @@ module _ {X Y : Type 0} (f : X → Y) where
       (λ rest. Contains-tail (f z) (f x) (map f xs) (map_in xs x rest))
 
 module _ {X Y : Type 0} (f : X → List Y) where
-  in_flat_map : (xs : List X) (y : Y) → Contains (flat_map f xs) y → (x : X) × Contains xs x × Contains (f x) y
+  pub in_flat_map : (xs : List X) (y : Y) → Contains (flat_map f xs) y → (x : X) × Contains xs x × Contains (f x) y
   in_flat_map [] y inside = absurd (Contains-nil y inside)
   in_flat_map (x ∷ xs) y inside =
       in_either ((z : X) × Contains (x ∷ xs) z × Contains (f z) y) (f x) (flat_map f xs) y inside

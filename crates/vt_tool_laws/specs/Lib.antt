@@ -3,4 +3,5 @@ pub mod Certain
 pub mod InspectLaws
 pub mod ListenLaws
 pub mod PictureLaws
+pub mod PlaceLaws
 pub mod Promises

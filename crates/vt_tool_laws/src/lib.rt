@@ -9,6 +9,7 @@
 ghost use Rattle.vt_tool_laws.specs.InspectLaws.{FindingsAreTrue, FindsNothing, FirstIsTheFault, FirstIsTheRefusal, LastRecordsCount, NoCulpritIsLeftOut};
 ghost use Rattle.vt_tool_laws.specs.ListenLaws.{TransportMessagesAreHeard, ExtendedMessagesAreHeard, MessagesAreOne};
 ghost use Rattle.vt_tool_laws.specs.PictureLaws.{CutMarksAreFirst, ElementsAreInPlace, ElementsAreTheDrawing, ListsShowThePicture, MarksAreDrawn, PicturesAreWrittenOnce, PicturesShowTheDrawing, ShapesReferToTheirPicture};
+ghost use Rattle.vt_tool_laws.specs.PlaceLaws.{FindingsAreInPlace, RecordsAreInPlace};
 ghost use Rattle.vt_tool_laws.specs.Certain.{ReplaysAreOne};
 ghost use Rattle.vt_tool_laws.specs.Promises.{ReplaysNeverStick};
 
@@ -41,6 +42,18 @@ pub fn findings_are_true()
 /// every circle shares a macro with one of them.
 pub fn no_culprit_is_left_out()
     ensures { NoCulpritIsLeftOut }
+{}
+
+/// Every finding that names a position in an object has there what it speaks of: a slot in its place, the value of a pointer, a macro
+/// entry at its index, or the bytes of a command at their offset.
+pub fn findings_are_in_place()
+    ensures { FindingsAreInPlace }
+{}
+
+/// The records of an inspection are in the pool's bytes where they are said to be, and so are the bytes of a macro: in the bytes with
+/// proper values in the fields that findings call wrong.
+pub fn records_are_in_place()
+    ensures { RecordsAreInPlace }
 {}
 
 /// If a receiver of the transport protocol delivers a message, a listener that received the same frames delivers it too, with the
