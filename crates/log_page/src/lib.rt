@@ -5,14 +5,11 @@
 //! The page has a head with its style, its body, blocks of data, and a script. A block of data has the lines of JSON of a subcommand. The
 //! style and the script are constants, and the lines are those of log_runs, log_compare, log_stats and log_pools.
 //!
-//! `laws` has the theorem that no text of a log begins a tag in the data.
+//! The blocks are written by page_blocks, which has the theorem that no text of a log begins a tag in them.
 //!
 //! Come here to ask what the page holds, and how it looks.
 #![tactic(auto)]
 
-mod block;
-mod escape;
-pub mod laws;
 mod page;
 mod report;
 

@@ -1,6 +1,5 @@
 //! The subcommand `report`.
 
-use crate::block::{Block, Room};
 use crate::page::{SCRIPTS, body, head, style};
 use log_compare::compare_replay;
 use log_options::{DifferenceOptions, Format, LineFilter, ReportOptions, TopicFilter};
@@ -8,6 +7,7 @@ use log_pools::put_uploads;
 use log_replay::{Messages, Replay};
 use log_runs::{put_screens, trace_replay};
 use log_stats::put_numbers;
+use page_blocks::{Block, Room, begin_block, end_block};
 use std::alloc::Global;
 use std::io::{self, Write};
 use vt_cli::{JsonLine, Open, Save, Status, VERSION};
@@ -103,7 +103,7 @@ impl Page<'_> {
             self.replay,
             Format::Json,
             files,
-            &mut Block::new(self.alloc, out, &mut Room::of(u64::MAX)),
+            &mut Block::new(self.alloc, out, &mut Room::for_all()),
             errors,
         )?;
         end_block(out)
@@ -122,7 +122,7 @@ impl Page<'_> {
             &self.replay.log,
             &self.replay.names,
             files,
-            &mut Block::new(self.alloc, out, &mut Room::of(u64::MAX)),
+            &mut Block::new(self.alloc, out, &mut Room::for_all()),
             errors,
         )?;
         end_block(out)?;
@@ -171,7 +171,7 @@ impl Page<'_> {
             self.options.range,
             MOST_PICTURES,
             files,
-            &mut Block::new(self.alloc, out, &mut Room::of(u64::MAX)),
+            &mut Block::new(self.alloc, out, &mut Room::for_all()),
             errors,
         )?;
         end_block(out)?;
@@ -201,7 +201,7 @@ impl Page<'_> {
             self.replay,
             &options,
             files,
-            &mut Block::new(self.alloc, out, &mut Room::of(u64::MAX)),
+            &mut Block::new(self.alloc, out, &mut Room::for_all()),
             errors,
         )?;
         end_block(out)
@@ -222,7 +222,7 @@ impl Page<'_> {
         line.put_address("own", self.replay.own())?;
         line.put_number("screens_left_out", screens_left_out)?;
         line.put_text("version", VERSION)?;
-        line.write(&mut Block::new(self.alloc, out, &mut Room::of(u64::MAX)))?;
+        line.write(&mut Block::new(self.alloc, out, &mut Room::for_all()))?;
         end_block(out)
     }
 
@@ -242,14 +242,4 @@ impl Page<'_> {
             );
         }
     }
-}
-
-/// Begins a block of data with this name.
-fn begin_block<W: Write>(name: &str, out: &mut W) -> io::Result<()> {
-    writeln!(out, "<script type='application/json' id='{name}'>")
-}
-
-/// Ends a block of data.
-fn end_block<W: Write>(out: &mut W) -> io::Result<()> {
-    out.write_all(b"</script>\n")
 }

@@ -2,8 +2,8 @@
 use Rattle.std.proofs.Common.{◌≡◌, ℕ, Bool, true, false, cond, ◌||◌, List, [], ◌∷◌, ◌++◌, refl}
 use Rattle.std.specs.Prelude.{codes}
 use Rattle.std.specs.List.{flat_map, list_any}
-use Rattle.log_page.specs.Escapes.{begins_tag, escaped}
-use Rattle.log_page.specs.Laws.{DataHasNoMarkup}
+use Rattle.page_blocks.specs.Escapes.{begins_tag, escaped}
+use Rattle.page_blocks.specs.Laws.{DataHasNoMarkup}
 
 neither : (a b : Bool) → a ≡ false → b ≡ false → (a || b) ≡ false
 neither false false first second = refl

@@ -1,7 +1,7 @@
 -- Data are no markup.
 use Rattle.std.specs.Prelude.{◌≡◌, ℕ, false, List}
 use Rattle.std.specs.List.{flat_map, list_any}
-use Rattle.log_page.specs.Escapes.{begins_tag, escaped}
+use Rattle.page_blocks.specs.Escapes.{begins_tag, escaped}
 
 -- No text begins a tag once it is escaped.
 abbrev pub DataHasNoMarkup : Type 0

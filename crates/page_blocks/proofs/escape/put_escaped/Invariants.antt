@@ -1,7 +1,7 @@
 use Rattle.std.proofs.Common.{◌≡◌, ◌++◌, drop}
 use Rattle.std.specs.List.{flat_map}
-use Rattle.log_page.specs.Escapes.{escaped}
-use Rattle.log_page.proofs.escape.put_escaped.Given as goal
+use Rattle.page_blocks.specs.Escapes.{escaped}
+use Rattle.page_blocks.proofs.escape.put_escaped.Given as goal
 
 abbrev pub invariant-loop-byte : goal.invariant-loop-byte
 invariant-loop-byte l = l.out.items ++ flat_map escaped (drop l.byte-index l.text) ≡ l.fn.out.items ++ flat_map escaped l.text

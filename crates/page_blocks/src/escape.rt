@@ -2,7 +2,7 @@
 
 ghost use Rattle.std.specs.Prelude.{◌≡◌, ◌++◌, OnOk};
 ghost use Rattle.std.specs.List.{flat_map};
-ghost use Rattle.log_page.specs.Escapes.{begins_tag, escaped};
+ghost use Rattle.page_blocks.specs.Escapes.{begins_tag, escaped};
 
 use std::alloc::AllocError;
 

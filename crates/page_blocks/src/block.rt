@@ -6,24 +6,29 @@ use std::io::{self, Write};
 
 /// How many lines a block may have.
 #[derive(Clone, Copy, PartialEq, Eq)]
-pub(crate) struct Room {
+pub struct Room {
     /// How many lines may still be written.
-    pub(crate) lines: u64,
+    pub lines: u64,
     /// How many lines are left out.
-    pub(crate) left_out: u64,
+    pub left_out: u64,
 }
 
 impl Room {
+    /// Room for all lines.
+    pub fn for_all() -> Room {
+        Room::of(u64::MAX)
+    }
+
     /// Room for so many lines.
-    pub(crate) fn of(lines: u64) -> Room {
+    pub fn of(lines: u64) -> Room {
         Room { lines, left_out: 0 }
     }
 }
 
-/// Writes the data of a block: lines of JSON, escaped so that no text of a log ends the block. Lines for which there is no room are
+/// Writes the data of a block: lines of JSON, escaped so that no text from outside ends the block. Lines for which there is no room are
 /// counted.
 #[derive(Drop)]
-pub(crate) struct Block<'a, W> {
+pub struct Block<'a, W> {
     out: &'a mut W,
     room: &'a mut Room,
     /// The buffer for the escaped text.
@@ -32,7 +37,7 @@ pub(crate) struct Block<'a, W> {
 
 impl<'a, W: Write> Block<'a, W> {
     /// A block before its first line. Does not allocate.
-    pub(crate) fn new(alloc: Global, out: &'a mut W, room: &'a mut Room) -> Block<'a, W> {
+    pub fn new(alloc: Global, out: &'a mut W, room: &'a mut Room) -> Block<'a, W> {
         Block {
             out,
             room,
@@ -75,4 +80,14 @@ impl<W: Write> Write for Block<'_, W> {
     fn flush(&mut self) -> io::Result<()> {
         self.out.flush()
     }
+}
+
+/// Begins a block of data with this name.
+pub fn begin_block<W: Write>(name: &'static str, out: &mut W) -> io::Result<()> {
+    writeln!(out, "<script type='application/json' id='{name}'>")
+}
+
+/// Ends a block of data.
+pub fn end_block<W: Write>(out: &mut W) -> io::Result<()> {
+    out.write_all(b"</script>\n")
 }

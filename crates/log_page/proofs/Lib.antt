@@ -1,2 +1,0 @@
--- The lemmas of log_page.
-pub mod NoMarkup

@@ -1,3 +1,0 @@
--- The definitions used in the contracts of log_page.
-pub mod Escapes
-pub mod Laws

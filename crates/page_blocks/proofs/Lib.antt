@@ -1,0 +1,2 @@
+-- The lemmas of page_blocks.
+pub mod NoMarkup

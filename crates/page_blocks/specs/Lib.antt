@@ -1,0 +1,3 @@
+-- The definitions used in the contracts of page_blocks.
+pub mod Escapes
+pub mod Laws
