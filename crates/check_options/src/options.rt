@@ -27,6 +27,8 @@ pub enum Options<'a> {
     Diff(DiffOptions<'a>),
     /// `draw`.
     Draw(DrawOptions<'a>),
+    /// `report`.
+    Report(ReportOptions<'a>),
 }
 
 /// The options of `needs`.
@@ -40,6 +42,17 @@ pub struct NeedsOptions<'a> {
     pub sizes: Sizes,
     /// The form of the output.
     pub format: LineFormat,
+}
+
+/// The options of `report`.
+#[derive(Drop)]
+pub struct ReportOptions<'a> {
+    /// The file of the pool.
+    pub pool: &'a str,
+    /// The files of names.
+    pub names: Vec<&'a str>,
+    /// The sizes of the terminal.
+    pub sizes: Sizes,
 }
 
 /// The options of `diff`.
@@ -57,7 +70,7 @@ pub struct DiffOptions<'a> {
 
 /// The subcommands, and where to read about them.
 const SUBCOMMANDS: &str =
-    "check, rule, why, needs, diff or draw; segyolant --help says what each does";
+    "check, rule, why, needs, diff, draw or report; segyolant --help says what each does";
 
 /// The arguments that are paths of files to read.
 const FILES: &[&str] = &[
@@ -94,6 +107,7 @@ impl<'a> Options<'a> {
             "needs" => Options::Needs(needs_options(alloc, matches)?),
             "diff" => Options::Diff(diff_options(alloc, matches)?),
             "draw" => Options::Draw(draw_options(alloc, matches)?),
+            "report" => Options::Report(report_options(alloc, matches)?),
             "check" => Options::Check(check_options(alloc, matches)?),
             // clap takes no other name; its contract does not say so.
             _ => return Err(UsageError::NoSubcommand(SUBCOMMANDS)),
@@ -121,6 +135,19 @@ fn needs_options<'a>(
         names: all_of(alloc, matches, "names")?,
         sizes: sizes_of(matches)?,
         format: line_format_of(matches),
+    })
+}
+
+fn report_options<'a>(
+    alloc: Global,
+    matches: &ArgMatches<'a>,
+) -> Result<ReportOptions<'a>, UsageError<WrongOption<'a>>> {
+    let key = area_of(matches, "key-size", TERMINAL_SIZES.key).map_err(WrongOption::KeySize)?;
+    let Sizes { mask, keys, .. } = sizes_of(matches)?;
+    Ok(ReportOptions {
+        pool: matches.get_str("POOL").unwrap_or(""),
+        names: all_of(alloc, matches, "names")?,
+        sizes: Sizes { mask, key, keys },
     })
 }
 

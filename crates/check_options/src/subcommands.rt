@@ -22,6 +22,7 @@ Status: 0 nothing found, 1 something found, 2 not judged or not drawn (command l
   segyolant draw my.iop > my.svg                        the active mask with its soft keys, as SVG
   segyolant draw my.iop --out masks --names my.h        all masks, and a page of them with every fault
   segyolant draw my.iop --state my.log > my.svg         the mask that is shown at the end of a log
+  segyolant report my.iop --names my.h > my.html        a page for a browser, with all of this
 
 docs/POOLS.md has the codes.";
 
@@ -69,12 +70,23 @@ the lines of check. A log is replayed by the terminal of vt_replay. Status: 0 dr
   segyolant draw --state my.log > my.svg                the same with the pools that the log uploads alone
   segyolant draw my.iop --size 240x240 --key-size 60x60 > small.svg";
 
+/// The text of help after the options of `report`.
+const AFTER_REPORT: &str = "\
+One page of HTML on the standard output, which needs no network: the masks and keys as pictures, the lines of check beside them, all objects
+with their parents and children, what events cost, and what the pool needs of a terminal. A pool with errors has a page of what could be read.
+
+  segyolant report my.iop > my.html
+  segyolant report my.iop --names my.h --size 240x240 --key-size 60x60 --keys 6 > small.html
+
+The page has at most 200 masks, 2,000 keys, 50,000 objects and 20,000 findings. Files of settings are not read.
+Status: 0 no errors, 1 the pool has errors, 2 there is no page, or it is not whole.";
+
 /// The command line.
 pub(crate) const SEGYOLANT: CommandLine<'static> = CommandLine {
     name: "segyolant",
     about: "Checks object pools for makers of ISOBUS implements: every fault at once, with its place and its cause",
     after_help: AFTER_HELP,
-    subcommands: &[CHECK, RULE, WHY, NEEDS, DIFF, DRAW],
+    subcommands: &[CHECK, RULE, WHY, NEEDS, DIFF, DRAW, REPORT],
 };
 
 const CHECK: Subcommand<'static> = Subcommand {
@@ -120,4 +132,11 @@ const DRAW: Subcommand<'static> = Subcommand {
     about: "Draws masks of an object pool with their soft keys, as SVG",
     after_help: Some(AFTER_DRAW),
     arguments: &[DRAWN_POOL, NAMES, STATE, OWNER, MASK, SIZE, KEY_SIZE, OUT],
+};
+
+const REPORT: Subcommand<'static> = Subcommand {
+    name: "report",
+    about: "Writes a page for a browser, with the masks of an object pool, its findings, objects, costs and needs",
+    after_help: Some(AFTER_REPORT),
+    arguments: &[POOL, NAMES, SIZE, KEY_SIZE, KEYS],
 };

@@ -10,9 +10,9 @@ use crate::needs::json::write_report_json;
 use crate::needs::lines::write_report;
 use crate::needs::load::Load;
 use crate::needs::report::Report;
-use check_needs::lacks;
+use check_needs::{Sizes, lacks};
 use check_options::{LineFormat, NeedsOptions};
-use check_text::is_read;
+use check_text::{CheckedPool, is_read};
 use std::alloc::Global;
 use std::io::{self, Write};
 use vt_cli::{InspectedFile, Open, Status, read_names};
@@ -57,4 +57,15 @@ pub fn run_needs<F: Open, W: Write, E: Write>(
         options.pool
     );
     Ok(Status::NotJudged)
+}
+
+/// Writes what a pool needs as a line of JSON.
+pub fn put_needs<W: Write>(
+    alloc: Global,
+    source: CheckedPool<'_>,
+    sizes: Sizes,
+    out: &mut W,
+) -> io::Result<()> {
+    let report = Report::new(alloc, source)?;
+    write_report_json(alloc, &report, sizes, out)
 }

@@ -7,7 +7,7 @@ mod object;
 use crate::costs::lines::write_breakdown;
 use crate::costs::parts::is_over;
 use crate::why::json::write_breakdown_json;
-use crate::why::list::write_list;
+use crate::why::list::{put_list, write_list};
 use crate::why::object::object_of;
 use check_costs::{break_down, event_costs};
 use check_inspect::Finding;
@@ -59,6 +59,20 @@ pub fn run_why<F: Open, W: Write, E: Write>(
         Answer::Told(steps) if is_over(steps) => Ok(Status::Found),
         Answer::Told(_) => Ok(Status::Clean),
     }
+}
+
+/// Writes the events that cost a step as lines of JSON, the dearest first. Returns whether costs are known: no line is written if macros end
+/// inside a command, or trigger each other in a circle.
+pub fn put_costs<W: Write>(
+    alloc: Global,
+    source: &CheckedPool<'_>,
+    out: &mut W,
+) -> io::Result<bool> {
+    let Some(costs) = event_costs(alloc, &source.inspection.objects)? else {
+        return Ok(false);
+    };
+    put_list(alloc, source, costs.as_slice(), out)?;
+    Ok(true)
 }
 
 /// Writes the answer to the question of the options. `None` if the object is not there: then `errors` receives the reason.

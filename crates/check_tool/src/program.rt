@@ -1,10 +1,10 @@
 //! A run of the program, from its command line to its status.
 
 use crate::check::run_check;
-use crate::rule::run_rule;
 use check_diff::run_diff;
 use check_options::Options;
-use check_reports::{run_needs, run_why};
+use check_page::run_report;
+use check_reports::{run_needs, run_rule, run_why};
 use check_text::MessageStyle;
 use draw_gallery::{Outcome, run_draw};
 use std::alloc::Global;
@@ -33,6 +33,7 @@ pub fn run<S: AsStr, F: Open + Save, W: Write, E: Write>(
         Options::Why(options) => run_why(alloc, options, style, files, out, errors)?,
         Options::Needs(options) => run_needs(alloc, options, files, out, errors)?,
         Options::Diff(options) => run_diff(alloc, options, files, out, errors)?,
+        Options::Report(options) => run_report(alloc, options, files, out, errors)?,
         Options::Draw(options) => status_of(run_draw(alloc, options, files, out, errors)?),
     };
     out.flush()?;

@@ -5,6 +5,7 @@
 //!   docs/POOLS.md, "Pictures of masks", has the options and the messages.
 //! - `pool_left` replays a log to a new terminal, and returns the objects of the working set that is shown at its end as the bytes of
 //!   a pool, or a `StateFault`. A `GivenSet` is a working set that the terminal has before the first line.
+//! - `masks_of` lists the Data Masks and Alarm Masks of a pool.
 //!
 //! How a mask looks is in draw_picture. Come here to ask which masks `segyolant draw` draws, and into which files.
 #![tactic(auto)]
@@ -20,5 +21,6 @@ mod refusal;
 mod state;
 
 pub use fault::StateFault;
+pub use masks::masks_of;
 pub use program::{Outcome, run_draw};
 pub use state::{GivenSet, pool_left};

@@ -10,7 +10,7 @@ use std::alloc::{AllocError, Global};
 use vt_objects::{Kind, Kinds, Object, ObjectId, SortedStore};
 
 /// The data masks and alarm masks of a pool, by rising ID.
-pub(crate) fn masks_of(alloc: Global, objects: &SortedStore) -> Result<Vec<ObjectId>, AllocError>
+pub fn masks_of(alloc: Global, objects: &SortedStore) -> Result<Vec<ObjectId>, AllocError>
     ensures { IfOk result (λ masks. masks.items ≡ spec.masks_of objects.now) }
 {
     let mut masks = Vec::new(alloc);

@@ -33,6 +33,19 @@ pub(crate) fn write_list<W: Write>(
     Ok(listed.first().map_or(0, |dearest| dearest.steps))
 }
 
+/// Writes the events that cost a step as lines of JSON, the dearest first.
+pub(crate) fn put_list<W: Write>(
+    alloc: Global,
+    source: &CheckedPool<'_>,
+    costs: &[EventCost],
+    out: &mut W,
+) -> io::Result<()> {
+    for cost in listed_costs(alloc, costs, None)?.iter() {
+        event_json(alloc, source, cost)?.write(out)?;
+    }
+    Ok(())
+}
+
 /// The costs of the events that cost a step, the dearest first.
 fn listed_costs(
     alloc: Global,

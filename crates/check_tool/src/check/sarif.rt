@@ -1,6 +1,6 @@
 //! The report of a check in SARIF 2.1.0, for hosts of code.
 
-use crate::rule::texts::{RuleText, rule_texts};
+use check_reports::{RuleText, rule_texts};
 use check_text::{ItemLine, Severity};
 use serde_json::Value;
 use std::alloc::{AllocError, Global};

@@ -1,14 +1,14 @@
 //! The subcommand `rule`.
 
-pub(crate) mod texts;
+mod texts;
 
-use crate::rule::texts::{RuleText, rule_texts};
 use std::alloc::Global;
 use std::io::{self, Write};
+pub use texts::{RuleText, rule_texts};
 use vt_cli::Status;
 
 /// Explains the code or the name in a word, or lists all codes. If no code or name is like it, `errors` receives a sentence.
-pub(crate) fn run_rule<W: Write, E: Write>(
+pub fn run_rule<W: Write, E: Write>(
     alloc: Global,
     word: Option<&str>,
     out: &mut W,

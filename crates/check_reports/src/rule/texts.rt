@@ -4,17 +4,17 @@ use std::alloc::{AllocError, Global};
 
 /// What a code means.
 #[derive(Clone, Copy)]
-pub(crate) struct RuleText<'a> {
+pub struct RuleText<'a> {
     /// The code, such as `R04`.
-    pub(crate) code: &'a str,
+    pub code: &'a str,
     /// The name, such as `WrongKind`.
-    pub(crate) name: &'a str,
+    pub name: &'a str,
     /// What is found.
-    pub(crate) cause: &'a str,
+    pub cause: &'a str,
     /// What to do.
-    pub(crate) cure: &'a str,
+    pub cure: &'a str,
     /// A sentence of `check`.
-    pub(crate) example: &'a str,
+    pub example: &'a str,
 }
 
 impl<'a> RuleText<'a> {
@@ -39,7 +39,7 @@ impl<'a> RuleText<'a> {
     }
 
     /// The word for the severity: warnings have the letter W, but for the clash of kinds, and notes the letter N.
-    pub(crate) fn severity(&self) -> &'static str {
+    pub fn severity(&self) -> &'static str {
         if self.code.starts_with('N') {
             "note"
         } else if self.code.starts_with('W') && self.code != CLASH {
@@ -51,7 +51,7 @@ impl<'a> RuleText<'a> {
 }
 
 /// What each code means, in the order of docs/POOLS.md.
-pub(crate) fn rule_texts(alloc: Global) -> Result<Vec<RuleText<'static>>, AllocError> {
+pub fn rule_texts(alloc: Global) -> Result<Vec<RuleText<'static>>, AllocError> {
     let mut rules = Vec::new(alloc);
     for line in TEXTS.split('\n') {
         if let Some(rule) = RuleText::of_line(line) {
