@@ -133,6 +133,8 @@ desk:
 test-desk:
 	@python3 scripts/python_tests.py desk $(if $(GATE),--gate)
 
-# Tests the page of segyolant_log report in a headless Chromium, by the quick build. What is missing of Debian's packages is named.
+# Tests the pages of segyolant_log report and segyolant report in a headless Chromium, by the quick builds. What is missing of Debian's
+# packages is named.
 test-page:
 	@python3 scripts/log_page.py $(if $(GATE),crates/segyolant_log/out/segyolant_log,out/quick/segyolant_log)
+	@python3 scripts/pool_page.py $(if $(GATE),crates/segyolant/out/segyolant,out/quick/segyolant)

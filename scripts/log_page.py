@@ -2,14 +2,12 @@
 """Tests of the page of `segyolant_log report` in headless Chromium: log_page.py PROGRAM [--pages FOLDER] [--shots FOLDER] [--only TEST ..]
 
 PROGRAM makes the pages from logs of examples/ and from logs that are made here. With --pages they are taken from a folder, as NAME.html
-with the names of LOGS, and with --logs only the logs are written, by PROGRAM too. --shots keeps pictures of the pages, and --only runs
+with the names of LOGS, and PROGRAM --logs FOLDER only writes the logs. --shots keeps pictures of the pages, and --only runs
 some of the tests, as Field.test_play. Where Chromium or selenium is not there, the tests are passed over, and what is missing is named.
 The last line is 'N passed, N failed'.
 """
-import argparse
 import os
 import re
-import shutil
 import struct
 import subprocess
 import sys
@@ -22,16 +20,13 @@ sys.dont_write_bytecode = True
 TOP = os.path.dirname(os.path.dirname(os.path.abspath(__file__)))
 sys.path[:0] = [f'{TOP}/scripts', f'{TOP}/bindings/python']
 
-import desk  # noqa: E402
 from desk_tests import pools  # noqa: E402
+from testing import browser  # noqa: E402
+from testing.browser import EXAMPLES, WORDS, WithPage  # noqa: E402
 
-MODULES = {'selenium': 'python3-selenium'}
-PROGRAMS = {'chromium': 'chromium', 'chromedriver': 'chromium-driver'}
 PAGE = f'{TOP}/crates/log_page/page'
-EXAMPLES = f'{TOP}/examples'
 LONG = 50_000
 IMG = '</script><img src=x onerror=window.hacked=20>'
-WORDS = argparse.Namespace(program=None, pages=None, shots=None)
 
 
 # ---- logs
@@ -139,78 +134,10 @@ def write_logs(program, folder):
                 out.write(ran.stdout)
 
 
-# ---- pages
+# ---- the page
 
-class Browser:
-    """A headless Chromium that tells what a page said on its console and which addresses it asked for."""
-
-    def __init__(self):
-        from selenium import webdriver
-        from selenium.webdriver.chrome.service import Service
-        options = webdriver.ChromeOptions()
-        for word in ('--headless=new', '--no-sandbox', '--disable-dev-shm-usage', '--disable-gpu'):
-            options.add_argument(word)
-        options.set_capability('goog:loggingPrefs', {'browser': 'ALL', 'performance': 'ALL'})
-        self.driver = webdriver.Chrome(service=Service(shutil.which('chromedriver')), options=options)
-
-    def size(self, width, height, media=''):
-        self.driver.execute_cdp_cmd('Emulation.setDeviceMetricsOverride',
-                                    {'width': width, 'height': height, 'deviceScaleFactor': 1, 'mobile': False})
-        self.driver.execute_cdp_cmd('Emulation.setEmulatedMedia', {'media': media})
-
-    def script(self, text, *arguments):
-        return self.driver.execute_script(text, *arguments)
-
-    def asked(self):
-        return re.findall(r'"method":"Network.requestWillBeSent".*?"url":"([^"]*)"', ' '.join(
-            entry['message'] for entry in self.driver.get_log('performance')))
-
-    def said(self):
-        return [entry['message'] for entry in self.driver.get_log('browser')]
-
-
-class WithPage(unittest.TestCase):
-    """Opens a page for each test. Nothing may be on its console, and nothing may have been asked for but the page and pictures in it."""
-
-    @classmethod
-    def setUpClass(cls):
-        cls.browser = Browser()
-        cls.addClassCleanup(cls.browser.driver.quit)
-
-    def setUp(self):
-        self.shots = 0
-        self.browser.size(1280, 800)
-
-    def tearDown(self):
-        self.assertEqual(self.browser.said(), [])
-        self.assertEqual([url for url in self.browser.asked() if not url.startswith(('file:', 'data:'))], [])
-        self.browser.driver.get('about:blank')
-
-    def open(self, name):
-        self.browser.driver.get(f'file://{WORDS.pages}/{name}.html')
-        self.until(lambda: self.browser.script('return document.getElementById("loading") === null'), 'the page')
-
-    def script(self, text, *arguments):
-        return self.browser.script(text, *arguments)
-
-    def until(self, holds, what, seconds=20):
-        end = time.monotonic() + seconds
-        while not holds():
-            self.assertLess(time.monotonic(), end, f'{what}: not within {seconds} s')
-            time.sleep(0.03)
-
-    def press(self, *keys):
-        from selenium.webdriver.common.action_chains import ActionChains
-        ActionChains(self.browser.driver).send_keys(*keys).perform()
-
-    def click(self, selector):
-        self.browser.driver.find_element('css selector', selector).click()
-
-    def text(self, selector):
-        return self.script('return document.querySelector(arguments[0]).textContent', selector)
-
-    def texts(self, selector):
-        return self.script('return [...document.querySelectorAll(arguments[0])].map(each => each.textContent)', selector)
+class WithLog(WithPage):
+    """Opens the page of a log."""
 
     def line(self):
         """The line of the cursor."""
@@ -236,29 +163,15 @@ class WithPage(unittest.TestCase):
         from selenium.webdriver.common.action_chains import ActionChains
         return ActionChains(self.browser.driver, duration=20), self.browser.driver.find_element('id', 'timeline')
 
-    def shot(self, what):
-        if WORDS.shots is not None:
-            self.shots += 1
-            os.makedirs(WORDS.shots, exist_ok=True)
-            time.sleep(0.2)
-            self.browser.driver.save_screenshot(f'{WORDS.shots}/{what}.png')
-
 
 class Form(unittest.TestCase):
     """The files of the page: each is a text of the program, so it has no quote, no backslash and only ASCII."""
 
     def test_the_files(self):
-        order = open(f'{PAGE}/order.txt').read().split()
-        names = sorted(os.listdir(PAGE))
-        self.assertEqual(sorted(order), [name for name in names if name.endswith('.js')])
-        for name in names:
-            text = open(f'{PAGE}/{name}', encoding='ascii').read()
-            self.assertNotRegex(text, r'["\\\t]', name)
-            self.assertLess(text.count('\n'), 380, name)
-            self.assertNotIn('innerHTML', text, name)
+        browser.look_at_files(self, PAGE)
 
 
-class Field(WithPage):
+class Field(WithLog):
     def setUp(self):
         super().setUp()
         self.open('field')
@@ -421,7 +334,7 @@ class Field(WithPage):
         self.shot('print')
 
 
-class Differences(WithPage):
+class Differences(WithLog):
     def setUp(self):
         super().setUp()
         self.open('other')
@@ -459,7 +372,7 @@ class Differences(WithPage):
         self.assertEqual(len(self.words()), 3)
 
 
-class Others(WithPage):
+class Others(WithLog):
     def setUp(self):
         super().setUp()
         folder = tempfile.TemporaryDirectory()
@@ -581,40 +494,11 @@ def make_pages(program, folder):
             out.write(ran.stdout)
 
 
-def run_tests(names):
-    wanted = unittest.defaultTestLoader.loadTestsFromNames(names, sys.modules[__name__]) if names \
-        else unittest.defaultTestLoader.loadTestsFromModule(sys.modules[__name__])
-    result = unittest.TextTestRunner().run(wanted)
-    failed = len(result.failures) + len(result.errors)
-    print(f'{result.testsRun - failed} passed, {failed} failed')
-    return 1 if failed else 0
-
-
 def main():
-    parser = argparse.ArgumentParser(description=__doc__.split('\n')[0])
-    parser.add_argument('program', nargs='?')
-    parser.add_argument('--pages')
-    parser.add_argument('--logs')
-    parser.add_argument('--shots')
-    parser.add_argument('--only', nargs='*', default=[])
-    parser.parse_args(namespace=WORDS)
-    if WORDS.program is None and (WORDS.pages is None or WORDS.logs):
-        parser.error('PROGRAM or --pages is needed')
-    if WORDS.logs:
-        return write_logs(os.path.abspath(WORDS.program), WORDS.logs)
-    python, lacking = desk.best_python(MODULES)
-    packages = [MODULES[name] for name in lacking] + [package for name, package in PROGRAMS.items() if shutil.which(name) is None]
-    if packages:
-        print(f'passed over: the tests of the report need what is not there: {desk.INSTALL} {" ".join(packages)}')
-        print('0 passed, 0 failed, 1 passed over')
-        return 0
-    if python != sys.executable:
-        os.execv(python, [python, *sys.argv])
-    with tempfile.TemporaryDirectory() as folder:
-        if WORDS.pages is None:
-            make_pages(os.path.abspath(WORDS.program), folder)
-        WORDS.pages = os.path.abspath(WORDS.pages or folder)
-        return run_tests(WORDS.only)
+    if '--logs' in sys.argv:
+        at = sys.argv.index('--logs')
+        return write_logs(os.path.abspath(sys.argv[1]), sys.argv[at + 1])
+    return browser.main(sys.modules[__name__], make_pages)
 
 
 if __name__ == '__main__':
