@@ -185,9 +185,14 @@ class WithPool(WithPage):
     def in_mask(self, mask, x, y):
         """A pointer at a place of a mask's picture."""
         from selenium.webdriver.common.action_chains import ActionChains
-        box = self.browser.driver.find_element('css selector', f'#mask-{mask} .picture')
-        at = self.script('return [arguments[1] * zoom - arguments[0].offsetWidth / 2, arguments[2] * zoom - arguments[0].offsetHeight / 2].map(Math.round)', box, x, y)
-        return ActionChains(self.browser.driver, duration=20).move_to_element_with_offset(box, *at)
+        at = self.script('''const [mask, x, y] = arguments, { box } = figures.get(mask), outer = pictures.getBoundingClientRect();
+            const point = () => { const { left, top } = box.getBoundingClientRect(); return [left + x * zoom, top + y * zoom]; };
+            if (point()[0] < outer.left || point()[0] > outer.right - 20) pictures.scrollLeft += point()[0] - outer.left - outer.width / 2;
+            if (point()[1] < outer.top || point()[1] > outer.bottom - 20) pictures.scrollTop += point()[1] - outer.top - outer.height / 2;
+            return point().map(Math.round);''', mask, x, y)
+        chain = ActionChains(self.browser.driver, duration=20)
+        chain.w3c_actions.pointer_action.move_to_location(*at)
+        return chain
 
 
 class Sprayer(WithPool):
@@ -212,7 +217,7 @@ class Sprayer(WithPool):
         self.in_mask(1000, 60, 90).perform()
         self.assertEqual(self.text('#tip'), 'Output Number 321 `value_Rate`, 130x36 at 12,74')
         self.assertEqual(self.frames('hover'), [[1000, 12, 74, 130, 36]])
-        self.in_mask(1000, 300, 300).perform()
+        self.in_mask(1000, 240, 180).perform()
         self.assertEqual(self.text('#tip'), 'Data Mask 1000 `mask_work`')
         self.in_mask(1000, 500, 90).perform()
         self.assertIn('keybox_1', self.text('#tip'))
@@ -220,11 +225,11 @@ class Sprayer(WithPool):
 
     def test_a_click_on_an_object(self):
         self.click('#tab-objects')
-        self.in_mask(1000, 60, 395).click().perform()
-        self.assertEqual(self.chosen(), self.script('return model.objects.find(object => object.name === "button_text").id'))
+        self.in_mask(1000, 60, 370).click().perform()
+        self.assertEqual(self.chosen(), 361)
         self.in_mask(1000, 60, 280).click().perform()
         self.assertEqual(self.chosen(), 350)
-        self.assertEqual(self.frames(), [[1000, 12, 268, 200, 16]])
+        self.assertEqual(self.frames(), [[1000, 12, 270, 200, 12]])
         self.assertIn('350Output Stringin_label', self.text('.row.lit'))
         self.assertIn('at byte 663 (0x297)', self.text('#inspector'))
         self.assertIn('W03 TextTooWide', self.text('#inspector .told'))
@@ -238,7 +243,7 @@ class Sprayer(WithPool):
         self.assertEqual(self.chosen(), 370)
         self.assertEqual(self.frames(), [[1000, 120, 350, 220, 44]])
         # and the child that reaches out
-        self.assertEqual(self.frames('other'), [[1000, 120, 388, 300, 0]])
+        self.assertEqual(self.frames('other'), [[1000, 120, 388, 300, 1]])
         self.assertTrue(self.is_in_sight('.frame.chosen'))
         self.shot('finding')
 
@@ -291,7 +296,6 @@ class Sprayer(WithPool):
         self.assertIn('No object is as the search asks', self.text('#rows'))
         self.press(Keys.ESCAPE)
         self.assertEqual(self.text('#count'), '76')
-        self.press('2', Keys.TAB)
         # keys are typed into the search
         self.press('/', 'f m 1')
         self.assertEqual(self.script('return document.getElementById("search").value'), 'f m 1')
@@ -336,7 +340,7 @@ class Sprayer(WithPool):
         self.shot('zoomed')
 
     def test_marks(self):
-        self.assertEqual([frame[1:] for frame in self.frames('mark')], [[12, 268, 200, 16], [120, 350, 220, 44]])
+        self.assertEqual([frame[1:] for frame in self.frames('mark')], [[12, 270, 200, 12], [120, 350, 220, 44]])
         self.press('m')
         self.assertEqual(self.frames('mark'), [])
         self.click('#marks')
@@ -470,14 +474,15 @@ class Faults(WithPool):
     def test_kinds(self):
         self.open('kinds')
         self.assertEqual(self.texts('.head-chip'), ['no errors', '76 warnings', 'does not fit 480x480'])
-        seen = []
-        for _ in range(76):
-            self.press('f')
-            finding = self.script('return [choice.finding.index, choice.finding.id, seenPlaces(choice.finding.id).places.length]')
-            seen.append(finding[0])
-            if finding[2] > 0:
-                self.assertTrue(self.script('return [...document.querySelectorAll(".frame.chosen, .frame.user")].some(isInSight)'), finding)
-        self.assertEqual(seen, list(range(76)))
+        self.press('f')
+        seen = self.script('''const seen = [];
+            for (let k = 0; k < 76; k += 1) {
+              const isFramed = [...document.querySelectorAll('.frame.chosen, .frame.user')].some(isInSight);
+              seen.push([choice.finding.index, isFramed || seenPlaces(choice.id).places.length === 0]);
+              stepFinding(1);
+            }
+            return seen''')
+        self.assertEqual(seen, [[k, True] for k in range(76)])
         self.assertEqual(self.script('return document.querySelectorAll("parsererror").length'), 0)
         self.browser.size(1920, 1080)
         self.shot('kinds')

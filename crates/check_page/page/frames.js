@@ -32,6 +32,10 @@ function showHover({ mask, box }, element) {
 
 // ---- what has findings
 
+// Whether some of an element is shown.
+const isShown = ({ x, y, width, height, left, top, right, bottom }) => (
+  Math.max(x, left) < Math.min(x + Math.max(1, width), right) && Math.max(y, top) < Math.min(y + Math.max(1, height), bottom));
+
 function showMarks() {
   removeFrames('.frame.mark');
   $('marks').ariaPressed = String(hasMarks);
@@ -39,7 +43,7 @@ function showMarks() {
   for (const { mask, box } of figures.values()) {
     for (const element of mask.elements) {
       const severity = worstOf(model.byId.get(element.id)?.findings ?? []);
-      if (severity !== null) box.append(frameOf(mask, element, `mark ${severity}`));
+      if (severity !== null && isShown(element)) box.append(frameOf(mask, element, `mark ${severity}`));
     }
   }
 }

@@ -99,9 +99,13 @@ impl Album<'_> {
 /// An element of a picture as a list of numbers: the ID, the index of the element around it or -1, the corner, the size, and the bounds of
 /// what is shown of it, from the left and the top to the right and the bottom.
 fn element_value(alloc: Global, element: &ListedElement) -> Result<Value, AllocError> {
+    let around = match element.around {
+        Some(index) => i64::from(index),
+        None => -1,
+    };
     let numbers = [
         i64::from(element.id.raw()),
-        element.around.map_or(-1, i64::from),
+        around,
         i64::from(element.at.x),
         i64::from(element.at.y),
         i64::from(element.width),

@@ -30,7 +30,7 @@ pub(crate) fn references_value(
     if let Some(bytes) = named_macro(id, object) {
         list.put_commands(objects, bytes)?;
     }
-    Ok(Value::Array(list.values))
+    Ok(list.into_value())
 }
 
 /// The references of an object so far.
@@ -41,6 +41,11 @@ struct ReferenceList {
 }
 
 impl ReferenceList {
+    /// The references as a list.
+    fn into_value(self) -> Value {
+        Value::Array(self.values)
+    }
+
     /// Appends a reference, unless it is to no object.
     fn put<P: Display>(&mut self, id: ObjectId, place: &P) -> Result<(), AllocError> {
         if id == ObjectId::NULL {
@@ -88,7 +93,10 @@ impl ReferenceList {
         let Some(command) = macro_command(piece) else {
             return Ok(());
         };
-        let function = piece.first().map_or(0, |function| *function);
+        let function = match piece.first() {
+            Some(function) => *function,
+            None => 0,
+        };
         let (first, second) = targets(&command, kind_for(objects, &command));
         self.put_target(first, at, function)?;
         self.put_target(second, at, function)

@@ -123,8 +123,12 @@ impl PoolPage<'_> {
     fn put_findings<W: Write>(&self, out: &mut W) -> io::Result<(Summary<'_>, u64)> {
         begin_block("findings", out)?;
         let mut room = Room::of(MOST_FINDINGS);
-        let mut block = Block::new(self.alloc, out, &mut room);
-        let summary = put_findings(self.alloc, self.source, self.sizes, &mut block)?;
+        let summary = put_findings(
+            self.alloc,
+            self.source,
+            self.sizes,
+            &mut self.block(out, &mut room),
+        )?;
         end_block(out)?;
         Ok((summary, room.left_out))
     }
@@ -164,8 +168,7 @@ impl PoolPage<'_> {
     fn put_costs<W: Write>(&self, out: &mut W) -> io::Result<(bool, u64)> {
         begin_block("costs", out)?;
         let mut room = Room::of(MOST_EVENTS);
-        let mut block = Block::new(self.alloc, out, &mut room);
-        let are_known = put_costs(self.alloc, self.source, &mut block)?;
+        let are_known = put_costs(self.alloc, self.source, &mut self.block(out, &mut room))?;
         end_block(out)?;
         Ok((are_known, room.left_out))
     }

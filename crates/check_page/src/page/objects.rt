@@ -67,7 +67,8 @@ function scrollToRow(at) {
 function stepRow(by) {
   if (found.length === 0) return;
   const at = found.findIndex(object => object.id === choice.id);
-  const next = at < 0 ? (by > 0 ? 0 : found.length - 1) : Math.max(0, Math.min(at + by, found.length - 1));
+  const from = at >= 0 ? at : by > 0 ? -1 : found.length;
+  const next = Math.max(0, Math.min(from + by, found.length - 1));
   choose(found[next].id, { from: 'list' });
   scrollToRow(next);
   drawRows();

@@ -40,7 +40,8 @@ pub(crate) fn put_list<W: Write>(
     costs: &[EventCost],
     out: &mut W,
 ) -> io::Result<()> {
-    for cost in listed_costs(alloc, costs, None)?.iter() {
+    let listed = listed_costs(alloc, costs, None)?;
+    for cost in listed.iter() {
         event_json(alloc, source, cost)?.write(out)?;
     }
     Ok(())
