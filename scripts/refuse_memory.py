@@ -29,7 +29,7 @@ PROGRAMS = {
     "segyolant": (2, (["check", "many-faults.iop"], ["why", "pool.iop", "1000:3"], ["needs", "pool.iop", "--size", "60x25"],
                       ["why", "sprayer.iop", "--format", "json"], ["needs", "sprayer.iop", "--format", "json"],
                       ["diff", "pool.iop", "refusal-03-missing.iop"], ["diff", "pool.iop", "refusal-05-too-deep.iop", "--format", "json"],
-                      ["draw", "kinds.iop"],
+                      ["draw", "kinds.iop"], ["report", "pool.iop"],
                       ["draw", "pool.iop", "--state", "hide.log", "--owner", "80"])),
     "segyolant_log": (2, (["pools", "seeder.log"], ["operator", "seeder.log"], ["trace", "seeder.log"], ["compare", "seeder.log"],
                           ["trace", "seeder.log", "--object", "400"], ["compare", "cab.log", "--only", "to=80"],

@@ -14,7 +14,7 @@ LOG = 'seeder.log'
 RUNS = {
     'segyolant_log': [['trace', LOG], ['trace', LOG, '--format', 'json'], ['stats', LOG], ['pools', LOG], ['operator', LOG], ['report', LOG],
                       ['test', 'bench-hide.log'], ['draw', LOG, '--out', '{out}'], ['--help']],
-    'segyolant': [['check', 'sprayer.iop'], ['needs', 'sprayer.iop'], ['draw', 'sprayer.iop'], ['why', 'sprayer.iop', '2002:24']],
+    'segyolant': [['check', 'sprayer.iop'], ['needs', 'sprayer.iop'], ['draw', 'sprayer.iop'], ['report', 'sprayer.iop'], ['why', 'sprayer.iop', '2002:24']],
 }
 
 

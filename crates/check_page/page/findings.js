@@ -2,7 +2,6 @@
 
 const MOST_SHOWN = 200;  // of a group, until more are asked for
 const findingRows = new Map();  // by the index of the finding
-const hiddenKinds = new Set();
 
 function findingRow(finding) {
   const at = make('code', { textContent: finding.severity === 'note' && finding.offset === 0 ? '' : `byte ${finding.offset}` });

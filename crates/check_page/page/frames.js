@@ -1,12 +1,13 @@
 // The frames in the pictures: around what is chosen, around what the pointer is over, and around what has findings.
 
-const WIDEST = 4096;  // of a frame, in pixels of the mask, however large the object is
+const MOST_FRAMES = 400;  // around what is chosen
+const MOST_MARKS = 5000;
 let hasMarks = true;
 
 // A frame around an element of a picture. It reaches at most a little out of the picture.
 function frameOf(mask, { x, y, width, height }, className) {
   const left = Math.max(-8, Math.min(x, mask.width)), top = Math.max(-8, Math.min(y, mask.height));
-  const right = Math.max(left, Math.min(x + width, mask.width + 8, left + WIDEST)), bottom = Math.max(top, Math.min(y + height, mask.height + 8));
+  const right = Math.max(left, Math.min(x + width, mask.width + 8)), bottom = Math.max(top, Math.min(y + height, mask.height + 8));
   const frame = make('i', { className: `frame ${className}` });
   for (const [name, value] of [['--x', left], ['--y', top], ['--fw', right - left], ['--fh', bottom - top]]) frame.style.setProperty(name, value);
   return frame;
@@ -40,10 +41,13 @@ function showMarks() {
   removeFrames('.frame.mark');
   $('marks').ariaPressed = String(hasMarks);
   if (!hasMarks) return;
+  let left = MOST_MARKS;
   for (const { mask, box } of figures.values()) {
     for (const element of mask.elements) {
       const severity = worstOf(model.byId.get(element.id)?.findings ?? []);
-      if (severity !== null && isShown(element)) box.append(frameOf(mask, element, `mark ${severity}`));
+      if (severity === null || !isShown(element) || left === 0) continue;
+      left -= 1;
+      box.append(frameOf(mask, element, `mark ${severity}`));
     }
   }
 }
@@ -70,7 +74,7 @@ function showFrames() {
   if (choice.id === null) return [];
   const { places, by } = seenPlaces(choice.id);
   const kind = by.length > 0 ? 'user' : 'chosen', framed = [];
-  for (const { mask, index } of places) {
+  for (const { mask, index } of places.slice(0, MOST_FRAMES)) {
     const { box } = figures.get(mask.id), frame = frameOf(mask, boundsOf(mask, index), kind);
     box.append(frame);
     framed.push(frame);

@@ -48,9 +48,9 @@ function showHeader() {
   const notes = findings.filter(finding => finding.severity === 'note').length;
   $('chips').append(headChip(counts.errors, 'error', () => leadToSeverity('error')), headChip(counts.warnings, 'warning', () => leadToSeverity('warning')),
     ...notes === 0 ? [] : [headChip(notes, 'note', () => leadToSeverity('note'))], fitChip());
-  $('tab-findings').textContent = `Findings ${count(findings.length)}`;
+  $('tab-findings').textContent = `Findings ${count(findings.length + about.findings_left_out)}`;
   $('tab-objects').textContent = `Objects ${count(counts.objects)}`;
-  $('tab-costs').textContent = model.about.costs_known === 0 ? 'Costs' : `Costs ${count(model.costs.length)}`;
+  $('tab-costs').textContent = model.about.costs_known === 0 ? 'Costs' : `Costs ${count(model.costs.length + about.events_left_out)}`;
 }
 
 // ---- keys

@@ -5,7 +5,6 @@ pub(crate) const TEXT: &str = "// The findings, in a group for each severity and
 
 const MOST_SHOWN = 200;  // of a group, until more are asked for
 const findingRows = new Map();  // by the index of the finding
-const hiddenKinds = new Set();
 
 function findingRow(finding) {
   const at = make('code', { textContent: finding.severity === 'note' && finding.offset === 0 ? '' : `byte ${finding.offset}` });
