@@ -42,7 +42,7 @@ def number_variable(id):
 
 def large():
     """A pool with more masks than a page has, and with many keys."""
-    masks = [pools.mask(id=1000 + k, keys=2000 + k % 2) for k in range(210)]
+    masks = [pools.mask(id=1000 + k) for k in range(210)]
     keys = [pools.key(4000 + k) for k in range(400)]
     key_masks = [pack('<HBBBB', 2000 + k, 4, 7, 200, 0) + b''.join(pack('<H', 4000 + 200 * k + each) for each in range(200)) for k in range(2)]
     return b''.join([pools.working_set(), *masks, *key_masks, *keys, *map(number_variable, range(10_000, 10_400))])
@@ -515,9 +515,9 @@ class Others(WithPool):
         self.open('deep')
         self.script('choose(3000)')
         self.assertEqual(self.frames(), [[1000, 4, 4, 400, 14], [1000, 4, 40, 400, 14], [1000, 4, 200, 400, 14], [1001, 9, 9, 400, 14]])
-        # what a hidden Container has is seen as that
+        # what is in a hidden Container is not drawn: the mask is framed
         self.script('choose(3001)')
-        self.assertEqual(self.frames('user'), [[1000, 4, 100, 100, 40]])
+        self.assertEqual(self.frames('user'), [[1000, 0, 0, 552, 480]])
         # a frame stays close to the picture
         self.script('choose(3002)')
         self.assertEqual(self.frames()[0][:3], [1000, 552, -8])
