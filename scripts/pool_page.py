@@ -232,7 +232,7 @@ class Sprayer(WithPool):
         self.assertEqual(self.frames(), [[1000, 12, 270, 200, 12]])
         self.assertIn('350Output Stringin_label', self.text('.row.lit'))
         self.assertIn('at byte 663 (0x297)', self.text('#inspector'))
-        self.assertIn('W03 TextTooWide', self.text('#inspector .told'))
+        self.assertIn('W03 ', self.text('#inspector .told'))
         self.click('#tab-findings')
         self.assertIn('Output String 350', self.text('.finding.lit'))
         self.shot('object')
