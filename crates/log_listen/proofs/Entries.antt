@@ -88,7 +88,7 @@ moved parts packets old state = record {
   since = Offset packets ∷ state.since;
   requested = one_more (Offset packets) parts old.size old.pgn state.since tt state.requested;
   offset = refl;
-  packets = state.packets;
+  packets = record { whole = state.packets.whole; front = state.packets.front; beyond = state.packets.beyond };
   missing = record { within = state.missing.within; missing = state.missing.missing; before = state.missing.before };
 }
 
@@ -98,7 +98,7 @@ stays_open parts pgn old apart state = record {
   since = Abort pgn ∷ state.since;
   requested = one_more (Abort pgn) parts old.size old.pgn state.since (λ same. apart (sym same)) state.requested;
   offset = state.offset;
-  packets = state.packets;
+  packets = record { whole = state.packets.whole; front = state.packets.front; beyond = state.packets.beyond };
   missing = record { within = state.missing.within; missing = state.missing.missing; before = state.missing.before };
 }
 
@@ -170,7 +170,7 @@ module _ (parts : List Part) (number : ℕ) (bytes : List ℕ) (old new : Transf
       let Q : ℕ → Type 0 = λ s. HasAll since' s all.0 in
       stood.lacks all.0 (subst Q (sym same.size_is) (subst P (sym same.since_is) all.1))
 
-  pub put_whole : packet_count new.size < new.missing → (message : List ℕ)
+  put_whole : packet_count new.size < new.missing → (message : List ℕ)
       → ((since : List Part) (packets : List (List ℕ)) → HasPackets since new → HasAll since new.size packets → message ≡ take new.size (joined packets))
       → MakesWhole parts (Packet number bytes) (record { pgn = new.pgn; bytes = message })
   put_whole past message is =
@@ -186,6 +186,15 @@ module _ (parts : List Part) (number : ℕ) (bytes : List ℕ) (old new : Transf
         all = all.1;
         bytes = is (Packet number bytes ∷ state.since) all.0 has all.1;
       }
+
+  -- the transfer that was taken out is the one that is whole
+  pub taken_whole : packet_count new.size < new.missing → (taken : Transfer) → taken ≡ new → (message : List ℕ)
+      → ((since : List Part) (packets : List (List ℕ)) → HasPackets since taken → HasAll since taken.size packets → message ≡ take taken.size (joined packets))
+      → MakesWhole parts (Packet number bytes) (record { pgn = taken.pgn; bytes = message })
+  taken_whole past taken same message is =
+      let P : Transfer → Type 0 = λ t. MakesWhole parts (Packet number bytes) (record { pgn = t.pgn; bytes = message }) in
+      let Q : Transfer → Type 0 = λ t. (since : List Part) (packets : List (List ℕ)) → HasPackets since t → HasAll since t.size packets → message ≡ take t.size (joined packets) in
+      subst P (sym same) (put_whole past message (subst Q same is))
 
 -- a transfer of which the test says that it is not whole
 pub not_whole : (b : Bool) (transfer : Transfer) → IsTrue b ↔ (packet_count transfer.size < transfer.missing) → b ≡ false

@@ -1,8 +1,8 @@
 -- The transfers of a listener after the entry of a channel was put or removed.
-use Rattle.std.proofs.Common.{◌≡◌, ℕ, eqb, cond, Bool, true, false, Option, Some, None, List, ◌∷◌, refl, sym, ap, ◌∙◌, subst, ⊎_elim}
+use Rattle.std.proofs.Common.{◌≡◌, ℕ, eqb, cond, Bool, true, false, Option, Some, None, is_some, List, ◌∷◌, refl, sym, ap, ◌∙◌, subst, ⊎_elim}
 use Rattle.std.specs.List.{cons_option}
 use Rattle.std.specs.Ordering.{nat_cmp, is_eq}
-use Rattle.std.specs.BTreeMap.{BTreeMap, get, UpdatesBy, Updates}
+use Rattle.std.specs.BTreeMap.{BTreeMap, get, UpdatesBy, Updates, WritesThrough}
 use Rattle.std.proofs.lemmas.Bool.{cases_eq, eqb-true, eq-eqb, ne_eqb}
 use Rattle.std.proofs.lemmas.Cmp.{ranked, by_ranked}
 use Rattle.log_listen.specs.declared.part.Part.{Part}
@@ -18,7 +18,7 @@ use Rattle.log_listen.specs.Steps.{said_only, said_between, channel_between, swa
 abbrev pub Transfers : Type 0
 Transfers = BTreeMap ℕ Transfer
 
-apart_keys : (k q : ℕ) → (q ≡ k → ⊥) → is_eq (nat_cmp k q) ≡ false
+pub apart_keys : (k q : ℕ) → (q ≡ k → ⊥) → is_eq (nat_cmp k q) ≡ false
 apart_keys k q apart =
     by_ranked _ _ _ (nat_cmp k q) (ranked k q (nat_cmp k q) refl) (λ e _. ap is_eq e) (λ e same. absurd (apart (sym same))) (λ e _. ap is_eq e)
 
@@ -40,6 +40,24 @@ put_again k k' own transfer m between n is is' h h' =
     let P : ℕ → Type 0 = λ c. IsPut c (Some transfer) between n in
     let second = subst P is' (updated k' (Some transfer) between n h') in
     record { here = second.here; others = λ q apart. second.others q apart ∙ first.others q apart }
+
+-- the transfer at a channel was changed in its place
+pub written : (k own : ℕ) (m n : Transfers) (new old : Transfer) → k ≡ own → get nat_cmp m k ≡ Some old → WritesThrough nat_cmp (nat_cmp k) m new n
+    → IsPut own (Some new) m n
+written k own m n new old is there writes =
+    let P : ℕ → Type 0 = λ c. IsPut c (Some new) m n in
+    subst P is (updated k (Some new) m n (writes.3 (ap is_some there)))
+
+-- and then it was removed
+pub removed_after : (k own : ℕ) (m between n : Transfers) (transfer : Transfer) → k ≡ own → IsPut own (Some transfer) m between
+    → UpdatesBy nat_cmp (nat_cmp k) between n None → IsPut own None m n
+removed_after k own m between n transfer is first h =
+    let second = removed k own between n is h in
+    record { here = second.here; others = λ q apart. second.others q apart ∙ first.others q apart }
+
+-- there is no transfer at a channel, and nothing has changed
+pub unchanged : (own : ℕ) (m n : Transfers) → n ≡ m → get nat_cmp m own ≡ None → IsPut own None m n
+unchanged own m n same none = let P : Transfers → Type 0 = IsPut own None m in subst P (sym same) (record { here = none; others = λ q apart. refl })
 
 -- what was at a channel
 pub found : (k own : ℕ) (m : Transfers) (result entry : Option Transfer) → k ≡ own → result ≡ get nat_cmp m k → result ≡ entry → get nat_cmp m own ≡ entry

@@ -1,5 +1,5 @@
 -- A listener by the frames that it has heard. Every list of frames and of parts has the latest first.
-use Rattle.std.specs.Prelude.{◌≡◌, ◌≢◌, ◌≤◌, ◌<◌, ◌↔◌, ℕ, ◌^◌, Bool, Option, Some, None, List, IsSome, Contains, length, slice_index_or}
+use Rattle.std.specs.Prelude.{◌≡◌, ◌≢◌, ◌≤◌, ◌<◌, ◌↔◌, ℕ, ◌+◌, ◌*◌, ◌^◌, Bool, Option, Some, None, List, IsSome, Contains, length, take, drop, slice_index_or}
 use Rattle.std.specs.Ordering.{nat_cmp}
 use Rattle.std.specs.BTreeMap.{get}
 use Rattle.vt_can.specs.declared.frames.frame.Frame.{Frame}
@@ -19,12 +19,19 @@ pub record IsFirstMissing (parts : List Part) (size place : ℕ) : Type 0 where
   pub missing : packet_at place parts ≡ None
   pub before : (earlier : ℕ) → 1 ≤ earlier → earlier < place → IsSome (packet_at earlier parts)
 
+-- A transfer holds the packets since its request: in front the bytes of those before the first missing one, seven of each, and those
+-- beyond it by their places.
+pub record HoldsPackets (since : List Part) (transfer : Transfer) : Type 0 where
+  pub whole : length transfer.front.items + 7 ≡ 7 * transfer.missing
+  pub front : (before : ℕ) → before + 1 < transfer.missing → packet_at (before + 1) since ≡ Some (take 7 (drop (7 * before) transfer.front.items))
+  pub beyond : (place : ℕ) → transfer.missing ≤ place → place ≤ packet_count transfer.size → get nat_cmp transfer.beyond place ≡ packet_at place since
+
 -- the state of an open transfer, by the parts in its channel
 pub record IsStateOf (parts : List Part) (transfer : Transfer) : Type 0 where
   pub since : List Part
   pub requested : IsRequested parts transfer.size transfer.pgn since
   pub offset : transfer.offset ≡ offset_after since
-  pub packets : (place : ℕ) → 1 ≤ place → place ≤ packet_count transfer.size → get nat_cmp transfer.packets place ≡ packet_at place since
+  pub packets : HoldsPackets since transfer
   pub missing : IsFirstMissing since transfer.size transfer.missing
 
 -- the entry of a channel: the open transfer, if there is one

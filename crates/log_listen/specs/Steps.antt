@@ -1,6 +1,6 @@
 -- The steps of a listener: what a part between two ends makes of the entries of their channels, and what is told. Every list of
 -- parts has the latest first.
-use Rattle.std.specs.Prelude.{◌≡◌, ◌≤◌, ◌<◌, ℕ, ◌+◌, ◌/◌, ◌%◌, ◌^◌, ◌==◌, if◌then◌else◌, Option, Some, None, List, [], ◌∷◌, ◌++◌, IsSome}
+use Rattle.std.specs.Prelude.{◌≡◌, ◌≤◌, ◌<◌, ℕ, ◌+◌, ◌/◌, ◌%◌, ◌^◌, ◌==◌, if◌then◌else◌, Option, Some, None, List, [], ◌∷◌, ◌++◌, length, IsSome}
 use Rattle.std.specs.List.{cons_option}
 use Rattle.std.specs.Ordering.{nat_cmp}
 use Rattle.std.specs.BTreeMap.{get}
@@ -14,15 +14,23 @@ use Rattle.log_listen.specs.declared.listener.Ends.{Ends}
 use Rattle.log_listen.specs.declared.listener.Listener.{Listener}
 use Rattle.log_listen.specs.Channels.{channel_of, sent, refused}
 use Rattle.log_listen.specs.Transfers.{packet_count, offset_after, packet_at, MakesWhole}
-use Rattle.log_listen.specs.Listeners.{IsEntryOf, message_of}
+use Rattle.log_listen.specs.Listeners.{HoldsPackets, IsEntryOf, message_of}
 
 -- A transfer, which may be whole, has the packets that came since its request.
 pub record HasPackets (since : List Part) (transfer : Transfer) : Type 0 where
   pub offset : transfer.offset ≡ offset_after since
-  pub packets : (place : ℕ) → 1 ≤ place → place ≤ packet_count transfer.size → get nat_cmp transfer.packets place ≡ packet_at place since
+  pub packets : HoldsPackets since transfer
   pub within : (1 ≤ transfer.missing) × (transfer.missing ≤ packet_count transfer.size + 1)
   pub missing : transfer.missing ≤ packet_count transfer.size → packet_at transfer.missing since ≡ None
   pub before : (earlier : ℕ) → 1 ≤ earlier → earlier < transfer.missing → IsSome (packet_at earlier since)
+
+-- the packet of the first missing place was appended to those before it
+pub record IsAppended (packet : List ℕ) (old new : Transfer) : Type 0 where
+  pub seven : length packet ≡ 7
+  pub offset : new.offset ≡ old.offset
+  pub missing : new.missing ≡ old.missing + 1
+  pub front : new.front.items ≡ old.front.items ++ packet
+  pub beyond : new.beyond ≡ old.beyond
 
 -- the channel from the source to the destination, and the ends of the other direction
 abbrev pub channel_between : Ends → ℕ

@@ -22,8 +22,8 @@ use vt_can::assigned::VT_TO_ECU;
 
 /// The open transfers between all nodes, by the frames received so far.
 ///
-/// The memory grows with the packets that were received, and not with the size that a request announces. A frame takes time that
-/// grows with the logarithm of the number of open transfers and of packets.
+/// The memory grows with the packets that were received, and not with the size that a request announces. On average a frame takes time
+/// that grows with the logarithm of the number of open transfers and of packets that came out of order.
 #[derive(Drop)]
 pub struct Listener {
     alloc: Global,
@@ -69,7 +69,7 @@ impl Listener {
         match part {
             Part::Request { size, pgn } => self.open(ends, size, pgn, broken)?,
             Part::Packet { number, bytes } => return self.put(ends, number, bytes),
-            Part::Offset(packets) => self.move_to(ends, packets)?,
+            Part::Offset(packets) => self.move_to(ends, packets),
             Part::Abort { pgn } => self.abort(ends, pgn, broken)?,
         }
         Ok(None)
@@ -126,31 +126,30 @@ impl Listener {
         ensures answer { IfOk result (λ answer. (parts : List SaidPart) → IsEntryOf parts (get nat_cmp self.old.transfers (channel_between ends))
             → IsMadeWhole ends parts (said.Packet number packet) answer) }
     {
-        let Some(mut transfer) = self.transfers.remove(&ends.channel()) else {
+        let channel = ends.channel();
+        let Some(transfer) = self.transfers.get_mut(&channel) else {
             return Ok(None);
         };
         transfer.put(number, packet)?;
         if !transfer.is_whole() {
-            self.transfers.insert(ends.channel(), transfer)?;
             return Ok(None);
         }
+        let whole = self.transfers.remove(&channel).unwrap();
         Ok(Some(SentMessage {
             source: ends.source,
             destination: ends.destination,
-            pgn: transfer.pgn,
-            bytes: transfer.bytes(self.alloc)?,
+            pgn: whole.pgn,
+            bytes: whole.into_bytes(),
         }))
     }
 
     /// Sets the number of packets before those that come next.
-    fn move_to(&mut self, ends: Ends, packets: u32) -> Result<(), AllocError>
-        ensures { OnOk result (TakesIn (said_between ends (said.Offset packets)) self.old self.new) }
+    fn move_to(&mut self, ends: Ends, packets: u32)
+        ensures { TakesIn (said_between ends (said.Offset packets)) self.old self.new }
     {
-        if let Some(mut transfer) = self.transfers.remove(&ends.channel()) {
+        if let Some(transfer) = self.transfers.get_mut(&ends.channel()) {
             transfer.offset = packets;
-            self.transfers.insert(ends.channel(), transfer)?;
         }
-        Ok(())
     }
 
     /// Ends the transfers of a parameter group between two nodes. A sender's abort of `VT_TO_ECU` is about a message to it.

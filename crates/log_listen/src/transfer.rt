@@ -1,11 +1,11 @@
 //! The transfer of a message in packets.
 
-ghost use Rattle.std.specs.Prelude.{◌≡◌, ◌<◌, ℕ, [], ◌∷◌, ◌↔◌, IsTrue, OnOk, IfOk, List, take};
+ghost use Rattle.std.specs.Prelude.{◌≡◌, ◌<◌, ◌≤◌, ◌+◌, ℕ, [], ◌∷◌, ◌↔◌, IsTrue, OnOk, List, take};
 ghost use Rattle.vt_can.specs.transport.Messages.{joined};
 ghost use Rattle.log_listen.specs.declared.part.Part.{Part as SaidPart};
 ghost use Rattle.log_listen.specs.declared.part.Part.TheVariants as said;
-ghost use Rattle.log_listen.specs.Transfers.{packet_count, HasAll};
-ghost use Rattle.log_listen.specs.Steps.{HasPackets};
+ghost use Rattle.log_listen.specs.Transfers.{packet_count, offset_after, HasAll};
+ghost use Rattle.log_listen.specs.Steps.{HasPackets, IsAppended};
 
 use std::alloc::{AllocError, Global};
 use std::collections::BTreeMap;
@@ -21,8 +21,10 @@ pub(crate) struct Transfer {
     pub(crate) offset: u32,
     /// The first place whose packet is missing, from 1.
     pub(crate) missing: u64,
-    /// The packets that were received, by their places.
-    pub(crate) packets: BTreeMap<u64, [u8; 7]>,
+    /// The bytes of the packets before the first missing one.
+    pub(crate) front: Vec<u8>,
+    /// The packets beyond the first missing one, by their places.
+    pub(crate) beyond: BTreeMap<u64, [u8; 7]>,
 }
 
 impl Transfer {
@@ -38,7 +40,8 @@ impl Transfer {
             pgn,
             offset: 0,
             missing: 1,
-            packets: BTreeMap::new(alloc),
+            front: Vec::new(alloc),
+            beyond: BTreeMap::new(alloc),
         }
     }
 
@@ -63,29 +66,59 @@ impl Transfer {
         ensures packets { OnOk result ((since : List SaidPart) → HasPackets since self.old → HasPackets (said.Packet number packet ∷ since) self.new) }
     {
         let place = u64::from(self.offset) + u64::from(number);
-        let count = self.packet_count();
-        if place == 0 || place > count {
+        if place == 0 || place > self.packet_count() {
             return Ok(());
         }
-        self.packets.insert(place, packet)?;
-        while self.missing <= count && self.packets.contains_key(&self.missing) {
-            self.missing += 1;
+        if place == self.missing {
+            return self.put_next(&packet);
+        }
+        let end = place as usize * 7;
+        if end <= self.front.len() {
+            self.front[end - 7..end].copy_from_slice(&packet);
+        } else {
+            self.beyond.insert(place, packet)?;
         }
         Ok(())
     }
 
-    /// The bytes of the message, from the packets of a whole transfer.
-    pub(crate) fn bytes(&self, alloc: Global) -> Result<Vec<u8>, AllocError>
-        ensures { IfOk result (λ bytes. (since : List SaidPart) (packets : List (List ℕ)) → HasPackets since self.now
-            → HasAll since self.now.size packets → bytes.items ≡ take self.now.size (joined packets)) }
+    /// Puts the packet of the first missing place, and goes on to the next one whose packet is missing.
+    fn put_next(&mut self, packet: &[u8; 7]) -> Result<(), AllocError>
+        requires { self.old.missing ≤ packet_count self.old.size }
+        ensures size { self.new.size ≡ self.old.size }
+        ensures pgn { self.new.pgn ≡ self.old.pgn }
+        ensures packets { OnOk result ((number : ℕ) (since : List SaidPart) → HasPackets since self.old → offset_after since + number ≡ self.old.missing
+            → HasPackets (said.Packet number packet.now ∷ since) self.new) }
     {
-        let mut bytes = Vec::new(alloc);
-        for place in 1..=self.packet_count() {
-            if let Some(packet) = self.packets.get(&place) {
-                bytes.extend_from_slice(packet)?;
-            }
+        let count = self.packet_count();
+        self.append(packet)?;
+        while !self.beyond.is_empty() && self.missing <= count {
+            let Some(next) = self.beyond.remove(&self.missing) else {
+                break;
+            };
+            self.append(&next)?;
         }
+        Ok(())
+    }
+
+    /// Appends the packet of the first missing place to those before it.
+    fn append(&mut self, packet: &[u8; 7]) -> Result<(), AllocError>
+        requires { self.old.missing ≤ packet_count self.old.size }
+        ensures size { self.new.size ≡ self.old.size }
+        ensures pgn { self.new.pgn ≡ self.old.pgn }
+        ensures appended { OnOk result (IsAppended packet.now self.old self.new) }
+    {
+        self.front.extend_from_slice(packet)?;
+        self.missing += 1;
+        Ok(())
+    }
+
+    /// The bytes of the message, from the packets of a whole transfer.
+    pub(crate) fn into_bytes(self) -> Vec<u8>
+        ensures { (since : List SaidPart) (packets : List (List ℕ)) → HasPackets since self
+            → HasAll since self.size packets → result.items ≡ take self.size (joined packets) }
+    {
+        let mut bytes = self.front;
         bytes.truncate(self.size as usize);
-        Ok(bytes)
+        bytes
     }
 }

@@ -16,7 +16,7 @@ use Rattle.log_listen.proofs.Channels.{says_nothing}
 use Rattle.log_listen.proofs.Maps.{takes_nothing}
 use Rattle.log_listen.proofs.Hearing.{IsFrameOf, none_broken, hears, answers, are_told, told_at_request, told_at_packet, told_at_offset, said_is}
 use Rattle.log_listen.proofs.listener.Listener.hear.Goals as goal
-use Rattle.log_listen.proofs.listener.Listener.hear.Goals.{After-is_extended, in-Request+in_ok-open-in-Request, in-Offset+in_ok-move_to-in-Offset, in-Abort+in_ok-abort-in-Abort}
+use Rattle.log_listen.proofs.listener.Listener.hear.Goals.{After-is_extended, in-Request+in_ok-open-in-Request, in-Offset, in-Abort+in_ok-abort-in-Abort}
 
 pub returns-in_default-part_in-clause-heard : goal.returns-in_default-part_in-clause-heard
 returns-in_default-part_in-clause-heard c = λ frames heard channel.
@@ -66,10 +66,10 @@ returns-clause-heard c = λ frames heard channel.
           let part = Request w.in-Request.size w.in-Request.pgn in
           subst P (sym w.self-is) (hears frames frame (said_between (ends_of at) part) (said_is frame (ends_of at) part (frame_of at part w.in-Request.is)) old w.open.new.self.transfers
           w.in_ok-open-in-Request.ensures.heard channel (heard channel))
-      | in-Offset+in_ok-move_to-in-Offset w ↦
+      | in-Offset w ↦
           let part = Offset w.in-Offset.packets in
           subst P (sym w.self-is) (hears frames frame (said_between (ends_of at) part) (said_is frame (ends_of at) part (frame_of at part w.in-Offset.is)) old w.move_to.new.self.transfers
-          w.in_ok-move_to-in-Offset.ensures channel (heard channel))
+          w.move_to.ensures channel (heard channel))
       | in-Abort+in_ok-abort-in-Abort w ↦
           let part = Abort w.in-Abort.pgn in
           subst P (sym w.self-is) (hears frames frame (said_between (ends_of at) part) (said_is frame (ends_of at) part (frame_of at part w.in-Abort.is)) old w.abort.new.self.transfers
@@ -91,7 +91,7 @@ returns-clause-told c = λ frames heard.
             ap items w.broken-is ∙ w.in_ok-open-in-Request.ensures.told ∙ ap more (sym (told_at_request (ends_of at) w.in-Request.size w.in-Request.pgn old)),
             are_told frames frame (ends_of at) part (frame_of at part w.in-Request.is) old heard,
           )
-      | in-Offset+in_ok-move_to-in-Offset w ↦
+      | in-Offset w ↦
           let part = Offset w.in-Offset.packets in (
             told_in_both (ends_of at) part old,
             ap items w.broken-is ∙ sym (ap more (told_at_offset (ends_of at) w.in-Offset.packets old) ∙ append-nil before),
