@@ -46,7 +46,18 @@ impl Sighting {
     fn is_same(&self, other: &Sighting) -> bool
         ensures { result ≡ is_same self.now other.now }
     {
-        self.id == other.id && self.length == other.length && self.padded == other.padded
+        // (the first bytes are looked at first: those of packets are their numbers)
+        self.padded[0] == other.padded[0]
+            && self.id == other.id
+            && self.length == other.length
+            && self.padded == other.padded
+    }
+
+    /// Whether one of some frames is the same as this one.
+    fn is_among(&self, frames: &[Sighting]) -> bool
+        ensures { result ≡ list_any (λ other. is_same other self.now) frames.now }
+    {
+        frames.iter().any(|other| other.is_same(self))
     }
 }
 
@@ -98,7 +109,8 @@ impl Sightings {
     fn has(&self, sighting: &Sighting) -> bool
         ensures { result ≡ list_any (λ other. is_same other sighting.now) self.now.recent.items }
     {
-        self.recent.iter().any(|other| other.is_same(sighting))
+        let (earlier, later) = self.recent.as_slices();
+        sighting.is_among(earlier) || sighting.is_among(later)
     }
 
     /// Removes the frames that are too old for a frame at a time, and makes room for it.
