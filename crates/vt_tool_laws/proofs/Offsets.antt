@@ -85,9 +85,9 @@ stands : (at : ℕ) (part rest bytes whole : List ℕ) → at ≤ length bytes �
 stands at part rest bytes whole within begins same =
     let n = at + length part in
     let split : take n bytes ≡ take at bytes ++ part =
-        sym (take-append-drop at (take n bytes))
-        ∙ ap₂ (λ (a b : List ℕ). a ++ b) (take-take at n bytes (omega arith))
-            (drop-take at (length part) bytes ∙ ap (take (length part)) begins ∙ take_at part rest (length part) refl) in
+    sym (take-append-drop at (take n bytes))
+    ∙ ap₂ (λ (a b : List ℕ). a ++ b) (take-take at n bytes (omega arith))
+    (drop-take at (length part) bytes ∙ ap (take (length part)) begins ∙ take_at part rest (length part) refl) in
     record {
       front = take at bytes;
       back = drop n whole;
@@ -117,9 +117,9 @@ outside k from n =
     elim (cases_lt k from) as (λ _. ((k < from) ⊎ (from + n ≤ k)) ⊎ ((from ≤ k) × (k < from + n))) [
       | inl below ↦ inl (inl below)
       | inr above ↦ elim (cases_lt k (from + n)) as (λ _. ((k < from) ⊎ (from + n ≤ k)) ⊎ ((from ≤ k) × (k < from + n))) [
-          | inl within ↦ inr (above, within)
-          | inr past ↦ inl (inr past)
-        ]
+        | inl within ↦ inr (above, within)
+        | inr past ↦ inl (inr past)
+      ]
     ]
 
 drop_next : (at : ℕ) (part rest bytes : List ℕ) → drop at bytes ≡ part ++ rest → drop (at + length part) bytes ≡ rest
@@ -204,9 +204,9 @@ all_stay (Mended fault ∷ steps) at k bytes =
     let first = fault_at fault at in
     elim (all_stay steps at k (mended_at at fault bytes)) as (λ _. Stays (proper at steps (mended_at at fault bytes)) bytes (first ∷ later) k) [
       | inl same ↦ elim (stays_mended at k fault bytes later) as (λ _. Stays (proper at steps (mended_at at fault bytes)) bytes (first ∷ later) k) [
-          | inl own ↦ inl (same ∙ own)
-          | inr field ↦ inr field
-        ]
+        | inl own ↦ inl (same ∙ own)
+        | inr field ↦ inr field
+      ]
       | inr field ↦ inr (more_told later first k field)
     ]
 all_stay (Passed fault id number size ∷ steps) at k bytes =
@@ -309,7 +309,7 @@ module _ (bytes : List ℕ) (i : Inspection) (is : IsInspection bytes i) where
       let stand = all_stand is.steps 0 most_mended bytes (omega arith) is.reading read.f read.inside in
       let got = get_mapped (record_in found) i.objects at_place.0 (id, at_place.1.object) at_place.1.there in
       let same : Some r ≡ Some (record_in found (id, at_place.1.object)) =
-          sym at_place.2 ∙ ap (λ (l : List ObjectRecord). slice_get l at_place.0) is.records ∙ got in
+      sym at_place.2 ∙ ap (λ (l : List ObjectRecord). slice_get l at_place.0) is.records ∙ got in
       let place : r.at ≡ or_zero (last_at id found) = ap (λ (x : Option ObjectRecord). (unsome r x).at) same in
       subst (StandsAt (record_of id o) whole) (read.at_is ∙ sym place)
       (subst (λ (n : ℕ). StandsAt (record_of n o) whole read.f.at) read.id_is (subst (λ (x : Seen). StandsAt (record_of read.f.id x) whole read.f.at) read.object_is stand))

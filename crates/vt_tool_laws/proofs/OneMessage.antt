@@ -79,5 +79,5 @@ pub messages_one : MessagesAreOne
 messages_one frames frame channel other m n a b =
     let destination = destination_of (parts_of frame.id) in
     let same = one_channel channel other frame destination (in_own channel frame destination (parts_in channel frames) m a)
-        (in_own other frame destination (parts_in other frames) n b) in
+    (in_own other frame destination (parts_in other frames) n b) in
     (same, one_said (parts_in channel frames) (said channel frame) m n a (subst (λ (c : ℕ). CompletesAt frames frame c n) (sym same) b))

@@ -67,14 +67,15 @@ middle P (y ∷ front) x back all = middle P front x back all.1
 -- the bytes of a piece stand at its offset
 piece_stands : (id : ℕ) (bytes : List ℕ) (all : List (List ℕ)) (p : Piece) → IsCut bytes all → IsAmong id 0 all p → IsPiece p.bytes × StandsAt p.bytes bytes p.at
 piece_stands id bytes all p parts inside =
-    let own : List ℕ → List ℕ = λ q. q in
-    (middle IsPiece inside.front p.bytes inside.back (subst (AllByRecursion IsPiece) inside.parts parts.each),
-    record {
-      front = flat_map own inside.front;
-      back = flat_map own inside.back;
-      joined = parts.joined ∙ ap (flat_map own) inside.parts ∙ flat_map-append own inside.front (p.bytes ∷ inside.back);
-      before = omega (arith, inside.at_is);
-    })
+    let own : List ℕ → List ℕ = λ q. q in (
+      middle IsPiece inside.front p.bytes inside.back (subst (AllByRecursion IsPiece) inside.parts parts.each),
+      record {
+        front = flat_map own inside.front;
+        back = flat_map own inside.back;
+        joined = parts.joined ∙ ap (flat_map own) inside.parts ∙ flat_map-append own inside.front (p.bytes ∷ inside.back);
+        before = omega (arith, inside.at_is);
+      },
+    )
 
 cut_known : (bytes : List ℕ) (all : List (List ℕ)) → cut bytes ≡ Some all → cut_or_none bytes ≡ all
 unfolding cut_or_none
@@ -148,9 +149,13 @@ value_placed objects r inside =
     (λ rest.
     let through = in_map (at_spot (spots.Through slot.0.place slot.0.id)) (pointed own_reference (object_at objects slot.0.id)) r rest in
     let parent_is = pointed_parent own_reference (object_at objects slot.0.id) through.0 through.1 in
-    subst (IsPlaced objects) through.2
-    (slot.0, subst (λ (id : ℕ). IsSlotIn objects id slot.0) (sym parent_is) own, refl, refl,
-    subst (λ (id : ℕ). Contains (pointed (of_slot id slot.0) (object_at objects slot.0.id)) through.0) (sym parent_is) through.1))
+    subst (IsPlaced objects) through.2 (
+      slot.0,
+      subst (λ (id : ℕ). IsSlotIn objects id slot.0) (sym parent_is) own,
+      refl,
+      refl,
+      subst (λ (id : ℕ). Contains (pointed (of_slot id slot.0) (object_at objects slot.0.id)) through.0) (sym parent_is) through.1,
+    ))
 
 -- an entry at an index
 entry_in : (id from : ℕ) (es : List MacroEntry) (r : ReferenceAt) → Contains (entries_at id from es) r
@@ -158,11 +163,15 @@ entry_in : (id from : ℕ) (es : List MacroEntry) (r : ReferenceAt) → Contains
 entry_in id from [] r inside = absurd (Contains-nil r inside)
 entry_in id from (e ∷ es) r inside =
     let Result : Type 0 = (k : ℕ) × (entry : MacroEntry) × (slice_get (e ∷ es) k ≡ Some entry)
-        × (at_spot (spots.Entry (from + k) entry.event) (macro_reference id entry.macro_id) ≡ r) in
+    × (at_spot (spots.Entry (from + k) entry.event) (macro_reference id entry.macro_id) ≡ r) in
     in_either Result (entry_at id from e) (entries_at id (from + 1) es) r inside
-    (λ here.
-    (0, e, refl, ap (λ (i : ℕ). at_spot (spots.Entry i e.event) (macro_reference id e.macro_id)) (omega arith)
-    ∙ only (is_listable e.event) (at_spot (spots.Entry from e.event) (macro_reference id e.macro_id)) r here))
+    (λ here. (
+      0,
+      e,
+      refl,
+      ap (λ (i : ℕ). at_spot (spots.Entry i e.event) (macro_reference id e.macro_id)) (omega arith)
+          ∙ only (is_listable e.event) (at_spot (spots.Entry from e.event) (macro_reference id e.macro_id)) r here,
+    ))
     (λ rest.
     let later = entry_in id (from + 1) es r rest in
     (suc later.0, later.1, later.2, ap (λ (i : ℕ). at_spot (spots.Entry i later.1.event) (macro_reference id later.1.macro_id)) (omega arith) ∙ later.3))
@@ -187,7 +196,7 @@ own_placed objects r inside =
     (λ command some.
     let all = targets (kind_for shape (object_of command)) command in
     let target = in_map (λ t. at_spot (spots.Command p.at (function_of p.bytes)) (of_target p.id t)) all r
-        (subst (λ (c : Option Command). Contains (command_targets shape p c) r) some piece.2) in
+    (subst (λ (c : Option Command). Contains (command_targets shape p c) r) some piece.2) in
     subst (IsPlaced objects) target.2 (p.bytes, command, here, some, map_in (of_target p.id) all target.0 target.1)))
 
 -- ---- findings
