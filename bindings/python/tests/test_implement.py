@@ -44,9 +44,9 @@ def exchange(size: int, lost: set[int] = set()) -> tuple[bytes | None, str, int]
 
 class Rows(unittest.TestCase):
     def test_errors_are_where_the_terminal_has_them(self) -> None:
-        folder = TOP / 'crates/vt_commands/src'
-        numbers = dict(re.findall(r'pub const (\w+): u8 = (0x\w+);', (folder / 'function.rt').read_text()))
-        rows = re.findall(r'function::(\w+) => CommandRow \{[^}]*?error_at: (\d+)', (folder / 'row.rt').read_text())
+        text = (TOP / 'crates/vt_commands/src/row.rt').read_text()
+        numbers = dict(re.findall(r'pub const (\w+): u8 = (0x\w+);', text))
+        rows = re.findall(r'function::(\w+) => CommandRow \{[^}]*?error_at: (\d+)', text)
         self.assertEqual({int(numbers[name], 16): int(at) for name, at in rows}, ERROR_AT)
 
 
